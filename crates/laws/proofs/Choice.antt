@@ -1,0 +1,83 @@
+-- A test with what its value says, so that a proof goes by cases on the value and has the fact at hand.
+use Prim.Native.Nat.{ℕ, _≤_, _<_}
+use mathlib.Core.Path.{_≡_, refl}
+use mathlib.Core.Logic.{_≢_, _⊎_, inl, inr}
+use mathlib.Core.Bool.{Bool, true, false}
+use native.Mathlib.Omega.{arith}
+use lib.Dec.{eqb, ltb, leb}
+use borrow.Author.Tests.{eqb-true, eqb-false, ltb-true, ltb-false, leb-true, leb-false, eq-eqb, ne-eqb, lt-ltb, le-ltb, le-leb, lt-leb}
+use Rattle.laws.specs.Choice.{pick, both}
+
+-- the laws that decide a test from the fact that a branch of the code hands over
+pub ruleset tests = (eq-eqb, ne-eqb, lt-ltb, le-ltb, le-leb, lt-leb)
+
+-- either way of a test, with its outcome
+pub split {ℓ} : {X : Type ℓ} (b : Bool) → (b ≡ true → X) → (b ≡ false → X) → X
+split true yes-case no-case = yes-case refl
+split false yes-case no-case = no-case refl
+
+-- what holds of each side, under its test, holds of the choice
+pub by-test : {A : Type 0} (P : A → Type 0) (b : Bool) {x y : A} → (b ≡ true → P x) → (b ≡ false → P y) → P (pick b x y)
+by-test P true yes-case no-case = yes-case refl
+by-test P false yes-case no-case = no-case refl
+
+pub pick-same {ℓ} : {A : Type ℓ} (b : Bool) (x : A) → pick b x x ≡ x
+pick-same true x = refl
+pick-same false x = refl
+
+pub false≢true : {X : Type 0} → false ≡ true → X
+false≢true e = let z : _≡_ {A = ℕ} 0 1 = cc in absurd (eqb-false 0 1 refl z)
+
+pub equal? : (a b : ℕ) → (a ≡ b) ⊎ (a ≢ b)
+equal? a b = split (eqb a b) (λ e. inl (eqb-true a b e)) (λ e. inr (eqb-false a b e))
+
+-- what the value of `eqb a b` says
+abbrev pub Equal : Bool → ℕ → ℕ → Type 0
+Equal true a b = a ≡ b
+Equal false a b = a ≢ b
+
+pub equal : (a b : ℕ) → Equal (eqb a b) a b
+equal a b = at (eqb a b) refl
+  where
+    at : (t : Bool) → eqb a b ≡ t → Equal t a b
+    at true e = eqb-true a b e
+    at false e = eqb-false a b e
+
+-- what the value of `ltb a b` says
+abbrev pub Below : Bool → ℕ → ℕ → Type 0
+Below true a b = a < b
+Below false a b = b ≤ a
+
+pub below : (a b : ℕ) → Below (ltb a b) a b
+below a b = at (ltb a b) refl
+  where
+    at : (t : Bool) → ltb a b ≡ t → Below t a b
+    at true e = ltb-true a b e
+    at false e = ltb-false a b e
+
+-- what the value of `leb a b` says
+abbrev pub AtMost : Bool → ℕ → ℕ → Type 0
+AtMost true a b = a ≤ b
+AtMost false a b = b < a
+
+pub at-most : (a b : ℕ) → AtMost (leb a b) a b
+at-most a b = at (leb a b) refl
+  where
+    at : (t : Bool) → leb a b ≡ t → AtMost t a b
+    at true e = leb-true a b e
+    at false e = leb-false a b e
+
+pub above-zero : (n : ℕ) → eqb n 0 ≡ false → 1 ≤ n
+above-zero n e = let away : n ≢ 0 = eqb-false n 0 e in omega (arith, away)
+
+-- a joint test, read and made
+pub both-first : (a b : Bool) → both a b ≡ true → a ≡ true
+both-first true b e = refl
+both-first false b e = e
+
+pub both-second : (a b : Bool) → both a b ≡ true → b ≡ true
+both-second true b e = e
+both-second false b e = false≢true e
+
+pub both-of : {a b : Bool} → a ≡ true → b ≡ true → both a b ≡ true
+both-of {a} {b} p q = rw p q

@@ -1,0 +1,5 @@
+-- The laws of the definitions in specs/.
+pub mod Choice
+pub mod Update
+pub mod Count
+pub mod Every

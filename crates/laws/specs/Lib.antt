@@ -1,0 +1,5 @@
+-- Definitions that know nothing of locks.
+pub mod Choice
+pub mod Update
+pub mod Count
+pub mod Every

@@ -1,0 +1,4 @@
+-- The laws of lock words.
+pub mod KindTable
+pub mod RoundTrip
+pub mod Cases

@@ -1,0 +1,19 @@
+-- `lock_word::reading::read_word` meets its contract: a word below bit 23 is read by the table's entry for its low byte.
+use mathlib.Core.Path.{sym, _∙_, ap}
+use Prim.Native.Nat.{ℕ, _/_, _%_}
+use borrow.Author.Needs.{needs}
+use Rattle.lock_word.specs.KindTable.{byKindOf}
+use Rattle.lock_word.proofs.KindTable.{beyond, read-by-entry}
+use Rattle.lock_word.proofs.reading.read_word.Statement.{statement}
+use Rattle.lock_word.proofs.reading.read_word.Tie as tie
+
+pub read-word-spec : {M : Type 1} → statement M
+read-word-spec =
+    tie.close
+    (tie.spec
+    (λ c. sym (beyond _ (c .if1 .taken)))
+    (λ c. search needs)
+    (λ c κs. tt)
+    (λ c. search needs)
+    (λ c κs. tt)
+    (λ c. simp (c .by-kind .ensures, c .before .kind-and-count .ensures) (read-by-entry _ (c .before .before .if1 .left))))
