@@ -4,7 +4,7 @@
     tools/write_proofs.py CRATE [FUNCTION ...]
 
 Asks `rt dev CRATE` which functions lack a proof (or takes those named, whose files it writes anew), reads the generated places
-of each, and answers every need: a callee without `requires` by `tt`, a `returns` by `simp` over the facts on the way to it (what
+of each, and answers every need: a callee without `requires` by `tt`, one with by `search needs`, a `returns` by `simp` over the facts on the way to it (what
 callees ensure, which way each test went, which variant a match found), anything else by `search needs`. The definition that the
 contract cites is unfolded if it is marked `unfoldable`. A function with a loop is skipped: its invariant is written by hand.
 See docs/PROOFS.md for the shape that code and definitions need.
@@ -107,11 +107,18 @@ def definition_of(crate, name, source):
     return None
 
 
-def proof_text(crate, function, places, order, definition):
+def asks(need, source):
+    """Whether the callee of a `NAME-requires` need, if it is of this crate, has a `requires`."""
+    name = re.sub(r'-requires(-\d+)?$', '', need).replace('-', '_')
+    head = re.search(r'fn ' + name + r'\(.*?\n\s*\{', source, re.S)
+    return bool(head) and 'requires {' in head.group(0)
+
+
+def proof_text(crate, function, places, order, definition, source):
     lines, laws = [], set()
     for need in order:
         if re.search(r'-requires(-\d+)?$', need):
-            lines.append('(λ c κs. tt)')
+            lines.append('(λ c κs. search needs)' if asks(need, source) else '(λ c κs. tt)')
         elif need.startswith('returns'):
             facts = places.facts(places.needs[need])
             laws |= {f.split(' ')[0] for f in facts} & TEST_LAWS
@@ -169,7 +176,7 @@ def main():
             name = function.split('::')[-1]
             target = pathlib.Path(f'crates/{crate}/proofs', *function.split('::'), 'Proof.antt')
             target.parent.mkdir(parents=True, exist_ok=True)
-            target.write_text(proof_text(crate, function, places, order, definition_of(crate, name, source)))
+            target.write_text(proof_text(crate, function, places, order, definition_of(crate, name, source), source))
             print(f'{function}: wrote {target}')
 
 

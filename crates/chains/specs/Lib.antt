@@ -1,0 +1,2 @@
+-- What a chain is, and what a walk along it computes.
+pub mod Chain

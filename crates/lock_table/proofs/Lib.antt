@@ -1,0 +1,4 @@
+-- The laws of tables.
+pub mod Records
+pub mod Walks
+pub mod FreshObjects

@@ -1,0 +1,11 @@
+-- `lock_table::fresh_table::refused` meets its contract: each way through the code is that of the definition.
+use Rattle.lock_table.proofs.fresh_table.refused.Statement.{statement}
+use Rattle.lock_table.proofs.fresh_table.refused.Tie as tie
+
+pub refused-spec : {M : Type 1} → statement M
+refused-spec =
+    tie.close
+    (tie.spec
+    (λ c κs. tt)
+    (λ c κs. tt)
+    (λ c. simp (c .no-object .ensures, c .before .no-thread .ensures)))

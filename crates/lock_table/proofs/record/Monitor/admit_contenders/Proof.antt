@@ -1,0 +1,10 @@
+-- `lock_table::record::Monitor::admit_contenders` meets its contract: each way through the code is that of the definition.
+use Rattle.lock_table.proofs.record.Monitor.admit_contenders.Statement.{statement}
+use Rattle.lock_table.proofs.record.Monitor.admit_contenders.Tie as tie
+
+pub admit-contenders-spec : {M : Type 1} → statement M
+admit-contenders-spec =
+    tie.close
+    (tie.spec
+    (λ c κs. tt)
+    (λ c. simp (c .join-entry .ensures)))

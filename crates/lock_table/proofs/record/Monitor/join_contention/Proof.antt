@@ -1,0 +1,10 @@
+-- `lock_table::record::Monitor::join_contention` meets its contract: each way through the code is that of the definition.
+use Rattle.lock_table.proofs.record.Monitor.join_contention.Statement.{statement}
+use Rattle.lock_table.proofs.record.Monitor.join_contention.Tie as tie
+
+pub join-contention-spec : {M : Type 1} → statement M
+join-contention-spec =
+    tie.close
+    (tie.spec
+    (λ c κs. tt)
+    (λ c. simp (c .first-of-both .ensures)))

@@ -1,0 +1,10 @@
+-- `lock_table::record::Monitor::join_entry` meets its contract: each way through the code is that of the definition.
+use Rattle.lock_table.proofs.record.Monitor.join_entry.Statement.{statement}
+use Rattle.lock_table.proofs.record.Monitor.join_entry.Tie as tie
+
+pub join-entry-spec : {M : Type 1} → statement M
+join-entry-spec =
+    tie.close
+    (tie.spec
+    (λ c κs. tt)
+    (λ c. simp (c .first-of-both .ensures)))

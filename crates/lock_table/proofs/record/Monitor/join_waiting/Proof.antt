@@ -1,0 +1,10 @@
+-- `lock_table::record::Monitor::join_waiting` meets its contract: each way through the code is that of the definition.
+use Rattle.lock_table.proofs.record.Monitor.join_waiting.Statement.{statement}
+use Rattle.lock_table.proofs.record.Monitor.join_waiting.Tie as tie
+
+pub join-waiting-spec : {M : Type 1} → statement M
+join-waiting-spec =
+    tie.close
+    (tie.spec
+    (λ c κs. tt)
+    (λ c. simp (c .first-of-both .ensures)))

@@ -1,0 +1,11 @@
+-- How large a table can be and how deep a monitor (document 01, "The table").
+use Prim.Native.Nat.{ℕ}
+
+abbrev pub thread-limit : ℕ
+thread-limit = 32
+
+abbrev pub object-limit : ℕ
+object-limit = 64
+
+abbrev pub depth-limit : ℕ
+depth-limit = 65535

@@ -1,0 +1,37 @@
+// Tables: thread and object records, access by number, chains, monitors and fresh tables (document 01, "The table").
+mod access;
+mod chain;
+mod fresh_table;
+mod monitor;
+mod operation;
+mod phase;
+mod record;
+
+pub use access::object_at;
+pub use access::set_object;
+pub use access::set_thread;
+pub use access::thread_at;
+pub use chain::hand_first;
+pub use chain::hang;
+pub use chain::last_in;
+pub use chain::queue_all;
+pub use chain::queue_first;
+pub use fresh_table::FreshAnswer;
+pub use fresh_table::FreshTable;
+pub use fresh_table::fresh;
+pub use monitor::Handed;
+pub use operation::Operation;
+pub use operation::operation_from;
+pub use operation::operation_number;
+pub use phase::Onward;
+pub use phase::Phase;
+pub use phase::carried_number;
+pub use phase::phase_number;
+pub use record::Monitor;
+pub use record::OBJECTS;
+pub use record::ObjectRecord;
+pub use record::THREADS;
+pub use record::Table;
+pub use record::ThreadRecord;
+pub use record::no_object;
+pub use record::no_thread;

@@ -1,0 +1,126 @@
+// The records of a table, and each record with one field changed. Fields lie widest first, as the compiler keeps their order.
+use crate::operation::Operation;
+use crate::phase::Phase;
+ghost use mathlib.Core.Path.{_≡_};
+ghost use Rattle.lock_table.specs.Record.{noThread, noMonitor, noObject, withPhase, withNext, withWord, withFlag, withMonitor};
+
+// The most threads and objects that a table can have.
+pub const THREADS: u8 = 32;
+
+pub const OBJECTS: u8 = 64;
+
+pub struct ThreadRecord {
+    // the reserved word read in phase 1 and about to be stored in phase 2
+    pub kept: u32,
+    // the depth that a wait gave up
+    pub saved: u16,
+    pub object: u8,
+    pub next: u8,
+    pub operation: Operation,
+    pub phase: Phase,
+}
+
+pub struct Monitor {
+    pub depth: u16,
+    pub holder: u8,
+    // the first thread of each chain, 0 if there is none
+    pub entry: u8,
+    pub contention: u8,
+    pub waiting: u8,
+}
+
+pub struct ObjectRecord {
+    pub word: u32,
+    pub monitor: Monitor,
+    // the contention flag
+    pub flag: bool,
+}
+
+pub struct Table {
+    // how many of the records are in use: document 01's T and N
+    pub threadcount: u8,
+    pub objectcount: u8,
+    pub threads: [ThreadRecord; 32],
+    pub objects: [ObjectRecord; 64],
+}
+
+pub fn no_thread() -> ThreadRecord
+    ensures { λ r. ⌜ r ≡ noThread ⌝ }
+{
+    ThreadRecord {
+        kept: 0,
+        saved: 0,
+        object: 0,
+        next: 0,
+        operation: Operation::Idle,
+        phase: Phase::Idle,
+    }
+}
+
+pub fn no_monitor() -> Monitor
+    ensures { λ r. ⌜ r ≡ noMonitor ⌝ }
+{
+    Monitor {
+        depth: 0,
+        holder: 0,
+        entry: 0,
+        contention: 0,
+        waiting: 0,
+    }
+}
+
+pub fn no_object() -> ObjectRecord
+    ensures { λ r. ⌜ r ≡ noObject ⌝ }
+{
+    ObjectRecord {
+        word: 0,
+        monitor: no_monitor(),
+        flag: false,
+    }
+}
+
+impl ThreadRecord {
+    pub fn with_phase(self, phase: Phase) -> ThreadRecord
+        ensures { λ r. ⌜ r ≡ withPhase self phase ⌝ }
+    {
+        let operation = self.operation;
+        ThreadRecord {
+            kept: self.kept,
+            saved: self.saved,
+            object: self.object,
+            next: self.next,
+            operation: operation,
+            phase: phase,
+        }
+    }
+
+    pub fn with_next(mut self, next: u8) -> ThreadRecord
+        ensures { λ r. ⌜ r ≡ withNext self next ⌝ }
+    {
+        self.next = next;
+        self
+    }
+}
+
+impl ObjectRecord {
+    pub fn with_word(mut self, word: u32) -> ObjectRecord
+        ensures { λ r. ⌜ r ≡ withWord self word ⌝ }
+    {
+        self.word = word;
+        self
+    }
+
+    pub fn with_flag(mut self, flag: bool) -> ObjectRecord
+        ensures { λ r. ⌜ r ≡ withFlag self flag ⌝ }
+    {
+        self.flag = flag;
+        self
+    }
+
+    pub fn with_monitor(mut self, monitor: Monitor) -> ObjectRecord
+        ensures { λ r. ⌜ r ≡ withMonitor self monitor ⌝ }
+    {
+        self.monitor = monitor;
+        self
+    }
+}

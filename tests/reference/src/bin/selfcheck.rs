@@ -1,0 +1,53 @@
+//! Checks the reference alone: stored schedules by their output, generated ones by demand 3.
+//! Usage: selfcheck SCHEDULES_DIR [COUNT] [SEED]
+
+use reference::checked::check_schedule;
+use reference::generate::schedule;
+use reference::replay::replay;
+use reference::report::{compare_outputs, Report};
+use reference::stored::Case;
+use reference::{long_cases, stored};
+use std::path::Path;
+use std::process::ExitCode;
+
+const DEFAULT_COUNT: u64 = 5_000;
+const DEFAULT_SEED: u64 = 1;
+
+fn main() -> ExitCode {
+    let arguments: Vec<String> = std::env::args().skip(1).collect();
+    let number = |place: usize, default: u64| match arguments.get(place) {
+        Some(text) => text.parse::<u64>().map_err(|error| error.to_string()),
+        None => Ok(default),
+    };
+    let (Some(folder), Ok(count), Ok(seed)) = (
+        arguments.first(),
+        number(1, DEFAULT_COUNT),
+        number(2, DEFAULT_SEED),
+    ) else {
+        eprintln!("usage: selfcheck SCHEDULES_DIR [COUNT] [SEED]");
+        return ExitCode::FAILURE;
+    };
+    println!("seed {seed}");
+    let mut report = Report::default();
+    match stored::read_folder(Path::new(folder)) {
+        Ok(cases) => check_cases(&cases, &mut report),
+        Err(error) => report.check("stored schedules", Err(error.to_string())),
+    }
+    check_cases(&long_cases::cases(), &mut report);
+    for place in 0..count {
+        let seed = seed.wrapping_add(place);
+        let input = schedule(seed);
+        let name = format!("generated schedule of seed {seed}, demand 3");
+        report.check_schedule(&name, &input, check_schedule);
+    }
+    report.finish()
+}
+
+fn check_cases(cases: &[Case], report: &mut Report) {
+    for case in cases {
+        let result = compare_outputs(&replay(&case.input), &case.expected);
+        report.check(&format!("{}, output", case.name), result);
+        let name = format!("{}, demand 3", case.name);
+        report.check_schedule(&name, &case.input, check_schedule);
+    }
+}

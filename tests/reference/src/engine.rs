@@ -1,0 +1,471 @@
+//! The lock engine: begin and single step, refusals in document 01's order and the phases in the order of its steps.
+
+use crate::outcome::{Outcome, Returned};
+use crate::sound::is_sound;
+use crate::table::MAX_DEPTH;
+use crate::table::{Chain, Monitor, ObjectRecord, Onward, Operation, Phase, Table, ThreadRecord};
+use crate::word::{LockWord, MAX_COUNT};
+
+/// What the interpreter asks for. The numbers are as given and may be out of range.
+#[derive(Clone, Copy, Debug, PartialEq, Eq)]
+pub enum Event {
+    Begin {
+        thread: u16,
+        operation: u8,
+        object: u16,
+    },
+    Step {
+        thread: u16,
+    },
+}
+
+pub fn apply(table: &mut Table, event: Event) -> Outcome {
+    match event {
+        Event::Begin {
+            thread,
+            operation,
+            object,
+        } => begin(table, thread, operation, object),
+        Event::Step { thread } => step(table, thread),
+    }
+}
+
+pub fn begin(table: &mut Table, thread: u16, operation: u8, object: u16) -> Outcome {
+    if !is_sound(table) {
+        return Outcome::of(Returned::NotSound);
+    }
+    let Some(thread) = table.thread_number(thread) else {
+        return Outcome::of(Returned::NoSuchThread);
+    };
+    let Some(operation) = Operation::from_number(operation) else {
+        return Outcome::of(Returned::NoSuchOperation);
+    };
+    let Some(object) = table.object_number(object) else {
+        return Outcome::of(Returned::NoSuchObject);
+    };
+    let record = table.thread_mut(thread);
+    if record.phase != Phase::Idle {
+        return Outcome::of(Returned::ThreadBusy);
+    }
+    record.operation = Some(operation);
+    record.object = object;
+    record.phase = Phase::Look;
+    Outcome::of(Returned::GoneOn)
+}
+
+pub fn step(table: &mut Table, thread: u16) -> Outcome {
+    if !is_sound(table) {
+        return Outcome::of(Returned::NotSound);
+    }
+    let Some(thread) = table.thread_number(thread) else {
+        return Outcome::of(Returned::NoSuchThread);
+    };
+    let record = *table.thread(thread);
+    // A sound table has an operation for every thread but the idle.
+    let Some(operation) = record.operation else {
+        return Outcome::of(Returned::ThreadIdle);
+    };
+    if record.phase.is_parked() {
+        return Outcome::of(Returned::ThreadParked);
+    }
+    let mut turn = Turn {
+        table,
+        thread,
+        operation,
+        object: record.object,
+    };
+    turn.run(record.phase)
+}
+
+/// One step of one thread: its number, and the operation and object it is at.
+struct Turn<'a> {
+    table: &'a mut Table,
+    thread: u8,
+    operation: Operation,
+    object: u8,
+}
+
+impl Turn<'_> {
+    fn run(&mut self, phase: Phase) -> Outcome {
+        if needs_holder(phase) && self.monitor().holder != self.thread {
+            return no_rule();
+        }
+        match phase {
+            Phase::Look if self.operation == Operation::Enter => self.look_enter(),
+            Phase::Look => self.look_as_owner(),
+            Phase::Store => self.store(),
+            Phase::Cancel => self.cancel(),
+            Phase::GoIn => self.go_in(),
+            Phase::Check => self.check(),
+            Phase::Try => self.try_again(),
+            Phase::Test => self.test(),
+            Phase::Tell => self.tell(),
+            Phase::Leave => self.leave(),
+            Phase::Inflate => self.inflate_to_wait(),
+            Phase::Wait => self.wait(),
+            Phase::Resume => self.resume(),
+            Phase::Idle | Phase::Queued(_) | Phase::Contending | Phase::Waiting => no_rule(),
+        }
+    }
+
+    // 1 look
+
+    fn look_enter(&mut self) -> Outcome {
+        match self.word() {
+            LockWord::Free => self.write_and_finish(self.flat(0)),
+            LockWord::Flat { thread, count } if self.is_own(thread) && count < MAX_COUNT => {
+                self.write_and_finish(self.flat(count + 1))
+            }
+            LockWord::Anonymous => self.write_and_finish(self.reserved(1)),
+            LockWord::Reserved { thread, count } if self.is_own(thread) && count < MAX_COUNT => {
+                self.keep_word()
+            }
+            LockWord::Reserved { .. } => self.go_on(Phase::Cancel),
+            LockWord::Flat { .. } | LockWord::Fat { .. } => self.go_on(Phase::GoIn),
+        }
+    }
+
+    fn look_as_owner(&mut self) -> Outcome {
+        let (owner, _) = self.table.owner(self.object);
+        if owner != self.thread {
+            return self.end(Returned::NotOwner, 0).committing();
+        }
+        match self.operation {
+            Operation::Exit => self.look_exit(),
+            Operation::Wait => match self.word() {
+                LockWord::Fat { .. } => self.go_on(Phase::Wait),
+                LockWord::Reserved { .. } => self.go_on(Phase::Cancel),
+                _ => self.go_on(Phase::GoIn),
+            },
+            _ => self.look_notify(),
+        }
+    }
+
+    fn look_exit(&mut self) -> Outcome {
+        match self.word() {
+            LockWord::Flat { count: 0, .. } => {
+                self.write(LockWord::Free);
+                self.go_on(Phase::Test).committing()
+            }
+            LockWord::Flat { count, .. } => self.write_and_finish(self.flat(count - 1)),
+            LockWord::Reserved { .. } => self.keep_word(),
+            _ => self.look_exit_monitor(),
+        }
+    }
+
+    fn look_exit_monitor(&mut self) -> Outcome {
+        let monitor = self.monitor();
+        monitor.depth -= 1;
+        if monitor.depth > 0 {
+            return self.finish().committing();
+        }
+        // The holder stays until it leaves; only the word may go back to free here.
+        if monitor.chains_empty() {
+            self.write(LockWord::Free);
+        }
+        self.go_on(Phase::Leave).committing()
+    }
+
+    fn look_notify(&mut self) -> Outcome {
+        let mut woken = 0;
+        if let LockWord::Fat { .. } = self.word() {
+            let most = match self.operation {
+                Operation::Notify => 1,
+                _ => self.table.threads,
+            };
+            while woken < most && self.move_first(Chain::Waiting, Onward::Resume) {
+                woken += 1;
+            }
+        }
+        self.end(Returned::Finished, woken).committing()
+    }
+
+    // 2 store
+
+    /// Writes the kept word, whatever the word is by now: cancelling must have sent this thread back.
+    fn store(&mut self) -> Outcome {
+        let kept = LockWord::decode(self.record().kept_word);
+        let Some(LockWord::Reserved { count, .. }) = kept else {
+            return no_rule();
+        };
+        let count = match self.operation {
+            Operation::Enter => count + 1,
+            _ => count - 1,
+        };
+        self.write_and_finish(self.reserved(count))
+    }
+
+    // 3 cancel
+
+    fn cancel(&mut self) -> Outcome {
+        match self.word() {
+            LockWord::Anonymous => self.write(LockWord::Free),
+            LockWord::Reserved { thread, count } => {
+                self.write(match count {
+                    0 => LockWord::Free,
+                    _ => LockWord::Flat {
+                        thread,
+                        count: count - 1,
+                    },
+                });
+                self.send_back(thread as u8);
+            }
+            _ => {}
+        }
+        self.go_on(Phase::Look)
+    }
+
+    /// A reservation's owner that has read the old word must look again, or it would store that word.
+    fn send_back(&mut self, owner: u8) {
+        let object = self.object;
+        let record = self.table.thread_mut(owner);
+        if record.phase == Phase::Store && record.object == object {
+            record.phase = Phase::Look;
+            record.kept_word = 0;
+        }
+    }
+
+    // 4 go in
+
+    fn go_in(&mut self) -> Outcome {
+        let onward = match self.operation {
+            Operation::Enter => Onward::Check,
+            Operation::Exit => Onward::Tell,
+            _ => Onward::Inflate,
+        };
+        let (thread, operation) = (self.thread, self.operation);
+        let monitor = self.monitor();
+        if monitor.holder == 0 {
+            monitor.holder = thread;
+            return self.go_on(onward.phase());
+        }
+        if monitor.holder != thread {
+            self.queue(thread, onward);
+            return Outcome::of(Returned::Parked);
+        }
+        if operation != Operation::Enter || monitor.depth == 0 {
+            return no_rule();
+        }
+        if monitor.depth == MAX_DEPTH {
+            return self.end(Returned::TooDeep, 0).committing();
+        }
+        monitor.depth += 1;
+        self.finish().committing()
+    }
+
+    // 6 check, 7 try
+
+    fn check(&mut self) -> Outcome {
+        match self.word() {
+            LockWord::Fat { .. } if self.monitor().depth == 0 => {
+                self.monitor().depth = 1;
+                self.finish().committing()
+            }
+            LockWord::Flat { thread, count } if self.is_own(thread) => {
+                self.inflate(u16::from(count) + 2);
+                self.finish().committing()
+            }
+            LockWord::Free | LockWord::Flat { .. } => {
+                self.object().contention_flag = true;
+                self.go_on(Phase::Try)
+            }
+            _ => no_rule(),
+        }
+    }
+
+    fn try_again(&mut self) -> Outcome {
+        match self.word() {
+            LockWord::Free => {
+                self.inflate(1);
+                self.finish().committing()
+            }
+            LockWord::Flat { thread, .. } if !self.is_own(thread) => {
+                self.park(Chain::Contention, Phase::Contending);
+                self.hand();
+                Outcome::of(Returned::Parked)
+            }
+            _ => no_rule(),
+        }
+    }
+
+    // 9 test, 10 tell, 11 leave
+
+    fn test(&mut self) -> Outcome {
+        if self.object().contention_flag {
+            self.go_on(Phase::GoIn)
+        } else {
+            self.finish()
+        }
+    }
+
+    fn tell(&mut self) -> Outcome {
+        if self.object().contention_flag {
+            self.move_first(Chain::Contention, Onward::Check);
+        }
+        self.go_on(Phase::Leave)
+    }
+
+    fn leave(&mut self) -> Outcome {
+        if self.monitor().depth > 0 {
+            return no_rule();
+        }
+        self.hand();
+        self.finish()
+    }
+
+    // 12 inflate, 13 wait, 15 resume
+
+    fn inflate_to_wait(&mut self) -> Outcome {
+        match self.word() {
+            LockWord::Flat { thread, count } if self.is_own(thread) => {
+                self.inflate(u16::from(count) + 1);
+                self.go_on(Phase::Wait)
+            }
+            _ => no_rule(),
+        }
+    }
+
+    fn wait(&mut self) -> Outcome {
+        let depth = self.monitor().depth;
+        if !self.is_fat() || depth == 0 {
+            return no_rule();
+        }
+        self.record().saved_depth = depth;
+        self.monitor().depth = 0;
+        self.park(Chain::Waiting, Phase::Waiting);
+        self.hand();
+        Outcome::of(Returned::Parked).committing()
+    }
+
+    fn resume(&mut self) -> Outcome {
+        if !self.is_fat() || self.monitor().depth > 0 {
+            return no_rule();
+        }
+        self.monitor().depth = self.record().saved_depth;
+        self.finish().committing()
+    }
+
+    // What several phases share: words first, then going on and ending, then queues.
+
+    fn record(&mut self) -> &mut ThreadRecord {
+        self.table.thread_mut(self.thread)
+    }
+
+    fn object(&mut self) -> &mut ObjectRecord {
+        self.table.object_mut(self.object)
+    }
+
+    fn monitor(&mut self) -> &mut Monitor {
+        &mut self.object().monitor
+    }
+
+    fn word(&self) -> LockWord {
+        LockWord::decode(self.table.object(self.object).word).expect("a sound table's word")
+    }
+
+    fn write(&mut self, word: LockWord) {
+        self.object().word = word.encode();
+    }
+
+    fn is_own(&self, thread: u16) -> bool {
+        thread == u16::from(self.thread)
+    }
+
+    fn is_fat(&self) -> bool {
+        matches!(self.word(), LockWord::Fat { .. })
+    }
+
+    fn flat(&self, count: u8) -> LockWord {
+        LockWord::Flat {
+            thread: u16::from(self.thread),
+            count,
+        }
+    }
+
+    fn reserved(&self, count: u8) -> LockWord {
+        LockWord::Reserved {
+            thread: u16::from(self.thread),
+            count,
+        }
+    }
+
+    fn go_on(&mut self, phase: Phase) -> Outcome {
+        self.record().phase = phase;
+        Outcome::of(Returned::GoneOn)
+    }
+
+    fn keep_word(&mut self) -> Outcome {
+        self.record().kept_word = self.object().word;
+        self.go_on(Phase::Store)
+    }
+
+    /// The thread is idle again, all its fields zero.
+    fn end(&mut self, returned: Returned, woken: u8) -> Outcome {
+        *self.record() = ThreadRecord::default();
+        Outcome {
+            woken,
+            ..Outcome::of(returned)
+        }
+    }
+
+    fn finish(&mut self) -> Outcome {
+        self.end(Returned::Finished, 0)
+    }
+
+    fn write_and_finish(&mut self, word: LockWord) -> Outcome {
+        self.write(word);
+        self.finish().committing()
+    }
+
+    fn park(&mut self, chain: Chain, phase: Phase) {
+        self.record().phase = phase;
+        self.table.join(self.object, chain, self.thread);
+    }
+
+    fn queue(&mut self, thread: u8, onward: Onward) {
+        self.table.thread_mut(thread).phase = Phase::Queued(onward);
+        self.table.join(self.object, Chain::Entry, thread);
+    }
+
+    /// Moves the first of a chain to the end of the entry chain; false where there is none.
+    fn move_first(&mut self, chain: Chain, onward: Onward) -> bool {
+        match self.table.take_first(self.object, chain) {
+            Some(thread) => {
+                self.queue(thread, onward);
+                true
+            }
+            None => false,
+        }
+    }
+
+    /// Gives the monitor to the first thread queued for entry, or to nobody.
+    fn hand(&mut self) {
+        let next = self.table.take_first(self.object, Chain::Entry);
+        if let Some(thread) = next {
+            let record = self.table.thread_mut(thread);
+            if let Phase::Queued(onward) = record.phase {
+                record.phase = onward.phase();
+            }
+        }
+        let monitor = self.monitor();
+        monitor.holder = next.unwrap_or(0);
+        monitor.depth = 0;
+    }
+
+    fn inflate(&mut self, depth: u16) {
+        self.write(LockWord::Fat {
+            monitor: u16::from(self.object),
+        });
+        self.object().contention_flag = false;
+        while self.move_first(Chain::Contention, Onward::Check) {}
+        self.monitor().depth = depth;
+    }
+}
+
+fn needs_holder(phase: Phase) -> bool {
+    matches!(phase.number(), 6 | 7 | 10..=13 | 15)
+}
+
+fn no_rule() -> Outcome {
+    Outcome::of(Returned::NoRule)
+}

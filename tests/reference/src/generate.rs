@@ -1,0 +1,378 @@
+//! Makes schedules from a seed: few threads and objects in the thick of it, so that they collide in many orders.
+//! It follows the engine's table to choose events that go somewhere, with some refused and malformed ones on purpose.
+
+use crate::engine::{apply, Event};
+use crate::random::Random;
+use crate::table::{Operation, Phase, Table, MAX_OBJECTS, MAX_THREADS};
+use crate::word::MAX_COUNT;
+use std::io::Write;
+
+/// Sizes up to which most tables go.
+const FEW_THREADS: u64 = 6;
+const FEW_OBJECTS: u64 = 3;
+
+/// What one schedule is to be like. Chances are in percent of events.
+struct Plan {
+    threads: u8,
+    objects: u8,
+    reserved: bool,
+    /// Threads and objects that the schedule uses; the rest only by stray events.
+    busy_threads: Vec<u8>,
+    busy_objects: Vec<u8>,
+    length: u64,
+    /// How often the same thread goes on.
+    sticky: u64,
+    stray: u64,
+    noise: u64,
+    /// How often an idle thread starts a run of enters or exits.
+    burst: u64,
+    /// How often an owner waits. Waiters keep a monitor from going back to a flat word.
+    wait: u64,
+}
+
+impl Plan {
+    fn draw(random: &mut Random) -> Plan {
+        let threads = size(random, FEW_THREADS, MAX_THREADS);
+        let objects = size(random, FEW_OBJECTS, MAX_OBJECTS);
+        let all_busy = random.percent(5);
+        let most_threads = if all_busy { threads } else { FEW_THREADS as u8 };
+        let most_objects = random.pick(&[1, 1, 1, 2, FEW_OBJECTS as u8]);
+        Plan {
+            threads,
+            objects,
+            reserved: random.percent(50),
+            busy_threads: some_of(random, threads, most_threads),
+            busy_objects: some_of(random, objects, most_objects),
+            length: match random.between(1, 100) {
+                1..=2 => random.between(2_000, 6_000),
+                3..=25 => random.between(300, 1_000),
+                _ => random.between(10, 300),
+            },
+            sticky: random.pick(&[0, 30, 60, 85]),
+            stray: random.pick(&[0, 2, 10]),
+            noise: random.pick(&[0, 0, 0, 3, 15]),
+            burst: random.pick(&[0, 0, 0, 4]),
+            wait: random.pick(&[0, 4, 15]),
+        }
+    }
+}
+
+/// A size that is mostly small, at times anything and at times the largest.
+fn size(random: &mut Random, few: u64, largest: usize) -> u8 {
+    let largest = largest as u64;
+    match random.between(1, 10) {
+        1 => largest as u8,
+        2..=3 => random.between(1, largest) as u8,
+        _ => random.between(1, few) as u8,
+    }
+}
+
+/// Some neighbours among the numbers from 1 to the last.
+fn some_of(random: &mut Random, last: u8, most: u8) -> Vec<u8> {
+    let number = random.between(1, most.min(last).into()) as u8;
+    let first = random.between(1, (last - number + 1).into()) as u8;
+    (first..first + number).collect()
+}
+
+/// A run of one operation by one thread, to reach depths where counts end and monitors begin.
+struct Burst {
+    thread: u8,
+    operation: Operation,
+    object: u8,
+    left: u64,
+    /// How often the burst has its way, in percent of events.
+    share: u64,
+}
+
+impl Burst {
+    /// Some schedules begin with one thread nesting to about where the count of a flat or reserved word ends.
+    fn at_the_start(random: &mut Random, plan: &Plan) -> Option<Burst> {
+        let wanted = random.percent(8);
+        let end_of_count = u64::from(MAX_COUNT);
+        wanted.then(|| Burst {
+            thread: plan.busy_threads[0],
+            operation: Operation::Enter,
+            object: plan.busy_objects[0],
+            left: random.between(end_of_count - 3, end_of_count + 8),
+            share: 98,
+        })
+    }
+}
+
+struct Generator {
+    random: Random,
+    plan: Plan,
+    table: Table,
+    last_thread: u8,
+    burst: Option<Burst>,
+    text: Vec<u8>,
+}
+
+/// The schedule of a seed, as input of the replay.
+pub fn schedule(seed: u64) -> Vec<u8> {
+    let mut random = Random::new(seed);
+    let plan = Plan::draw(&mut random);
+    let burst = Burst::at_the_start(&mut random, &plan);
+    let table = Table::fresh(plan.threads.into(), plan.objects.into(), plan.reserved);
+    let mut generator = Generator {
+        random,
+        plan,
+        table: table.expect("sizes in range"),
+        last_thread: 0,
+        burst,
+        text: Vec::new(),
+    };
+    generator.write();
+    generator.text
+}
+
+impl Generator {
+    fn write(&mut self) {
+        self.write_header();
+        for _ in 0..self.plan.length {
+            if self.random.percent(self.plan.noise) {
+                self.write_noise();
+                continue;
+            }
+            let Some(event) = self.choose_event() else {
+                break;
+            };
+            self.write_event(event);
+        }
+        // A last step of every thread shows what the table was left at.
+        for thread in self.plan.busy_threads.clone() {
+            self.write_event(step(thread));
+        }
+        let cut = self.plan.noise > 0 && self.random.percent(20);
+        if cut {
+            self.text.pop();
+        }
+    }
+
+    fn write_header(&mut self) {
+        let plan = &self.plan;
+        let (threads, objects, kind) = (plan.threads, plan.objects, u8::from(plan.reserved));
+        let mut header = format!("L {threads} {objects} {kind}\n");
+        if plan.noise > 0 && self.random.percent(5) {
+            header = self.random.pick(&ODD_HEADERS).to_string();
+        }
+        self.text.extend_from_slice(header.as_bytes());
+    }
+
+    fn write_event(&mut self, event: Event) {
+        apply(&mut self.table, event);
+        write_event_line(event, &mut self.text);
+    }
+
+    /// Nothing where every thread is parked for good.
+    fn choose_event(&mut self) -> Option<Event> {
+        if self.random.percent(self.plan.stray) {
+            return Some(self.stray_event());
+        }
+        let share = self.burst.as_ref().map_or(0, |burst| burst.share);
+        if self.random.percent(share) {
+            if let Some(event) = self.burst_event() {
+                return Some(event);
+            }
+        }
+        let thread = self.choose_thread()?;
+        self.last_thread = thread;
+        match self.table.thread(thread).phase {
+            Phase::Idle => Some(self.choose_begin(thread)),
+            _ => Some(step(thread)),
+        }
+    }
+
+    /// Any event at all, at times of threads and objects that there are not.
+    fn stray_event(&mut self) -> Event {
+        let thread = self.random.between(0, u64::from(self.plan.threads) + 1) as u16;
+        if self.random.percent(50) {
+            return Event::Step { thread };
+        }
+        Event::Begin {
+            thread,
+            operation: self.random.pick(&Operation::ALL).number(),
+            object: self.random.between(0, u64::from(self.plan.objects) + 1) as u16,
+        }
+    }
+
+    fn burst_event(&mut self) -> Option<Event> {
+        let burst = self.burst.as_mut()?;
+        let phase = self.table.thread(burst.thread).phase;
+        if phase.is_parked() || (phase == Phase::Idle && burst.left == 0) {
+            self.burst = None;
+            return None;
+        }
+        if phase != Phase::Idle {
+            return Some(step(burst.thread));
+        }
+        burst.left -= 1;
+        Some(begin(burst.thread, burst.operation, burst.object))
+    }
+
+    fn choose_thread(&mut self) -> Option<u8> {
+        let ready = |thread: &u8| !self.table.thread(*thread).phase.is_parked();
+        let busy = self.plan.busy_threads.iter().copied();
+        let threads: Vec<u8> = busy.filter(ready).collect();
+        if threads.is_empty() {
+            return self.newcomer();
+        }
+        if threads.contains(&self.last_thread) && self.random.percent(self.plan.sticky) {
+            return Some(self.last_thread);
+        }
+        Some(self.random.pick(&threads))
+    }
+
+    /// A thread not in use yet, which may still wake or let in the others.
+    fn newcomer(&mut self) -> Option<u8> {
+        let busy = &mut self.plan.busy_threads;
+        let ready = |thread: &u8| self.table.thread(*thread).phase == Phase::Idle;
+        let thread =
+            (1..=self.plan.threads).find(|thread| !busy.contains(thread) && ready(thread))?;
+        busy.push(thread);
+        Some(thread)
+    }
+
+    fn choose_begin(&mut self, thread: u8) -> Event {
+        let owns = |object: &u8| self.table.owner(*object).0 == thread;
+        let busy = self.plan.busy_objects.iter().copied();
+        let owned: Vec<u8> = busy.filter(owns).collect();
+        let object = if !owned.is_empty() && self.random.percent(90) {
+            self.random.pick(&owned)
+        } else {
+            self.random.pick(&self.plan.busy_objects)
+        };
+        if self.random.percent(self.plan.burst) {
+            self.burst = Some(Burst {
+                thread,
+                operation: self.random.pick(&BURST_CHOICES),
+                object,
+                left: self.random.between(30, 90),
+                share: 80,
+            });
+        }
+        let operation = self.choose_operation(owned.contains(&object));
+        begin(thread, operation, object)
+    }
+
+    fn choose_operation(&mut self, owner: bool) -> Operation {
+        if owner && self.random.percent(self.plan.wait) {
+            Operation::Wait
+        } else if owner {
+            self.random.pick(&OWNER_CHOICES)
+        } else if self.random.percent(95) {
+            Operation::Enter
+        } else {
+            self.random.pick(&Operation::ALL)
+        }
+    }
+
+    fn write_noise(&mut self) {
+        match self.random.between(1, 10) {
+            1 => {
+                let digits = self.random.between(6, 400) as usize;
+                self.text.extend_from_slice(b"S ");
+                self.text.extend(std::iter::repeat_n(b'1', digits));
+            }
+            2 => {
+                for _ in 0..self.random.between(1, 30) {
+                    let byte = self.random.draw() as u8;
+                    self.text.push(if byte == b'\n' { 0 } else { byte });
+                }
+            }
+            _ => {
+                let noise = self.random.pick(&NOISE_LINES);
+                self.text.extend_from_slice(noise.as_bytes());
+            }
+        }
+        self.text.push(b'\n');
+    }
+}
+
+/// What an owner does next: exits lead, so that objects pass from hand to hand.
+const OWNER_CHOICES: [Operation; 10] = [
+    Operation::Enter,
+    Operation::Enter,
+    Operation::Enter,
+    Operation::Exit,
+    Operation::Exit,
+    Operation::Exit,
+    Operation::Exit,
+    Operation::Exit,
+    Operation::Notify,
+    Operation::NotifyAll,
+];
+
+const BURST_CHOICES: [Operation; 3] = [Operation::Enter, Operation::Enter, Operation::Exit];
+
+const ODD_HEADERS: [&str; 12] = [
+    "\n",
+    "L 1 1\n",
+    "L 0 1 0\n",
+    "L 1 0 0\n",
+    "L 33 1 1\n",
+    "L 1 65 0\n",
+    "L 33 65 2\n",
+    "L 2 2 2\n",
+    "L 65536 1 0\n",
+    "L 65535 65535 1\n",
+    "l 2 2 0\n",
+    "E 1 1\n",
+];
+
+const NOISE_LINES: [&str; 24] = [
+    "",
+    " ",
+    "S",
+    "S ",
+    "S 01",
+    "S 1 ",
+    " S 1",
+    "S  1",
+    "s 1",
+    "S 1 1",
+    "E 1",
+    "E 1 1 1",
+    "E 1 1\r",
+    "E\t1 1",
+    "E +1 1",
+    "E -1 1",
+    "E 1 00",
+    "X 65536 1",
+    "W 1 99999",
+    "Q 1 1",
+    "L 2 2 0",
+    "EX 1 1",
+    "A 1 1x",
+    "N 1,1",
+];
+
+fn begin(thread: u8, operation: Operation, object: u8) -> Event {
+    Event::Begin {
+        thread: u16::from(thread),
+        operation: operation.number(),
+        object: u16::from(object),
+    }
+}
+
+fn step(thread: u8) -> Event {
+    Event::Step {
+        thread: u16::from(thread),
+    }
+}
+
+/// Appends an event as a line of the replay's input.
+fn write_event_line(event: Event, text: &mut Vec<u8>) {
+    let written = match event {
+        Event::Step { thread } => writeln!(text, "S {thread}"),
+        Event::Begin {
+            thread,
+            operation,
+            object,
+        } => {
+            let letter = char::from(b"EXWNA"[usize::from(operation) - 1]);
+            writeln!(text, "{letter} {thread} {object}")
+        }
+    };
+    written.expect("a vector takes any text");
+}

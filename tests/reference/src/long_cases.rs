@@ -1,0 +1,124 @@
+//! Cases too long to store. What they must print is spelled out here from document 01, not taken from the engine.
+
+use crate::stored::Case;
+use crate::table::MAX_DEPTH;
+use crate::word::MAX_COUNT;
+use std::fmt::Write;
+
+/// Far past any buffer that a reader might have.
+const LONG_LINE: usize = 1 << 20;
+const FAT: &str = "000101";
+
+pub fn cases() -> Vec<Case> {
+    vec![nest_to_the_limit(), long_lines()]
+}
+
+/// Input and expected output side by side.
+#[derive(Default)]
+struct Script {
+    input: String,
+    expected: String,
+}
+
+impl Script {
+    fn line(&mut self, input: &str, expected: &str) {
+        writeln!(self.input, "{input}").expect("a string takes any text");
+        writeln!(self.expected, "{expected}").expect("a string takes any text");
+    }
+
+    fn header(&mut self, input: &str) {
+        writeln!(self.input, "{input}").expect("a string takes any text");
+    }
+
+    fn case(self, name: &str) -> Case {
+        Case {
+            name: name.to_string(),
+            input: self.input.into_bytes(),
+            expected: self.expected.into_bytes(),
+        }
+    }
+}
+
+/// Thread 1 enters 65,535 times and once too often, waits at that depth, resumes at it, and leaves.
+fn nest_to_the_limit() -> Case {
+    let mut script = Script::default();
+    script.header("L 2 1 0");
+    enter_to_the_limit(&mut script);
+    enter_too_often(&mut script);
+    wait_and_resume(&mut script);
+    enter_too_often(&mut script);
+    for _ in 1..MAX_DEPTH {
+        script.line("X 1 1", &format!("0 1 0 {FAT}"));
+        script.line("S 1", &format!("1 0 0 {FAT}"));
+    }
+    script.line("X 1 1", &format!("0 1 0 {FAT}"));
+    script.line("S 1", "0 11 0 000000");
+    script.line("S 1", "1 0 0 000000");
+    script.line("X 1 1", "0 1 0 000000");
+    script.line("S 1", "18");
+    script.case("nest-to-65535")
+}
+
+fn enter_to_the_limit(script: &mut Script) {
+    let flat = |count: u8| format!("{:06x}", 0x100 + 4 * u32::from(count));
+    script.line("E 1 1", "0 1 0 000000");
+    script.line("S 1", "1 0 0 000100");
+    for count in 1..=MAX_COUNT {
+        script.line("E 1 1", &format!("0 1 0 {}", flat(count - 1)));
+        script.line("S 1", &format!("1 0 0 {}", flat(count)));
+    }
+    let full = flat(MAX_COUNT);
+    script.line("E 1 1", &format!("0 1 0 {full}"));
+    script.line("S 1", &format!("0 4 0 {full}"));
+    script.line("S 1", &format!("0 6 0 {full}"));
+    script.line("S 1", &format!("1 0 0 {FAT}"));
+    let inflated_depth = u16::from(MAX_COUNT) + 2;
+    for _ in inflated_depth..MAX_DEPTH {
+        script.line("E 1 1", &format!("0 1 0 {FAT}"));
+        script.line("S 1", &format!("0 4 0 {FAT}"));
+        script.line("S 1", &format!("1 0 0 {FAT}"));
+    }
+}
+
+fn enter_too_often(script: &mut Script) {
+    script.line("E 1 1", &format!("0 1 0 {FAT}"));
+    script.line("S 1", &format!("0 4 0 {FAT}"));
+    script.line("S 1", "19");
+    script.line("S 1", "15");
+}
+
+fn wait_and_resume(script: &mut Script) {
+    let steps = [
+        ("W 1 1", "0 1 0"),
+        ("S 1", "0 13 0"),
+        ("S 1", "2 14 0"),
+        ("E 2 1", "0 1 0"),
+        ("S 2", "0 4 0"),
+        ("S 2", "0 6 0"),
+        ("S 2", "1 0 0"),
+        ("N 2 1", "0 1 0"),
+        ("S 2", "1 0 1"),
+        ("X 2 1", "0 1 0"),
+        ("S 2", "0 11 0"),
+        ("S 2", "1 0 0"),
+        ("S 1", "1 0 0"),
+    ];
+    for (input, expected) in steps {
+        script.line(input, &format!("{expected} {FAT}"));
+    }
+}
+
+/// Lines of a megabyte between good ones, the last without a newline.
+fn long_lines() -> Case {
+    let mut script = Script::default();
+    script.header("L 1 1 1");
+    script.line(&"x".repeat(LONG_LINE), "21");
+    script.line("E 1 1", "0 1 0 000002");
+    script.line(&format!("S {}1", "0".repeat(LONG_LINE)), "21");
+    script.line(&format!("S 1{}", " ".repeat(LONG_LINE)), "21");
+    script.line(&"9".repeat(LONG_LINE), "21");
+    script.line("S 1", "1 0 0 000106");
+    script.line(&format!("S 1{}", "1".repeat(LONG_LINE)), "21");
+    script.input.pop();
+    script.case("lines-of-a-megabyte")
+}

@@ -1,0 +1,57 @@
+//! What an event returns: document 01's numbers under their names, and what goes with them.
+
+/// The returned numbers; those from 11 up are refusals.
+#[derive(Clone, Copy, Debug, PartialEq, Eq, PartialOrd, Ord)]
+#[repr(u8)]
+pub enum Returned {
+    GoneOn = 0,
+    Finished = 1,
+    Parked = 2,
+    NotSound = 11,
+    NoSuchThread = 12,
+    NoSuchObject = 13,
+    ThreadBusy = 14,
+    ThreadIdle = 15,
+    ThreadParked = 16,
+    NoSuchOperation = 17,
+    NotOwner = 18,
+    TooDeep = 19,
+    NoRule = 20,
+    MalformedLine = 21,
+    SizesOutOfRange = 22,
+}
+
+impl Returned {
+    pub fn number(self) -> u8 {
+        self as u8
+    }
+
+    pub fn is_refusal(self) -> bool {
+        self >= Returned::NotSound
+    }
+}
+
+/// The answer to one event. `committed` says that the step carried the mark (c).
+#[derive(Clone, Copy, Debug, PartialEq, Eq)]
+pub struct Outcome {
+    pub returned: Returned,
+    pub woken: u8,
+    pub committed: bool,
+}
+
+impl Outcome {
+    pub fn of(returned: Returned) -> Outcome {
+        Outcome {
+            returned,
+            woken: 0,
+            committed: false,
+        }
+    }
+
+    pub fn committing(self) -> Outcome {
+        Outcome {
+            committed: true,
+            ..self
+        }
+    }
+}

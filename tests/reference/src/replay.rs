@@ -1,0 +1,220 @@
+//! The replay program, from bytes to bytes: a header line, then one event a line, each answered by one line.
+//! Input may come in blocks of any size; no line is held longer than the longest well-formed one.
+
+use crate::engine::{apply, Event};
+use crate::outcome::{Outcome, Returned};
+use crate::table::{Operation, Table};
+
+/// The length of `L 65535 65535 1`, the longest line of the form, without its newline.
+const LONGEST_LINE: usize = 15;
+const MAX_DIGITS: usize = 5;
+const HEX_DIGITS: u32 = 6;
+const BITS_PER_HEX_DIGIT: u32 = 4;
+
+/// A line of the form.
+#[derive(Clone, Copy, Debug, PartialEq, Eq)]
+pub enum Line {
+    Header {
+        threads: u16,
+        objects: u16,
+        reserved: bool,
+    },
+    Event(Event),
+}
+
+/// Reads a line without its newline; nothing where it is malformed.
+pub fn read_line(line: &[u8]) -> Option<Line> {
+    let (letter, rest) = line.split_first()?;
+    let (first, rest) = read_field(rest)?;
+    if *letter == b'S' {
+        let event = Event::Step { thread: first };
+        return rest.is_empty().then_some(Line::Event(event));
+    }
+    let (second, rest) = read_field(rest)?;
+    if *letter == b'L' {
+        let (kind, rest) = read_field(rest)?;
+        let header = Line::Header {
+            threads: first,
+            objects: second,
+            reserved: kind == 1,
+        };
+        return (rest.is_empty() && kind <= 1).then_some(header);
+    }
+    let event = Event::Begin {
+        thread: first,
+        operation: read_operation(*letter)?.number(),
+        object: second,
+    };
+    rest.is_empty().then_some(Line::Event(event))
+}
+
+fn read_operation(letter: u8) -> Option<Operation> {
+    match letter {
+        b'E' => Some(Operation::Enter),
+        b'X' => Some(Operation::Exit),
+        b'W' => Some(Operation::Wait),
+        b'N' => Some(Operation::Notify),
+        b'A' => Some(Operation::NotifyAll),
+        _ => None,
+    }
+}
+
+/// Reads one space and a number, and gives the number with what is behind it.
+fn read_field(text: &[u8]) -> Option<(u16, &[u8])> {
+    let text = text.strip_prefix(b" ")?;
+    let length = text.iter().take_while(|byte| byte.is_ascii_digit()).count();
+    let (digits, rest) = text.split_at(length);
+    let leading_zero = length > 1 && digits[0] == b'0';
+    if length == 0 || length > MAX_DIGITS || leading_zero {
+        return None;
+    }
+    let value = digits
+        .iter()
+        .fold(0, |value, digit| value * 10 + u32::from(digit - b'0'));
+    Some((u16::try_from(value).ok()?, rest))
+}
+
+enum State {
+    Header,
+    Running(Box<Table>),
+    Ended,
+}
+
+/// A run of the program.
+pub struct Replay {
+    state: State,
+    /// The start of a line whose newline has not come yet.
+    partial: Vec<u8>,
+}
+
+impl Default for Replay {
+    fn default() -> Replay {
+        Replay {
+            state: State::Header,
+            partial: Vec::with_capacity(LONGEST_LINE + 1),
+        }
+    }
+}
+
+impl Replay {
+    /// Takes the next block of input and appends what it prints.
+    pub fn feed(&mut self, block: &[u8], output: &mut Vec<u8>) {
+        for piece in block.split_inclusive(|byte| *byte == b'\n') {
+            let Some(line) = piece.strip_suffix(b"\n") else {
+                self.keep(piece);
+                continue;
+            };
+            if self.partial.is_empty() {
+                self.line(line, output);
+            } else {
+                self.keep(line);
+                let mut whole = std::mem::take(&mut self.partial);
+                self.line(&whole, output);
+                whole.clear();
+                self.partial = whole;
+            }
+        }
+    }
+
+    /// Takes the end of the input: a line without its newline is malformed, and so is a missing header.
+    pub fn finish(&mut self, output: &mut Vec<u8>) {
+        let missing_header = matches!(self.state, State::Header);
+        let running = matches!(self.state, State::Running(_));
+        if missing_header || (running && !self.partial.is_empty()) {
+            print_number_alone(Returned::MalformedLine, output);
+        }
+        self.state = State::Ended;
+    }
+
+    /// Whether nothing more will be read or printed.
+    pub fn has_ended(&self) -> bool {
+        matches!(self.state, State::Ended)
+    }
+
+    /// One byte past the longest well-formed line is enough to know that a line is malformed.
+    fn keep(&mut self, piece: &[u8]) {
+        let room = LONGEST_LINE + 1 - self.partial.len();
+        self.partial
+            .extend_from_slice(&piece[..piece.len().min(room)]);
+    }
+
+    fn line(&mut self, line: &[u8], output: &mut Vec<u8>) {
+        match &mut self.state {
+            State::Header => self.state = header(line, output),
+            State::Running(table) => match read_line(line) {
+                Some(Line::Event(event)) => event_line(table, event, output),
+                _ => print_number_alone(Returned::MalformedLine, output),
+            },
+            State::Ended => {}
+        }
+    }
+}
+
+/// The whole output for a whole input.
+pub fn replay(input: &[u8]) -> Vec<u8> {
+    let mut run = Replay::default();
+    let mut output = Vec::new();
+    run.feed(input, &mut output);
+    run.finish(&mut output);
+    output
+}
+
+fn header(line: &[u8], output: &mut Vec<u8>) -> State {
+    let table = match read_line(line) {
+        Some(Line::Header {
+            threads,
+            objects,
+            reserved,
+        }) => Table::fresh(threads, objects, reserved),
+        _ => Err(Returned::MalformedLine),
+    };
+    match table {
+        Ok(table) => State::Running(Box::new(table)),
+        Err(returned) => {
+            print_number_alone(returned, output);
+            State::Ended
+        }
+    }
+}
+
+fn event_line(table: &mut Table, event: Event, output: &mut Vec<u8>) {
+    let (Event::Begin { thread, .. } | Event::Step { thread }) = event;
+    // A finishing step clears the record, so a step's object is read before it.
+    let object = match event {
+        Event::Begin { object, .. } => object as u8,
+        Event::Step { .. } => table
+            .thread_number(thread)
+            .map_or(0, |thread| table.thread(thread).object),
+    };
+    let outcome = apply(table, event);
+    if outcome.returned.is_refusal() {
+        return print_number_alone(outcome.returned, output);
+    }
+    let phase = table.thread(thread as u8).phase.number();
+    print_outcome(outcome, phase, table.object(object).word, output);
+}
+
+fn print_outcome(outcome: Outcome, phase: u8, word: u32, output: &mut Vec<u8>) {
+    for number in [outcome.returned.number(), phase, outcome.woken] {
+        print_decimal(number, output);
+        output.push(b' ');
+    }
+    for place in (0..HEX_DIGITS).rev() {
+        let digit = word >> (place * BITS_PER_HEX_DIGIT) & 0xf;
+        output.push(b"0123456789abcdef"[digit as usize]);
+    }
+    output.push(b'\n');
+}
+
+fn print_number_alone(returned: Returned, output: &mut Vec<u8>) {
+    print_decimal(returned.number(), output);
+    output.push(b'\n');
+}
+
+/// Prints a number below 100: returned numbers, phases and woken counts all are.
+fn print_decimal(number: u8, output: &mut Vec<u8>) {
+    if number >= 10 {
+        output.push(b'0' + number / 10);
+    }
+    output.push(b'0' + number % 10);
+}

@@ -1,0 +1,146 @@
+//! That the check of demand 3 passes good runs and notices each kind of violation.
+
+mod common;
+
+use common::{fresh, with_word};
+use reference::checked::{check_event, check_schedule};
+use reference::engine::Event;
+use reference::outcome::{Outcome, Returned};
+use reference::plain::PlainMonitors;
+use reference::table::{Chain, Onward, Operation, Phase, Table};
+
+const STEP_1: Event = Event::Step { thread: 1 };
+
+fn begin_1(operation: Operation) -> Event {
+    Event::Begin {
+        thread: 1,
+        operation: operation.number(),
+        object: 1,
+    }
+}
+
+/// Plain monitors in which thread 1 has begun an operation on object 1.
+fn begun(operation: Operation) -> PlainMonitors {
+    let mut plain = PlainMonitors::new(1);
+    let outcome = Outcome::of(Returned::GoneOn);
+    plain.feed(begin_1(operation), outcome).expect("a begin");
+    plain
+}
+
+fn finished(woken: u8) -> Outcome {
+    Outcome {
+        woken,
+        ..Outcome::of(Returned::Finished).committing()
+    }
+}
+
+fn violation(result: Result<(), String>, text: &str) {
+    let wrong = result.expect_err("a violation");
+    assert!(wrong.contains(text), "{wrong}");
+}
+
+#[test]
+fn answers() {
+    let mut plain = begun(Operation::Exit);
+    violation(plain.feed(STEP_1, finished(0)), "NotOwner");
+    let mut plain = begun(Operation::Enter);
+    violation(plain.feed(STEP_1, finished(1)), "woken: 1");
+    let mut plain = begun(Operation::Enter);
+    let refused = Outcome::of(Returned::TooDeep).committing();
+    violation(plain.feed(STEP_1, refused), "TooDeep");
+}
+
+#[test]
+fn commits() {
+    let mut plain = begun(Operation::Enter);
+    let unmarked = Outcome::of(Returned::Finished);
+    violation(plain.feed(STEP_1, unmarked), "0 commits");
+    let mut plain = begun(Operation::Enter);
+    let early = Outcome::of(Returned::GoneOn).committing();
+    plain.feed(STEP_1, early).expect("no end yet");
+    violation(plain.feed(STEP_1, finished(0)), "2 commits");
+    let mut plain = begun(Operation::Enter);
+    plain.feed(STEP_1, finished(0)).expect("an enter");
+    violation(plain.feed(STEP_1, finished(0)), "without an unfinished");
+    violation(
+        plain.feed(begin_1(Operation::Exit), early),
+        "a begin is marked",
+    );
+}
+
+#[test]
+fn numbers_that_never_occur() {
+    for returned in [Returned::NotSound, Returned::NoRule] {
+        let mut plain = PlainMonitors::new(1);
+        violation(plain.feed(STEP_1, Outcome::of(returned)), "never occurs");
+    }
+}
+
+#[test]
+fn owners() {
+    let plain = PlainMonitors::new(2);
+    assert_eq!(plain.compare(&fresh()), Ok(()));
+    assert_eq!(plain.compare(&with_word(1, 0x000102)), Ok(()));
+    violation(plain.compare(&with_word(1, 0x000100)), "owner and depth");
+    violation(plain.compare(&with_word(2, 0x000106)), "object 2");
+}
+
+/// The table and plain monitors after events on object 1, as `E1` or `S2`, that all passed the check.
+fn checked_run(events: &str) -> (Table, PlainMonitors) {
+    let (mut table, mut plain) = (fresh(), PlainMonitors::new(2));
+    for word in events.split(' ') {
+        let (letter, thread) = word.split_at(1);
+        let thread = thread.parse().expect("a thread");
+        let event = match "EXWNA".find(letter) {
+            Some(place) => Event::Begin {
+                thread,
+                operation: place as u8 + 1,
+                object: 1,
+            },
+            None => Event::Step { thread },
+        };
+        check_event(&mut table, &mut plain, event).expect("no violation");
+    }
+    (table, plain)
+}
+
+const TWO_WAIT: &str = "E1 S1 W1 S1 S1 S1 S1 E2 S2 S2 S2 W2 S2 S2";
+
+#[test]
+fn waiting() {
+    let (mut table, plain) = checked_run(TWO_WAIT);
+    assert_eq!(table.chain(1, Chain::Waiting).collect::<Vec<_>>(), [1, 2]);
+    table.object_mut(1).monitor.waiting = 2;
+    table.thread_mut(2).next = 1;
+    table.thread_mut(1).next = 0;
+    violation(plain.compare(&table), "waiting threads");
+}
+
+#[test]
+fn woken() {
+    let (mut table, plain) = checked_run(TWO_WAIT);
+    table.thread_mut(2).phase = Phase::Resume;
+    violation(plain.compare(&table), "thread 2 is woken");
+    let (mut table, plain) = checked_run(&format!("{TWO_WAIT} E3 S3 S3 S3 N3 S3"));
+    assert_eq!(table.thread(1).phase, Phase::Queued(Onward::Resume));
+    table.thread_mut(1).phase = Phase::Queued(Onward::Inflate);
+    violation(plain.compare(&table), "0 woken threads");
+}
+
+#[test]
+fn stranding() {
+    let (mut table, mut plain) = checked_run("E1 S1 E2 S2 S2 S2 S2 X1 S1");
+    assert_eq!(table.thread(2).phase, Phase::Contending);
+    // Thread 1 ends its exit without looking at the flag.
+    *table.thread_mut(1) = Default::default();
+    let ended = Outcome::of(Returned::Finished);
+    plain.feed(STEP_1, ended).expect("an exit");
+    violation(plain.compare(&table), "thread 2 is stranded on object 1");
+}
+
+#[test]
+fn schedules_without_events() {
+    for input in ["", "L 1 1 0", "L 33 1 0\nE 1 1\n", "L 1 1 0\n", "x\n"] {
+        assert_eq!(check_schedule(input.as_bytes()), Ok(()));
+    }
+}
