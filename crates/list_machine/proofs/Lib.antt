@@ -1,0 +1,22 @@
+-- Tables with chains as lists, the invariant that every event keeps, and demand 3 over these tables.
+pub mod Objects
+pub mod Perform
+pub mod Turns
+pub mod Tables
+pub mod Invariant
+pub mod Reliances
+pub mod Membership
+pub mod OtherThreads
+pub mod Facts
+pub mod Parts
+pub mod LookRules
+pub mod NotifyRules
+pub mod StoreRules
+pub mod EntryRules
+pub mod ExitRules
+pub mod WaitRules
+pub mod Steps
+pub mod Lift
+pub mod Progress
+pub mod Claim
+pub mod Listing

@@ -1,0 +1,79 @@
+-- What an effect does to the lock word, and what the chain actions do to the threads that they move: document 01, "Steps".
+use Prim.Native.Nat.{ℕ, _-_}
+use lib.Dec.{eqb}
+use Rattle.laws.specs.Choice.{pick}
+use Rattle.lock_rules.specs.Rules.{onward}
+use Rattle.lock_rules.specs.declared.vocabulary.Carried.the-variants.{ToResume}
+use Rattle.lock_rules.specs.declared.vocabulary.Doing.{Doing}
+use Rattle.lock_rules.specs.declared.vocabulary.Doing.the-variants.{EnterLook, EnterStore, EnterCancel, EnterGoIn, EnterCheck, EnterTry, ExitLook}
+use Rattle.lock_rules.specs.declared.vocabulary.Doing.the-variants.{ExitStore, ExitGoIn, ExitTest, ExitTell, ExitLeave, WaitLook, WaitCancel, WaitGoIn}
+use Rattle.lock_rules.specs.declared.vocabulary.Doing.the-variants.{WaitInflate, WaitGiveUp, WaitResume, NotifyLook, NotifyAllLook}
+use Rattle.lock_rules.specs.declared.vocabulary.ThreadState.{ThreadState}
+use Rattle.lock_rules.specs.declared.vocabulary.ThreadState.the-variants.{Idle, Running, Queued, Contending, Waiting}
+use Rattle.lock_rules.specs.declared.vocabulary.WordSeen.{WordSeen}
+use Rattle.lock_rules.specs.declared.vocabulary.WordSeen.the-variants.{Free, Anonymous, Fat, Flat, Reserved}
+use Rattle.lock_rules.specs.declared.vocabulary.WordChange.{WordChange}
+use Rattle.lock_rules.specs.declared.vocabulary.WordChange.the-variants.{Unchanged, Freed, OwnFlat, OwnReserved, Cancelled, Inflated}
+
+-- a reserved word with count c becomes free if c is 0, else flat for its thread with count c - 1; a word not reserved stays
+abbrev pub cancelled : WordSeen → WordSeen
+cancelled Free = Free
+cancelled Anonymous = Free
+cancelled Fat = Fat
+cancelled (Flat thread count) = Flat thread count
+cancelled (Reserved thread count) = pick (eqb count 0) Free (Flat thread (count - 1))
+
+-- the word after a step of `thread`
+abbrev pub word-after : ℕ → WordChange → WordSeen → WordSeen
+word-after thread Unchanged word = word
+word-after thread Freed word = Free
+word-after thread (OwnFlat count) word = Flat thread count
+word-after thread (OwnReserved count) word = Reserved thread count
+word-after thread Cancelled word = cancelled word
+word-after thread Inflated word = Fat
+
+-- the first of the entry chain takes its carried phase
+abbrev pub handed : ThreadState → ThreadState
+handed Idle = Idle
+handed (Running doing) = Running doing
+handed (Queued carried) = Running (onward carried)
+handed Contending = Contending
+handed (Waiting suspension) = Waiting suspension
+
+-- a waiter is woken: queued, carrying 15
+abbrev pub notified : ThreadState → ThreadState
+notified Idle = Idle
+notified (Running doing) = Running doing
+notified (Queued carried) = Queued carried
+notified Contending = Contending
+notified (Waiting suspension) = Queued (ToResume suspension)
+
+-- a thread in phase 2 goes back to 1
+abbrev pub look-again : Doing → Doing
+look-again EnterLook = EnterLook
+look-again (EnterStore count) = EnterLook
+look-again EnterCancel = EnterCancel
+look-again EnterGoIn = EnterGoIn
+look-again EnterCheck = EnterCheck
+look-again EnterTry = EnterTry
+look-again ExitLook = ExitLook
+look-again (ExitStore count) = ExitLook
+look-again ExitGoIn = ExitGoIn
+look-again ExitTest = ExitTest
+look-again ExitTell = ExitTell
+look-again ExitLeave = ExitLeave
+look-again WaitLook = WaitLook
+look-again WaitCancel = WaitCancel
+look-again WaitGoIn = WaitGoIn
+look-again WaitInflate = WaitInflate
+look-again WaitGiveUp = WaitGiveUp
+look-again (WaitResume suspension) = WaitResume suspension
+look-again NotifyLook = NotifyLook
+look-again NotifyAllLook = NotifyAllLook
+
+abbrev pub sent-back : ThreadState → ThreadState
+sent-back Idle = Idle
+sent-back (Running doing) = Running (look-again doing)
+sent-back (Queued carried) = Queued carried
+sent-back Contending = Contending
+sent-back (Waiting suspension) = Waiting suspension

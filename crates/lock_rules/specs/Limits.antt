@@ -1,0 +1,10 @@
+-- The greatest depth of a monitor and the greatest count of a lock word.
+use Prim.Native.Nat.{ℕ}
+
+-- document 01, "Returned first": enter at this depth is 19
+abbrev pub depth-limit : ℕ
+depth-limit = 65535
+
+-- document 01, "Lock words": the count has bits 2 to 7
+abbrev pub count-limit : ℕ
+count-limit = 63

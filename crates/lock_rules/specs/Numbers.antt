@@ -1,0 +1,72 @@
+-- The numbers that document 01 gives to operations, phases and answers.
+use Prim.Native.Nat.{ℕ}
+use lib.Dec.{eqb}
+use Rattle.laws.specs.Choice.{pick}
+use Rattle.lock_rules.specs.declared.vocabulary.Operation.the-variants.{Enter, Exit, Wait, Notify, NotifyAll}
+use Rattle.lock_rules.specs.declared.vocabulary.Asked.{Asked}
+use Rattle.lock_rules.specs.declared.vocabulary.Asked.the-variants.{Unknown, Known}
+use Rattle.lock_rules.specs.declared.vocabulary.Doing.{Doing}
+use Rattle.lock_rules.specs.declared.vocabulary.Doing.the-variants.{EnterLook, EnterStore, EnterCancel, EnterGoIn, EnterCheck, EnterTry, ExitLook}
+use Rattle.lock_rules.specs.declared.vocabulary.Doing.the-variants.{ExitStore, ExitGoIn, ExitTest, ExitTell, ExitLeave, WaitLook, WaitCancel, WaitGoIn}
+use Rattle.lock_rules.specs.declared.vocabulary.Doing.the-variants.{WaitInflate, WaitGiveUp, WaitResume, NotifyLook, NotifyAllLook}
+use Rattle.lock_rules.specs.declared.vocabulary.ThreadState.{ThreadState}
+use Rattle.lock_rules.specs.declared.vocabulary.ThreadState.the-variants.{Idle, Running, Queued, Contending, Waiting}
+use Rattle.lock_rules.specs.declared.vocabulary.Answer.{Answer}
+use Rattle.lock_rules.specs.declared.vocabulary.Answer.the-variants.{GoneOn, Finished, Parked, NotOwner, TooDeep, NoRule}
+
+-- the operation of a number
+unfoldable pub asked-for : ℕ → Asked
+asked-for number =
+    pick (eqb number 1) (Known Enter)
+    (pick (eqb number 2) (Known Exit)
+    (pick (eqb number 3) (Known Wait)
+    (pick (eqb number 4) (Known Notify)
+    (pick (eqb number 5) (Known NotifyAll) Unknown))))
+
+-- the phase of a thread that can take a step
+abbrev pub phase-of-doing : Doing → ℕ
+phase-of-doing EnterLook = 1
+phase-of-doing (EnterStore count) = 2
+phase-of-doing EnterCancel = 3
+phase-of-doing EnterGoIn = 4
+phase-of-doing EnterCheck = 6
+phase-of-doing EnterTry = 7
+phase-of-doing ExitLook = 1
+phase-of-doing (ExitStore count) = 2
+phase-of-doing ExitGoIn = 4
+phase-of-doing ExitTest = 9
+phase-of-doing ExitTell = 10
+phase-of-doing ExitLeave = 11
+phase-of-doing WaitLook = 1
+phase-of-doing WaitCancel = 3
+phase-of-doing WaitGoIn = 4
+phase-of-doing WaitInflate = 12
+phase-of-doing WaitGiveUp = 13
+phase-of-doing (WaitResume suspension) = 15
+phase-of-doing NotifyLook = 1
+phase-of-doing NotifyAllLook = 1
+
+abbrev pub phase-of : ThreadState → ℕ
+phase-of Idle = 0
+phase-of (Running doing) = phase-of-doing doing
+phase-of (Queued carried) = 5
+phase-of Contending = 8
+phase-of (Waiting suspension) = 14
+
+-- document 01, "Returned first"
+abbrev pub returned-of : Answer → ℕ
+returned-of GoneOn = 0
+returned-of (Finished woken) = 1
+returned-of Parked = 2
+returned-of NotOwner = 18
+returned-of TooDeep = 19
+returned-of NoRule = 20
+
+-- with a finished operation, the threads woken by a notify; else 0
+abbrev pub woken-of : Answer → ℕ
+woken-of GoneOn = 0
+woken-of (Finished woken) = woken
+woken-of Parked = 0
+woken-of NotOwner = 0
+woken-of TooDeep = 0
+woken-of NoRule = 0

@@ -1,0 +1,2 @@
+-- Laws of the plain monitors.
+pub mod Commits
