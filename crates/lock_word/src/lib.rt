@@ -20,6 +20,7 @@ pub use reading::Decoded;
 pub use reading::LockWord;
 pub use reading::MonitorNumber;
 pub use reading::ThreadNumber;
+pub use reading::count_of;
 pub use reading::read_word;
 pub use writing::anonymous_word;
 pub use writing::fat_word;

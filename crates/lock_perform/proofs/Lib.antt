@@ -1,0 +1,2 @@
+-- The laws of performing.
+pub mod Lengths

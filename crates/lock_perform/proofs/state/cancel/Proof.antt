@@ -1,0 +1,23 @@
+-- `lock_perform::state::cancel` meets its contract: each way through the code is that of the definition.
+use borrow.Author.Needs.{needs}
+use Rattle.lock_perform.specs.State.{cancelOf}
+use Rattle.lock_perform.proofs.state.cancel.Statement.{statement}
+use Rattle.lock_perform.proofs.state.cancel.Tie as tie
+
+pub cancel-spec : {M : Type 1} → statement M
+unfolding cancelOf
+cancel-spec =
+    tie.close
+    (tie.spec
+    (λ c. search needs)
+    (λ c. search needs)
+    (λ c. search needs)
+    (λ c. search needs)
+    (λ c. search needs)
+    (λ c. search needs)
+    (λ c. simp (c .enum-told .given .1))
+    (λ c. simp (c .enum-told2 .given .1))
+    (λ c. simp (c .enum-told3 .given .1))
+    (λ c. simp (c .enum-told4 .given .1))
+    (λ c. simp (c .enum-told5 .given .1))
+    (λ c. simp (c .enum-told6 .given .1)))

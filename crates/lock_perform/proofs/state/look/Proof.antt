@@ -1,0 +1,23 @@
+-- `lock_perform::state::look` meets its contract: each way through the code is that of the definition.
+use borrow.Author.Needs.{needs}
+use Rattle.lock_perform.specs.State.{lookOf}
+use Rattle.lock_perform.proofs.state.look.Statement.{statement}
+use Rattle.lock_perform.proofs.state.look.Tie as tie
+
+pub look-spec : {M : Type 1} → statement M
+unfolding lookOf
+look-spec =
+    tie.close
+    (tie.spec
+    (λ c. search needs)
+    (λ c. search needs)
+    (λ c. search needs)
+    (λ c. search needs)
+    (λ c. search needs)
+    (λ c. search needs)
+    (λ c. simp (c .enum-told .given .1))
+    (λ c. simp (c .enum-told2 .given .1))
+    (λ c. simp (c .enum-told3 .given .1))
+    (λ c. simp (c .enum-told4 .given .1))
+    (λ c. simp (c .enum-told5 .given .1))
+    (λ c. simp (c .enum-told6 .given .1)))

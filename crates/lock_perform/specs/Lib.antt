@@ -1,0 +1,5 @@
+-- What a step does to the table's records, in document 01's words.
+pub mod State
+pub mod Sight
+pub mod Moving
+pub mod Perform

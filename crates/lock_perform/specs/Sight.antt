@@ -1,0 +1,41 @@
+-- What a rule sees of its object: the word as it is read, flag, holder, depth, which chains are empty, how many wait.
+use Prim.Native.Nat.{ℕ}
+use lib.Dec.{eqb}
+use Rattle.chains.specs.Chain.{chain-length}
+use Rattle.lock_word.specs.declared.reading.LockWord.{LockWord}
+use Rattle.lock_word.specs.declared.reading.LockWord.the-variants.{Free, Flat, Anonymous, Reserved, Fat}
+use Rattle.lock_rules.specs.declared.vocabulary.WordSeen.{WordSeen}
+use Rattle.lock_rules.specs.declared.vocabulary.WordSeen.the-variants.{
+  Free as SeenFree,
+  Flat as SeenFlat,
+  Anonymous as SeenAnonymous,
+  Reserved as SeenReserved,
+  Fat as SeenFat,
+}
+use Rattle.lock_rules.specs.declared.vocabulary.Sight.{Sight}
+use Rattle.lock_table.specs.Limits.{thread-limit}
+use Rattle.lock_table.specs.Access.{nextOf}
+use Rattle.lock_table.specs.declared.record.ObjectRecord.{ObjectRecord}
+use Rattle.lock_table.specs.declared.record.Table.{Table}
+
+unfoldable pub seenOf : LockWord → WordSeen
+seenOf Free = SeenFree
+seenOf (Flat thread count) = SeenFlat (thread .0) count
+seenOf Anonymous = SeenAnonymous
+seenOf (Reserved thread count) = SeenReserved (thread .0) count
+seenOf (Fat monitor) = SeenFat
+
+abbrev pub sightWith : ObjectRecord → WordSeen → ℕ → Sight
+sightWith object word waiters =
+    record {
+      word = word;
+      flag = object .flag;
+      holder = object .monitor .holder;
+      depth = object .monitor .depth;
+      entryempty = eqb (object .monitor .entry) 0;
+      contentionempty = eqb (object .monitor .contention) 0;
+      waiters = waiters;
+    }
+
+abbrev pub sightOf : Table → ObjectRecord → LockWord → Sight
+sightOf table object word = sightWith object (seenOf word) (chain-length thread-limit (nextOf table) (object .monitor .waiting))
