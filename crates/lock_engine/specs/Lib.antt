@@ -1,0 +1,4 @@
+-- What the engine gives back for every event on every table, in document 01's words.
+pub mod Outcome
+pub mod Begin
+pub mod Step
