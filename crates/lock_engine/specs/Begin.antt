@@ -2,8 +2,8 @@
 use Prim.Native.Nat.{ℕ}
 use mathlib.Core.Bool.{Bool, false}
 use Rattle.laws.specs.Choice.{pick, within}
-use Rattle.lock_rules.specs.declared.vocabulary.ThreadState.{ThreadState}
-use Rattle.lock_rules.specs.declared.vocabulary.ThreadState.the-variants.{Idle, Running, Queued, Contending, Waiting}
+use Rattle.lock_rules.specs.declared.ThreadState.{ThreadState}
+use Rattle.lock_rules.specs.declared.ThreadState.the-variants.{Idle, Running, Queued, Contending, Waiting}
 use Rattle.lock_table.specs.Operation.{operationFromOf}
 use Rattle.lock_table.specs.Access.{threadAt, setThread}
 use Rattle.lock_table.specs.declared.operation.Operation.{Operation}

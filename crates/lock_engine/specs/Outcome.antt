@@ -1,12 +1,18 @@
 -- The replies and document 01's numbers for them ("Returned first").
 use Prim.Native.Nat.{ℕ}
 use mathlib.Core.Bool.{false}
-use Rattle.lock_rules.specs.declared.vocabulary.Answer.{Answer}
-use Rattle.lock_rules.specs.declared.vocabulary.Answer.the-variants.{GoneOn, Finished, Parked, NotOwner, TooDeep, NoRule}
+use Rattle.lock_rules.specs.declared.Answer.{Answer}
+use Rattle.lock_rules.specs.declared.Answer.the-variants.{GoneOn, Finished, Parked, NotOwner, TooDeep, NoRule}
 use Rattle.lock_table.specs.declared.record.Table.{Table}
 use Rattle.lock_engine.specs.declared.outcome.Refusal.{Refusal}
 use Rattle.lock_engine.specs.declared.outcome.Refusal.the-variants.{
-  NotSound, NoSuchThread, NoSuchObject, NotIdle, ThreadIdle, ThreadParked, NoSuchOperation
+  NotSound,
+  NoSuchThread,
+  NoSuchObject,
+  NotIdle,
+  ThreadIdle,
+  ThreadParked,
+  NoSuchOperation,
 }
 use Rattle.lock_engine.specs.declared.outcome.Reply.{Reply}
 use Rattle.lock_engine.specs.declared.outcome.Reply.the-variants.{Begun, Refused, Answered}

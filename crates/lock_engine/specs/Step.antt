@@ -6,12 +6,12 @@ use Rattle.lock_word.specs.Read.{decodeOf}
 use Rattle.lock_word.specs.declared.reading.Decoded.{Decoded}
 use Rattle.lock_word.specs.declared.reading.Decoded.the-variants.{Valid, Invalid}
 use Rattle.lock_rules.specs.Rules.{decide}
-use Rattle.lock_rules.specs.declared.vocabulary.Doing.{Doing}
-use Rattle.lock_rules.specs.declared.vocabulary.ThreadState.{ThreadState}
-use Rattle.lock_rules.specs.declared.vocabulary.ThreadState.the-variants.{Idle, Running, Queued, Contending, Waiting}
-use Rattle.lock_rules.specs.declared.vocabulary.Answer.the-variants.{NoRule}
-use Rattle.lock_rules.specs.declared.vocabulary.Action.{Action}
-use Rattle.lock_rules.specs.declared.vocabulary.Action.the-variants.{Unruled, Do}
+use Rattle.lock_rules.specs.declared.Doing.{Doing}
+use Rattle.lock_rules.specs.declared.ThreadState.{ThreadState}
+use Rattle.lock_rules.specs.declared.ThreadState.the-variants.{Idle, Running, Queued, Contending, Waiting}
+use Rattle.lock_rules.specs.declared.Answer.the-variants.{NoRule}
+use Rattle.lock_rules.specs.declared.Action.{Action}
+use Rattle.lock_rules.specs.declared.Action.the-variants.{Unruled, Do}
 use Rattle.lock_table.specs.Access.{threadAt, objectAt}
 use Rattle.lock_table.specs.declared.record.ThreadRecord.{ThreadRecord}
 use Rattle.lock_table.specs.declared.record.ObjectRecord.{ObjectRecord}

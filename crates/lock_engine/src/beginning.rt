@@ -39,7 +39,13 @@ fn accept(table: Table, thread: u8, operation: Operation, object: u8) -> Outcome
 }
 
 // 14.
-fn begin_thread(table: Table, thread: u8, operation: Operation, object: u8, state: ThreadState) -> Outcome
+fn begin_thread(
+    table: Table,
+    thread: u8,
+    operation: Operation,
+    object: u8,
+    state: ThreadState,
+) -> Outcome
     ensures { λ r. ⌜ r ≡ beginThread table thread operation object state ⌝ }
 {
     match state {
@@ -52,17 +58,35 @@ fn begin_thread(table: Table, thread: u8, operation: Operation, object: u8, stat
 }
 
 // 13.
-fn begin_object(table: Table, thread: u8, operation: Operation, object: u8, inrange: bool) -> Outcome
+fn begin_object(
+    table: Table,
+    thread: u8,
+    operation: Operation,
+    object: u8,
+    inrange: bool,
+) -> Outcome
     ensures { λ r. ⌜ r ≡ beginObject table thread operation object inrange ⌝ }
 {
     if inrange {
-        return begin_thread(table, thread, operation, object, read_thread(thread_at(table, thread)));
+        return begin_thread(
+            table,
+            thread,
+            operation,
+            object,
+            read_thread(thread_at(table, thread)),
+        );
     }
     refuse(table, Refusal::NoSuchObject)
 }
 
 // 17.
-fn begin_operation(table: Table, thread: u8, operation: Operation, object: u8, inrange: bool) -> Outcome
+fn begin_operation(
+    table: Table,
+    thread: u8,
+    operation: Operation,
+    object: u8,
+    inrange: bool,
+) -> Outcome
     ensures { λ r. ⌜ r ≡ beginOperation table thread operation object inrange ⌝ }
 {
     match operation {
@@ -81,7 +105,13 @@ fn begin_ranged(table: Table, thread: u8, operation: u8, object: u8, inrange: bo
 {
     if inrange {
         let objectinrange = (1 <= object) & (object <= table.objectcount);
-        return begin_operation(table, thread, operation_from(operation), object, objectinrange);
+        return begin_operation(
+            table,
+            thread,
+            operation_from(operation),
+            object,
+            objectinrange,
+        );
     }
     refuse(table, Refusal::NoSuchThread)
 }
@@ -101,5 +131,11 @@ fn begin_gated(table: Table, thread: u8, operation: u8, object: u8, issound: boo
 pub fn begin(table: Table, thread: u8, operation: u8, object: u8) -> Outcome
     ensures { λ r. ⌜ r ≡ beginOf table thread operation object ⌝ }
 {
-    begin_gated(table, thread, operation, object, lock_soundness::sound(table))
+    begin_gated(
+        table,
+        thread,
+        operation,
+        object,
+        lock_soundness::sound(table),
+    )
 }

@@ -1,7 +1,7 @@
 // The lock engine: a thread begins an operation or takes a single step, and the table comes back with a reply (document 01, "Returned first").
 // Every table and every number is answered; what cannot be done is refused with the first refusal that applies.
-mod outcome;
 mod beginning;
+mod outcome;
 mod stepping;
 
 pub use beginning::begin;

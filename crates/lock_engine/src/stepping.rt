@@ -3,6 +3,7 @@ use crate::outcome::Outcome;
 use crate::outcome::Refusal;
 use crate::outcome::Reply;
 use crate::outcome::refuse;
+use lock_decide::decide;
 use lock_perform::perform;
 use lock_perform::read_thread;
 use lock_perform::sight;
@@ -10,7 +11,6 @@ use lock_rules::Action;
 use lock_rules::Answer;
 use lock_rules::Doing;
 use lock_rules::ThreadState;
-use lock_rules::decide;
 use lock_table::ObjectRecord;
 use lock_table::Table;
 use lock_table::ThreadRecord;
@@ -43,13 +43,26 @@ fn settle(table: Table, thread: u8, number: u8, object: ObjectRecord, action: Ac
 }
 
 // What is no lock word is no sound table's; the test before has seen to it that this does not occur.
-fn step_word(table: Table, thread: u8, number: u8, object: ObjectRecord, doing: Doing, decoded: Decoded) -> Outcome
+fn step_word(
+    table: Table,
+    thread: u8,
+    number: u8,
+    object: ObjectRecord,
+    doing: Doing,
+    decoded: Decoded,
+) -> Outcome
     ensures { λ r. ⌜ r ≡ stepWord table thread number object doing decoded ⌝ }
 {
     let Decoded::Valid(word) = decoded else {
         return refuse(table, Refusal::NotSound);
     };
-    settle(table, thread, number, object, decide(thread, sight(table, object, word), doing))
+    settle(
+        table,
+        thread,
+        number,
+        object,
+        decide(thread, sight(table, object, word), doing),
+    )
 }
 
 fn step_running(table: Table, thread: u8, number: u8, object: ObjectRecord, doing: Doing) -> Outcome
@@ -64,7 +77,13 @@ fn step_thread(table: Table, thread: u8, number: u8, state: ThreadState) -> Outc
 {
     match state {
         ThreadState::Idle => refuse(table, Refusal::ThreadIdle),
-        ThreadState::Running(doing) => step_running(table, thread, number, object_at(table, number), doing),
+        ThreadState::Running(doing) => step_running(
+            table,
+            thread,
+            number,
+            object_at(table, number),
+            doing,
+        ),
         ThreadState::Queued(_) => refuse(table, Refusal::ThreadParked),
         ThreadState::Contending => refuse(table, Refusal::ThreadParked),
         ThreadState::Waiting(_) => refuse(table, Refusal::ThreadParked),

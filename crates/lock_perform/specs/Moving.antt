@@ -2,9 +2,9 @@
 use Prim.Native.Nat.{ℕ}
 use lib.Dec.{eqb, ltb}
 use Rattle.laws.specs.Choice.{pick}
-use Rattle.lock_rules.specs.declared.vocabulary.ChainAction.{ChainAction}
-use Rattle.lock_rules.specs.declared.vocabulary.ChainAction.the-variants.{Stay, JoinEntry, Contend, GiveUp, HandOver, AdmitContenders, TellFirst}
-use Rattle.lock_rules.specs.declared.vocabulary.ChainAction.the-variants.{WakeFirst, WakeAll, SendBack}
+use Rattle.lock_rules.specs.declared.ChainAction.{ChainAction}
+use Rattle.lock_rules.specs.declared.ChainAction.the-variants.{Stay, JoinEntry, Contend, GiveUp, HandOver, AdmitContenders, TellFirst}
+use Rattle.lock_rules.specs.declared.ChainAction.the-variants.{WakeFirst, WakeAll, SendBack}
 use Rattle.lock_table.specs.Limits.{thread-limit}
 use Rattle.lock_table.specs.Access.{threadAt, setThread, nextOf}
 use Rattle.lock_table.specs.Monitor.{handOf, joinEntry, joinContention, joinWaiting, admitContenders, tellFirst, wakeFirst, wakeAll}

@@ -3,10 +3,10 @@ use Prim.Native.Nat.{ℕ}
 use mathlib.Core.Bool.{Bool}
 use Rattle.lock_word.specs.Write.{freeWord, flatWord, reservedWord, fatWord}
 use Rattle.lock_word.specs.Meaning.{cancelOf}
-use Rattle.lock_rules.specs.declared.vocabulary.ThreadState.{ThreadState}
-use Rattle.lock_rules.specs.declared.vocabulary.WordChange.{WordChange}
-use Rattle.lock_rules.specs.declared.vocabulary.WordChange.the-variants.{Unchanged, Freed, OwnFlat, OwnReserved, Cancelled, Inflated}
-use Rattle.lock_rules.specs.declared.vocabulary.Effect.{Effect}
+use Rattle.lock_rules.specs.declared.ThreadState.{ThreadState}
+use Rattle.lock_rules.specs.declared.WordChange.{WordChange}
+use Rattle.lock_rules.specs.declared.WordChange.the-variants.{Unchanged, Freed, OwnFlat, OwnReserved, Cancelled, Inflated}
+use Rattle.lock_rules.specs.declared.Effect.{Effect}
 use Rattle.lock_table.specs.Access.{setThread, setObject, nextOf}
 use Rattle.lock_table.specs.Monitor.{heldBy, withDepth}
 use Rattle.lock_table.specs.declared.record.Monitor.{Monitor}

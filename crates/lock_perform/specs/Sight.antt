@@ -4,15 +4,15 @@ use lib.Dec.{eqb}
 use Rattle.chains.specs.Chain.{chain-length}
 use Rattle.lock_word.specs.declared.reading.LockWord.{LockWord}
 use Rattle.lock_word.specs.declared.reading.LockWord.the-variants.{Free, Flat, Anonymous, Reserved, Fat}
-use Rattle.lock_rules.specs.declared.vocabulary.WordSeen.{WordSeen}
-use Rattle.lock_rules.specs.declared.vocabulary.WordSeen.the-variants.{
+use Rattle.lock_rules.specs.declared.WordSeen.{WordSeen}
+use Rattle.lock_rules.specs.declared.WordSeen.the-variants.{
   Free as SeenFree,
   Flat as SeenFlat,
   Anonymous as SeenAnonymous,
   Reserved as SeenReserved,
   Fat as SeenFat,
 }
-use Rattle.lock_rules.specs.declared.vocabulary.Sight.{Sight}
+use Rattle.lock_rules.specs.declared.Sight.{Sight}
 use Rattle.lock_table.specs.Limits.{thread-limit}
 use Rattle.lock_table.specs.Access.{nextOf}
 use Rattle.lock_table.specs.declared.record.ObjectRecord.{ObjectRecord}

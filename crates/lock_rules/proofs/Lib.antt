@@ -1,1 +1,30 @@
--- Laws of the rules.
+-- Proof devices: tables with chains as lists, the invariant that every event keeps, demand 3 over these tables, and that a sound one stays sound.
+pub mod Commits
+pub mod Objects
+pub mod Perform
+pub mod Turns
+pub mod Tables
+pub mod Invariant
+pub mod Reliances
+pub mod Membership
+pub mod OtherThreads
+pub mod Facts
+pub mod Refine
+pub mod Parts
+pub mod LookRules
+pub mod NotifyRules
+pub mod StoreRules
+pub mod EntryRules
+pub mod ExitRules
+pub mod WaitRules
+pub mod Steps
+pub mod Lift
+pub mod Progress
+pub mod Claim
+pub mod Listing
+pub mod ListSound
+pub mod SoundEffects
+pub mod SoundPerform
+pub mod ListChains
+pub mod SoundKept
+pub mod Standing

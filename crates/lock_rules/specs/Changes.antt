@@ -3,17 +3,17 @@ use Prim.Native.Nat.{ℕ, _-_}
 use lib.Dec.{eqb}
 use Rattle.laws.specs.Choice.{pick}
 use Rattle.lock_rules.specs.Rules.{onward}
-use Rattle.lock_rules.specs.declared.vocabulary.Carried.the-variants.{ToResume}
-use Rattle.lock_rules.specs.declared.vocabulary.Doing.{Doing}
-use Rattle.lock_rules.specs.declared.vocabulary.Doing.the-variants.{EnterLook, EnterStore, EnterCancel, EnterGoIn, EnterCheck, EnterTry, ExitLook}
-use Rattle.lock_rules.specs.declared.vocabulary.Doing.the-variants.{ExitStore, ExitGoIn, ExitTest, ExitTell, ExitLeave, WaitLook, WaitCancel, WaitGoIn}
-use Rattle.lock_rules.specs.declared.vocabulary.Doing.the-variants.{WaitInflate, WaitGiveUp, WaitResume, NotifyLook, NotifyAllLook}
-use Rattle.lock_rules.specs.declared.vocabulary.ThreadState.{ThreadState}
-use Rattle.lock_rules.specs.declared.vocabulary.ThreadState.the-variants.{Idle, Running, Queued, Contending, Waiting}
-use Rattle.lock_rules.specs.declared.vocabulary.WordSeen.{WordSeen}
-use Rattle.lock_rules.specs.declared.vocabulary.WordSeen.the-variants.{Free, Anonymous, Fat, Flat, Reserved}
-use Rattle.lock_rules.specs.declared.vocabulary.WordChange.{WordChange}
-use Rattle.lock_rules.specs.declared.vocabulary.WordChange.the-variants.{Unchanged, Freed, OwnFlat, OwnReserved, Cancelled, Inflated}
+use Rattle.lock_rules.specs.declared.Carried.the-variants.{ToResume}
+use Rattle.lock_rules.specs.declared.Doing.{Doing}
+use Rattle.lock_rules.specs.declared.Doing.the-variants.{EnterLook, EnterStore, EnterCancel, EnterGoIn, EnterCheck, EnterTry, ExitLook}
+use Rattle.lock_rules.specs.declared.Doing.the-variants.{ExitStore, ExitGoIn, ExitTest, ExitTell, ExitLeave, WaitLook, WaitCancel, WaitGoIn}
+use Rattle.lock_rules.specs.declared.Doing.the-variants.{WaitInflate, WaitGiveUp, WaitResume, NotifyLook, NotifyAllLook}
+use Rattle.lock_rules.specs.declared.ThreadState.{ThreadState}
+use Rattle.lock_rules.specs.declared.ThreadState.the-variants.{Idle, Running, Queued, Contending, Waiting}
+use Rattle.lock_rules.specs.declared.WordSeen.{WordSeen}
+use Rattle.lock_rules.specs.declared.WordSeen.the-variants.{Free, Anonymous, Fat, Flat, Reserved}
+use Rattle.lock_rules.specs.declared.WordChange.{WordChange}
+use Rattle.lock_rules.specs.declared.WordChange.the-variants.{Unchanged, Freed, OwnFlat, OwnReserved, Cancelled, Inflated}
 
 -- a reserved word with count c becomes free if c is 0, else flat for its thread with count c - 1; a word not reserved stays
 abbrev pub cancelled : WordSeen → WordSeen

@@ -1,7 +1,12 @@
--- What a step decides, after document 01: limits, who owns an object, numbers, rules, and what an effect does to a word and to a thread.
+-- What a step decides, and the plain monitors that it must agree with: document 01, "Steps" and "Plain monitors".
 pub mod Limits
+pub mod Operations
 pub mod Ownership
 pub mod Numbers
+pub mod Actions
 pub mod Rules
 pub mod Changes
 pub mod Status
+pub mod Events
+pub mod PlainMonitor
+pub mod Feed

@@ -2,8 +2,8 @@
 use Prim.Native.Nat.{ℕ, _+_}
 use lib.Dec.{eqb}
 use Rattle.laws.specs.Choice.{pick}
-use Rattle.lock_rules.specs.declared.vocabulary.WordSeen.{WordSeen}
-use Rattle.lock_rules.specs.declared.vocabulary.WordSeen.the-variants.{Free, Anonymous, Fat, Flat, Reserved}
+use Rattle.lock_rules.specs.declared.WordSeen.{WordSeen}
+use Rattle.lock_rules.specs.declared.WordSeen.the-variants.{Free, Anonymous, Fat, Flat, Reserved}
 
 -- the owner by the word and the monitor's holder and depth; 0 is nobody
 abbrev pub owner-of : WordSeen → ℕ → ℕ → ℕ

@@ -1,120 +1,32 @@
 -- The rules of all steps: document 01, "Steps", phase by phase in its order. (c) there is `commits = true` here; "else 20" is `Unruled`.
 use Prim.Native.Nat.{ℕ, _+_, _-_}
-use mathlib.Core.Bool.{Bool, true, false}
+use mathlib.Core.Bool.{true, false}
 use lib.Dec.{eqb, ltb}
 use Rattle.laws.specs.Choice.{pick, both}
+use Rattle.lock_rules.specs.Actions.{keep-object, go-on, not-owner, finish, finish-word, finish-depth, let-go, inflate, cancel-word}
+use Rattle.lock_rules.specs.Actions.{become-holder, raise-flag}
 use Rattle.lock_rules.specs.Limits.{depth-limit, count-limit}
 use Rattle.lock_rules.specs.Ownership.{owner-of}
-use Rattle.lock_rules.specs.declared.vocabulary.Operation.{Operation}
-use Rattle.lock_rules.specs.declared.vocabulary.Operation.the-variants.{Enter, Exit, Wait, Notify, NotifyAll}
-use Rattle.lock_rules.specs.declared.vocabulary.Suspension.{Suspension}
-use Rattle.lock_rules.specs.declared.vocabulary.Carried.{Carried}
-use Rattle.lock_rules.specs.declared.vocabulary.Carried.the-variants.{ToCheck, ToTell, ToInflate, ToResume}
-use Rattle.lock_rules.specs.declared.vocabulary.Doing.{Doing}
-use Rattle.lock_rules.specs.declared.vocabulary.Doing.the-variants.{EnterLook, EnterStore, EnterCancel, EnterGoIn, EnterCheck, EnterTry, ExitLook}
-use Rattle.lock_rules.specs.declared.vocabulary.Doing.the-variants.{ExitStore, ExitGoIn, ExitTest, ExitTell, ExitLeave, WaitLook, WaitCancel, WaitGoIn}
-use Rattle.lock_rules.specs.declared.vocabulary.Doing.the-variants.{WaitInflate, WaitGiveUp, WaitResume, NotifyLook, NotifyAllLook}
-use Rattle.lock_rules.specs.declared.vocabulary.ThreadState.{ThreadState}
-use Rattle.lock_rules.specs.declared.vocabulary.ThreadState.the-variants.{Idle, Running, Queued, Contending, Waiting}
-use Rattle.lock_rules.specs.declared.vocabulary.WordSeen.{WordSeen}
-use Rattle.lock_rules.specs.declared.vocabulary.WordSeen.the-variants.{Free, Anonymous, Fat, Flat, Reserved}
-use Rattle.lock_rules.specs.declared.vocabulary.WordChange.{WordChange}
-use Rattle.lock_rules.specs.declared.vocabulary.WordChange.the-variants.{Unchanged, Freed, OwnFlat, OwnReserved, Cancelled, Inflated}
-use Rattle.lock_rules.specs.declared.vocabulary.Sight.{Sight}
-use Rattle.lock_rules.specs.declared.vocabulary.ChainAction.{ChainAction}
-use Rattle.lock_rules.specs.declared.vocabulary.ChainAction.the-variants.{Stay, JoinEntry, Contend, GiveUp, HandOver, AdmitContenders, TellFirst}
-use Rattle.lock_rules.specs.declared.vocabulary.ChainAction.the-variants.{WakeFirst, WakeAll, SendBack}
-use Rattle.lock_rules.specs.declared.vocabulary.Answer.{Answer}
-use Rattle.lock_rules.specs.declared.vocabulary.Answer.the-variants.{GoneOn, Finished, Parked, NotOwner, TooDeep, NoRule}
-use Rattle.lock_rules.specs.declared.vocabulary.Action.{Action}
-use Rattle.lock_rules.specs.declared.vocabulary.Action.the-variants.{Unruled, Do}
-
--- the chains, the thread's state and the answer, with word and monitor as they are
-abbrev pub leaving-object : Sight → ChainAction → ThreadState → Answer → Bool → Action
-leaving-object sight chains state answer commits =
-    Do
-    (record {
-      chains = chains;
-      state = state;
-      word = Unchanged;
-      flag = sight .flag;
-      holder = sight .holder;
-      depth = sight .depth;
-      answer = answer;
-      commits = commits;
-    })
-
--- to another phase
-abbrev pub go-on : Sight → Doing → Action
-go-on sight doing = leaving-object sight Stay (Running doing) GoneOn false
-
--- 18 (c)
-abbrev pub not-owner : Sight → Action
-not-owner sight = leaving-object sight Stay Idle NotOwner true
-
--- finish (c), with nothing changed
-abbrev pub finish : Sight → Action
-finish sight = leaving-object sight Stay Idle (Finished 0) true
-
--- finish (c), with another word
-abbrev pub finish-word : Sight → WordChange → Action
-finish-word sight word =
-    Do
-    (record {
-      chains = Stay;
-      state = Idle;
-      word = word;
-      flag = sight .flag;
-      holder = sight .holder;
-      depth = sight .depth;
-      answer = Finished 0;
-      commits = true;
-    })
-
--- finish (c), with another depth of the monitor
-abbrev pub finish-depth : Sight → ℕ → Action
-finish-depth sight depth =
-    Do
-    (record {
-      chains = Stay;
-      state = Idle;
-      word = Unchanged;
-      flag = sight .flag;
-      holder = sight .holder;
-      depth = depth;
-      answer = Finished 0;
-      commits = true;
-    })
-
--- an exit lets go (c), and goes on
-abbrev pub let-go : Sight → WordChange → ℕ → Doing → Action
-let-go sight word depth doing =
-    Do
-    (record {
-      chains = Stay;
-      state = Running doing;
-      word = word;
-      flag = sight .flag;
-      holder = sight .holder;
-      depth = depth;
-      answer = GoneOn;
-      commits = true;
-    })
-
--- inflate to a depth: word fat, flag 0, all contenders to the entry chain
-abbrev pub inflate : Sight → ℕ → ThreadState → Answer → Bool → Action
-inflate sight depth state answer commits =
-    Do
-    (record {
-      chains = AdmitContenders;
-      state = state;
-      word = Inflated;
-      flag = false;
-      holder = sight .holder;
-      depth = depth;
-      answer = answer;
-      commits = commits;
-    })
+use Rattle.lock_rules.specs.Operations.{Operation}
+use Rattle.lock_rules.specs.Operations.{Enter, Exit, Wait, Notify, NotifyAll}
+use Rattle.lock_rules.specs.declared.Suspension.{Suspension}
+use Rattle.lock_rules.specs.declared.Carried.{Carried}
+use Rattle.lock_rules.specs.declared.Carried.the-variants.{ToCheck, ToTell, ToInflate, ToResume}
+use Rattle.lock_rules.specs.declared.Doing.{Doing}
+use Rattle.lock_rules.specs.declared.Doing.the-variants.{EnterLook, EnterStore, EnterCancel, EnterGoIn, EnterCheck, EnterTry, ExitLook}
+use Rattle.lock_rules.specs.declared.Doing.the-variants.{ExitStore, ExitGoIn, ExitTest, ExitTell, ExitLeave, WaitLook, WaitCancel, WaitGoIn}
+use Rattle.lock_rules.specs.declared.Doing.the-variants.{WaitInflate, WaitGiveUp, WaitResume, NotifyLook, NotifyAllLook}
+use Rattle.lock_rules.specs.declared.ThreadState.the-variants.{Idle, Running, Queued, Contending, Waiting}
+use Rattle.lock_rules.specs.declared.WordSeen.{WordSeen}
+use Rattle.lock_rules.specs.declared.WordSeen.the-variants.{Free, Anonymous, Fat, Flat, Reserved}
+use Rattle.lock_rules.specs.declared.WordChange.{WordChange}
+use Rattle.lock_rules.specs.declared.WordChange.the-variants.{Unchanged, Freed, OwnFlat, OwnReserved}
+use Rattle.lock_rules.specs.declared.Sight.{Sight}
+use Rattle.lock_rules.specs.declared.ChainAction.the-variants.{Stay, JoinEntry, Contend, GiveUp, HandOver, TellFirst, WakeFirst, WakeAll}
+use Rattle.lock_rules.specs.declared.ChainAction.the-variants.{SendBack}
+use Rattle.lock_rules.specs.declared.Answer.the-variants.{GoneOn, Finished, Parked, TooDeep}
+use Rattle.lock_rules.specs.declared.Action.{Action}
+use Rattle.lock_rules.specs.declared.Action.the-variants.{Unruled}
 
 -- begin sets phase 1
 abbrev pub begun : Operation → Doing
@@ -131,6 +43,14 @@ onward ToTell = ExitTell
 onward ToInflate = WaitInflate
 onward (ToResume suspension) = WaitResume suspension
 
+-- phases 6, 7, 10 to 13 and 15 need the thread as holder, else 20
+abbrev pub holder-only : ℕ → Sight → Action → Action
+holder-only thread sight action = pick (eqb (sight .holder) thread) action Unruled
+
+-- exit, wait and notify: not the owner, 18 (c)
+abbrev pub owner-only : ℕ → Sight → ℕ → Action → Action
+owner-only thread sight owner action = pick (eqb owner thread) action (not-owner sight)
+
 -- the owner of the object in sight
 abbrev pub owner-seen : Sight → ℕ
 owner-seen sight = owner-of (sight .word) (sight .holder) (sight .depth)
@@ -146,20 +66,17 @@ enter-look thread sight (Flat owner count) =
 enter-look thread sight (Reserved owner count) =
     pick (eqb owner thread) (pick (ltb count count-limit) (go-on sight (EnterStore count)) (go-on sight EnterCancel)) (go-on sight EnterCancel)
 
--- the word of a monitor that its owner lets go: free if all three chains are empty
-abbrev pub deflated : Sight → WordChange
-deflated sight = pick (both (sight .entryempty) (both (sight .contentionempty) (eqb (sight .waiters) 0))) Freed Unchanged
+-- word free if all three chains are empty
+abbrev pub deflation : Sight → WordChange
+deflation sight = pick (both (sight .entryempty) (both (sight .contentionempty) (eqb (sight .waiters) 0))) Freed Unchanged
 
 -- 1 look, exit, by the owner: flat count above 0, count - 1, finish (c); flat count 0, word free (c), to 9; reserved, keep, to 2;
 -- fat depth above 1, depth - 1, finish (c); fat depth 1, depth 0 (c), word free if all three chains are empty, to 11. Nobody owns the first two words.
 unfoldable pub exit-owned : Sight → WordSeen → Action
 exit-owned sight Free = not-owner sight
 exit-owned sight Anonymous = not-owner sight
-exit-owned sight Fat =
-    pick (eqb (sight .depth) 1)
-    (let-go sight (deflated sight) 0 ExitLeave)
-    (finish-depth sight (sight .depth - 1))
-exit-owned sight (Flat owner count) = pick (eqb count 0) (let-go sight Freed (sight .depth) ExitTest) (finish-word sight (OwnFlat (count - 1)))
+exit-owned sight Fat = pick (ltb 1 (sight .depth)) (finish-depth sight (sight .depth - 1)) (let-go sight (deflation sight) 0 ExitLeave)
+exit-owned sight (Flat owner count) = pick (ltb 0 count) (finish-word sight (OwnFlat (count - 1))) (let-go sight Freed (sight .depth) ExitTest)
 exit-owned sight (Reserved owner count) = go-on sight (ExitStore count)
 
 -- 1 look, wait, by the owner: flat to 4, reserved to 3, fat to 13
@@ -174,7 +91,7 @@ wait-owned sight (Reserved owner count) = go-on sight WaitCancel
 unfoldable pub notify-owned : Sight → WordSeen → Action
 notify-owned sight Free = not-owner sight
 notify-owned sight Anonymous = not-owner sight
-notify-owned sight Fat = pick (eqb (sight .waiters) 0) (finish sight) (leaving-object sight WakeFirst Idle (Finished 1) true)
+notify-owned sight Fat = pick (eqb (sight .waiters) 0) (finish sight) (keep-object sight WakeFirst Idle (Finished 1) true)
 notify-owned sight (Flat owner count) = finish sight
 notify-owned sight (Reserved owner count) = finish sight
 
@@ -182,13 +99,9 @@ notify-owned sight (Reserved owner count) = finish sight
 unfoldable pub notify-all-owned : Sight → WordSeen → Action
 notify-all-owned sight Free = not-owner sight
 notify-all-owned sight Anonymous = not-owner sight
-notify-all-owned sight Fat = leaving-object sight WakeAll Idle (Finished (sight .waiters)) true
+notify-all-owned sight Fat = keep-object sight WakeAll Idle (Finished (sight .waiters)) true
 notify-all-owned sight (Flat owner count) = finish sight
 notify-all-owned sight (Reserved owner count) = finish sight
-
--- 1 look, the rest: not the owner, 18 (c)
-abbrev pub owner-only : ℕ → Sight → ℕ → Action → Action
-owner-only thread sight owner action = pick (eqb owner thread) action (not-owner sight)
 
 -- 2 store: write the kept word with count + 1 (enter) or - 1 (exit), finish (c). A sound table keeps no count 63 for enter and no count 0 for exit.
 unfoldable pub enter-store : Sight → ℕ → Action
@@ -198,20 +111,6 @@ unfoldable pub exit-store : Sight → ℕ → Action
 exit-store sight count = pick (eqb count 0) Unruled (finish-word sight (OwnReserved (count - 1)))
 
 -- 3 cancel: a reserved word is cancelled; its thread, if in phase 2 on this object, goes back to 1. A word not reserved stays. To 1.
-abbrev pub cancel-word : Sight → ChainAction → Doing → Action
-cancel-word sight chains look =
-    Do
-    (record {
-      chains = chains;
-      state = Running look;
-      word = Cancelled;
-      flag = sight .flag;
-      holder = sight .holder;
-      depth = sight .depth;
-      answer = GoneOn;
-      commits = false;
-    })
-
 unfoldable pub cancel : Sight → Doing → WordSeen → Action
 cancel sight look Free = go-on sight look
 cancel sight look Anonymous = cancel-word sight Stay look
@@ -223,50 +122,18 @@ cancel sight look (Reserved owner count) = cancel-word sight (SendBack owner) lo
 unfoldable pub go-in-again : Sight → Carried → Action
 go-in-again sight ToCheck =
     pick (eqb (sight .depth) 0) Unruled
-    (pick (ltb (sight .depth) depth-limit) (finish-depth sight (sight .depth + 1)) (leaving-object sight Stay Idle TooDeep true))
+    (pick (ltb (sight .depth) depth-limit) (finish-depth sight (sight .depth + 1)) (keep-object sight Stay Idle TooDeep true))
 go-in-again sight ToTell = Unruled
 go-in-again sight ToInflate = Unruled
 go-in-again sight (ToResume suspension) = Unruled
 
 -- 4 go in: holder 0, become holder; to 6, 10 or 12 for enter, exit, wait. Holder another: join entry, phase 5, carrying that same 6, 10 or 12.
-abbrev pub become-holder : ℕ → Sight → Doing → Action
-become-holder thread sight doing =
-    Do
-    (record {
-      chains = Stay;
-      state = Running doing;
-      word = Unchanged;
-      flag = sight .flag;
-      holder = thread;
-      depth = sight .depth;
-      answer = GoneOn;
-      commits = false;
-    })
-
 unfoldable pub go-in : ℕ → Sight → Carried → Action
 go-in thread sight carried =
     pick (eqb (sight .holder) 0) (become-holder thread sight (onward carried))
-    (pick (eqb (sight .holder) thread) (go-in-again sight carried) (leaving-object sight JoinEntry (Queued carried) Parked false))
-
--- phases 6, 7, 10 to 13 and 15 need the thread as holder, else 20
-abbrev pub holder-only : ℕ → Sight → Action → Action
-holder-only thread sight action = pick (eqb (sight .holder) thread) action Unruled
+    (pick (eqb (sight .holder) thread) (go-in-again sight carried) (keep-object sight JoinEntry (Queued carried) Parked false))
 
 -- 6 check: fat and depth 0, depth 1, finish (c). Flat own, inflate to count + 2, finish (c). Free or flat of another, flag 1, to 7. Else 20.
-abbrev pub raise-flag : Sight → Action
-raise-flag sight =
-    Do
-    (record {
-      chains = Stay;
-      state = Running EnterTry;
-      word = Unchanged;
-      flag = true;
-      holder = sight .holder;
-      depth = sight .depth;
-      answer = GoneOn;
-      commits = false;
-    })
-
 unfoldable pub enter-check : ℕ → Sight → WordSeen → Action
 enter-check thread sight Free = raise-flag sight
 enter-check thread sight Anonymous = Unruled
@@ -279,21 +146,22 @@ unfoldable pub enter-try : ℕ → Sight → WordSeen → Action
 enter-try thread sight Free = inflate sight 1 Idle (Finished 0) true
 enter-try thread sight Anonymous = Unruled
 enter-try thread sight Fat = Unruled
-enter-try thread sight (Flat owner count) = pick (eqb owner thread) Unruled (leaving-object sight Contend Contending Parked false)
+enter-try thread sight (Flat owner count) = pick (eqb owner thread) Unruled (keep-object sight Contend Contending Parked false)
 enter-try thread sight (Reserved owner count) = Unruled
 
 -- 9 test: flag 0, finish; flag 1, to 4
 unfoldable pub exit-test : Sight → Action
-exit-test sight = pick (sight .flag) (go-on sight ExitGoIn) (leaving-object sight Stay Idle (Finished 0) false)
+exit-test sight = pick (sight .flag) (go-on sight ExitGoIn) (keep-object sight Stay Idle (Finished 0) false)
 
 -- 10 tell: if the flag is 1, the first contender, if any, goes to entry carrying 6. To 11.
 unfoldable pub exit-tell : Sight → Action
 exit-tell sight =
-    pick (sight .flag) (pick (sight .contentionempty) (go-on sight ExitLeave) (leaving-object sight TellFirst (Running ExitLeave) GoneOn false)) (go-on sight ExitLeave)
+    pick (sight .flag) (pick (sight .contentionempty) (go-on sight ExitLeave) (keep-object sight TellFirst (Running ExitLeave) GoneOn false))
+    (go-on sight ExitLeave)
 
 -- 11 leave: depth 0, hand, finish; else 20
 unfoldable pub exit-leave : Sight → Action
-exit-leave sight = pick (eqb (sight .depth) 0) (leaving-object sight HandOver Idle (Finished 0) false) Unruled
+exit-leave sight = pick (eqb (sight .depth) 0) (keep-object sight HandOver Idle (Finished 0) false) Unruled
 
 -- 12 inflate: flat own, inflate to count + 1, to 13; else 20
 unfoldable pub wait-inflate : ℕ → Sight → WordSeen → Action
@@ -308,7 +176,7 @@ unfoldable pub wait-give-up : Sight → WordSeen → Action
 wait-give-up sight Free = Unruled
 wait-give-up sight Anonymous = Unruled
 wait-give-up sight Fat =
-    pick (eqb (sight .depth) 0) Unruled (leaving-object sight GiveUp (Waiting (record { depth = sight .depth })) Parked true)
+    pick (eqb (sight .depth) 0) Unruled (keep-object sight GiveUp (Waiting (record { depth = sight .depth })) Parked true)
 wait-give-up sight (Flat owner count) = Unruled
 wait-give-up sight (Reserved owner count) = Unruled
 

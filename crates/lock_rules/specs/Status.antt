@@ -3,8 +3,8 @@ use mathlib.Core.Bool.{Bool, true, false}
 use lib.Dec.{eqb}
 use Rattle.lock_rules.specs.Numbers.{phase-of-doing}
 use Rattle.lock_rules.specs.Rules.{onward}
-use Rattle.lock_rules.specs.declared.vocabulary.ThreadState.{ThreadState}
-use Rattle.lock_rules.specs.declared.vocabulary.ThreadState.the-variants.{Idle, Running, Queued, Contending, Waiting}
+use Rattle.lock_rules.specs.declared.ThreadState.{ThreadState}
+use Rattle.lock_rules.specs.declared.ThreadState.the-variants.{Idle, Running, Queued, Contending, Waiting}
 
 -- woken means carrying 15 or in 15
 abbrev pub is-woken : ThreadState → Bool

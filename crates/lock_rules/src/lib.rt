@@ -1,20 +1,121 @@
-// What a step decides: from what a thread is doing and what it sees of its object to one action (document 01, "Steps").
+// What a thread is doing, what it sees of its object, and what a step decides: document 01, "The table" and "Steps".
 // Nothing here knows of tables or of the links of a chain.
-mod actions;
-mod look;
-mod monitor;
-mod rules;
-mod vocabulary;
 
-pub use rules::decide;
-pub use vocabulary::Action;
-pub use vocabulary::Answer;
-pub use vocabulary::Carried;
-pub use vocabulary::ChainAction;
-pub use vocabulary::Doing;
-pub use vocabulary::Effect;
-pub use vocabulary::Sight;
-pub use vocabulary::Suspension;
-pub use vocabulary::ThreadState;
-pub use vocabulary::WordChange;
-pub use vocabulary::WordSeen;
+// What a wait keeps from giving the monitor up until it resumes.
+pub struct Suspension {
+    pub depth: u16, // saved depth
+}
+
+// What a queued thread goes on with when the monitor is handed to it.
+pub enum Carried {
+    ToCheck, // 6, an enter
+    ToTell, // 10, an exit
+    ToInflate, // 12, a wait
+    ToResume(Suspension), // 15, a woken wait
+}
+
+// Operation and phase of a thread that can take a step. A store holds the count of its kept word.
+pub enum Doing {
+    EnterLook, // enter, 1 look
+    EnterStore(u8), // enter, 2 store
+    EnterCancel, // enter, 3 cancel
+    EnterGoIn, // enter, 4 go in
+    EnterCheck, // enter, 6 check
+    EnterTry, // enter, 7 try
+    ExitLook, // exit, 1 look
+    ExitStore(u8), // exit, 2 store
+    ExitGoIn, // exit, 4 go in
+    ExitTest, // exit, 9 test
+    ExitTell, // exit, 10 tell
+    ExitLeave, // exit, 11 leave
+    WaitLook, // wait, 1 look
+    WaitCancel, // wait, 3 cancel
+    WaitGoIn, // wait, 4 go in
+    WaitInflate, // wait, 12 inflate
+    WaitGiveUp, // wait, 13 wait
+    WaitResume(Suspension), // wait, 15 resume
+    NotifyLook, // notify, 1 look
+    NotifyAllLook, // notify all, 1 look
+}
+
+// A thread: idle, able to take a step, or parked in one of the three chains of its object.
+pub enum ThreadState {
+    Idle, // 0
+    Running(Doing), // every other phase
+    Queued(Carried), // 5, in the entry chain
+    Contending, // 8, in the contention chain
+    Waiting(Suspension), // 14, in the waiting chain
+}
+
+// A lock word as the rules see it. The numbers are a thread and a count; a fat word's number is its object.
+pub enum WordSeen {
+    Free,
+    Anonymous, // reserved for nobody yet
+    Fat,
+    Flat(u16, u8), // owned by the thread, at depth count + 1
+    Reserved(u16, u8), // reserved for the thread, and owned by it at depth count if that is above 0
+}
+
+// What a rule does to the word. A rule puts no thread but its own into a word.
+pub enum WordChange {
+    Unchanged,
+    Freed,
+    OwnFlat(u8), // flat for the thread, with this count
+    OwnReserved(u8), // reserved for the thread, with this count
+    Cancelled, // reserved with count c: free if c is 0, else flat for its thread with count c - 1
+    Inflated, // fat
+}
+
+// What a rule sees of its object.
+pub struct Sight {
+    pub word: WordSeen,
+    pub flag: bool, // contention flag
+    pub holder: u8, // the monitor's holder, 0 for none
+    pub depth: u16, // the monitor's depth
+    pub entryempty: bool, // nobody is in the entry chain
+    pub contentionempty: bool, // nobody is in the contention chain
+    pub waiters: u8, // how many are in the waiting chain
+}
+
+// What a step does with the chains of its object.
+pub enum ChainAction {
+    Stay, // nothing
+    JoinEntry, // the thread joins entry
+    Contend, // the thread joins contention, then hands the monitor over
+    GiveUp, // the thread joins waiting, then hands the monitor over
+    HandOver, // the first of entry leaves it and becomes holder at depth 0
+    AdmitContenders, // all contenders move in order to entry, carrying 6
+    TellFirst, // the first contender moves to entry, carrying 6
+    WakeFirst, // the first waiter moves to entry, carrying 15
+    WakeAll, // all waiters move in order to entry, carrying 15
+    SendBack(u16), // that thread, if it is at its store, goes back to its look
+}
+
+// What a step answers.
+pub enum Answer {
+    GoneOn, // 0
+    Finished(u8), // 1, with the number of threads woken
+    Parked, // 2
+    NotOwner, // 18
+    TooDeep, // 19
+    NoRule, // 20
+}
+
+// What a rule does: the chains, the thread's next state, the word, flag, holder and depth after it, the answer, and whether it commits.
+// Where the chain action hands the monitor over, holder and depth are set by the handing.
+pub struct Effect {
+    pub chains: ChainAction,
+    pub state: ThreadState,
+    pub word: WordChange,
+    pub flag: bool,
+    pub holder: u8,
+    pub depth: u16,
+    pub answer: Answer,
+    pub commits: bool,
+}
+
+// What a step decides: no rule fits, or one is carried out.
+pub enum Action {
+    Unruled, // 20, and nothing changes
+    Do(Effect),
+}

@@ -25,7 +25,7 @@ returns c =
     let loop = c .before .before in
     let next = nextOf (loop .before .args .t1) in
     let none : chain-length (loop .loop .left) next (loop .loop .at) ≡ 0 =
-        chain-length-step (c .before .loop-test .taken) next (loop .loop .at) ∙ rw (eq-eqb (loop .loop .at) 0 (c .if1 .taken)) in
+    chain-length-step (c .before .loop-test .taken) next (loop .loop .at) ∙ rw (eq-eqb (loop .loop .at) 0 (c .if1 .taken)) in
     omega (arith, loop .loop .inv .1, none)
 
 returns-2 : tie.Need-returns-2 Inv-loop μ-loop
@@ -34,8 +34,8 @@ returns-2 c =
     let t = loop .before .args .t1 in
     let at = loop .loop .at in
     let one : chain-length (loop .loop .left) (nextOf t) at ≡ 1 =
-        chain-length-step (c .before .before .loop-test .taken) (nextOf t) at
-          ∙ rw (ne-eqb at 0 (c .before .if1 .left), next-past t at (c .if2 .taken), length-none (loop .loop .left - 1) (nextOf t)) in
+    chain-length-step (c .before .before .loop-test .taken) (nextOf t) at
+    ∙ rw (ne-eqb at 0 (c .before .if1 .left), next-past t at (c .if2 .taken), length-none (loop .loop .left - 1) (nextOf t)) in
     omega (arith, loop .loop .inv .1, one)
 
 loop-again : tie.Need-loop-again Inv-loop μ-loop
@@ -45,9 +45,10 @@ loop-again c =
     let t = loop .before .args .t1 in
     let at = loop .loop .at in
     let turn : chain-length (loop .loop .left) (nextOf t) at ≡ 1 + chain-length (loop .loop .left - 1) (nextOf t) (nextOf t at) =
-        chain-length-step (tests .before .before .loop-test .taken) (nextOf t) at ∙ rw (ne-eqb at 0 (tests .before .if1 .left)) in
-    (omega (arith, tests .before .before .loop-test .taken),
-      rw (next-in t at (tests .before .if1 .left) (tests .if2 .left)) at (one-more t at (loop .loop .left) (loop .loop .passed) (loop .before .args .first) (loop .loop .inv .1) turn))
+    chain-length-step (tests .before .before .loop-test .taken) (nextOf t) at ∙ rw (ne-eqb at 0 (tests .before .if1 .left)) in (
+      omega (arith, tests .before .before .loop-test .taken),
+      rw (next-in t at (tests .before .if1 .left) (tests .if2 .left)) at (one-more t at (loop .loop .left) (loop .loop .passed) (loop .before .args .first) (loop .loop .inv .1) turn),
+    )
 
 returns-3 : tie.Need-returns-3 Inv-loop μ-loop
 returns-3 c =

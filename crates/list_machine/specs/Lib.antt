@@ -1,1 +1,0 @@
--- No contract cites this crate.

@@ -1,0 +1,261 @@
+-- Facts that the rules share: what a new word owes to the others, when contenders are not stranded, who owns, and who stays idle.
+use Prim.Native.Nat.{_≤_, ℕ, zero, suc, _+_, _<_}
+use mathlib.Core.Path.{_≡_, refl, sym, ap, _∙_}
+use mathlib.Core.Logic.{_≢_, _⊎_, inl, inr}
+use mathlib.Core.Bool.{Bool, true, false}
+use mathlib.Core.List.{List, [], _∷_}
+use native.Mathlib.Omega.{arith}
+use lib.Dec.{ltb, T, eqb}
+use lib.ListN.{length}
+use borrow.Author.Tests.{eqb-true, eqb-false, ltb-true, ltb-false, eq-eqb, ne-eqb}
+use Rattle.laws.specs.Choice.{pick}
+use Rattle.laws.specs.Update.{update}
+use Rattle.laws.specs.Count.{count}
+use Rattle.laws.proofs.Choice.{by-test, equal?, Equal, equal}
+use Rattle.laws.proofs.Update.{update-same, update-other}
+use Rattle.laws.proofs.Count.{count-same}
+use Rattle.lock_rules.specs.Ownership.{owner-of}
+use Rattle.lock_rules.specs.Changes.{handed, notified}
+use Rattle.lock_rules.specs.declared.Suspension.{Suspension}
+use Rattle.lock_rules.specs.declared.ThreadState.{ThreadState}
+use Rattle.lock_rules.specs.declared.ThreadState.the-variants.{Idle}
+use Rattle.lock_rules.specs.declared.WordSeen.{WordSeen}
+use Rattle.lock_rules.specs.declared.WordSeen.the-variants.{Free, Anonymous, Fat, Flat, Reserved}
+use Rattle.lock_rules.specs.PlainMonitor.{PlainMonitor, above-zero}
+use Rattle.lock_rules.proofs.Objects.{ListObject}
+use Rattle.lock_rules.proofs.Perform.{enter-queue, entered≢nil, handed-states, admitted-states, all-notified-states}
+use Rattle.lock_rules.proofs.Invariant.{unreserved, seat, telling?, leaving?, in-entry, in-contention, in-waiting, Ghost, ThreadOk}
+use Rattle.lock_rules.proofs.Invariant.{MonitorOk, FlagOk, Told, Unstranded, Invariant}
+use Rattle.lock_rules.proofs.Reliances.{KeepsReliance}
+
+-- either side of a test, with what the test says there
+pub by-equal : {A : Type 0} (P : A → Type 0) (a b : ℕ) {x y : A} → (a ≡ b → P x) → (a ≢ b → P y) → P (pick (eqb a b) x y)
+by-equal P a b same other = by-test P (eqb a b) (λ e. same (eqb-true a b e)) (λ e. other (eqb-false a b e))
+
+pub by-below : {A : Type 0} (P : A → Type 0) (a b : ℕ) {x y : A} → (a < b → P x) → (b ≤ a → P y) → P (pick (ltb a b) x y)
+by-below P a b under over = by-test P (ltb a b) (λ e. under (ltb-true a b e)) (λ e. over (ltb-false a b e))
+
+-- what a new word owes to another thread t than the one that steps
+module _ (state : ThreadState) (thread t holder : ℕ) (n : t ≢ thread) where
+  pub keeps-taken : (c : ℕ) → KeepsReliance state t Free (Flat thread c) holder
+  keeps-taken c =
+      record {
+        unreserved = λ a. tt;
+        flat = λ a. absurd a;
+        chained = λ l a. absurd a;
+        held = λ e a. absurd a;
+        not-own = λ a k. n (sym k);
+        kept = λ c a. absurd a;
+      }
+
+  pub keeps-flat : (owner c d : ℕ) → owner ≡ thread → KeepsReliance state t (Flat owner c) (Flat thread d) holder
+  keeps-flat owner c d q =
+      record {
+        unreserved = λ a. tt;
+        flat = λ a. absurd (n (sym a ∙ q));
+        chained = λ l a. absurd a;
+        held = λ e a. absurd a;
+        not-own = λ a k. n (sym k);
+        kept = λ c a. absurd a;
+      }
+
+  pub keeps-freed : (owner c : ℕ) → owner ≡ thread → KeepsReliance state t (Flat owner c) Free holder
+  keeps-freed owner c q =
+      record {
+        unreserved = λ a. tt;
+        flat = λ a. absurd (n (sym a ∙ q));
+        chained = λ l a. absurd a;
+        held = λ e a. absurd a;
+        not-own = λ a. tt;
+        kept = λ c a. absurd a;
+      }
+
+  pub keeps-anonymous : (word : WordSeen) → KeepsReliance state t Anonymous word holder
+  keeps-anonymous word =
+      record {
+        unreserved = λ a. absurd a;
+        flat = λ a. absurd a;
+        chained = λ l a. absurd a;
+        held = λ e a. absurd a;
+        not-own = λ a. absurd a;
+        kept = λ c a. absurd a;
+      }
+
+  pub keeps-reserved : (owner c d : ℕ) → owner ≡ thread → KeepsReliance state t (Reserved owner c) (Reserved thread d) holder
+  keeps-reserved owner c d q =
+      record {
+        unreserved = λ a. absurd a;
+        flat = λ a. absurd a;
+        chained = λ l a. absurd a;
+        held = λ e a. absurd a;
+        not-own = λ a. absurd a;
+        kept = λ c a. absurd (n (sym (a .0) ∙ q));
+      }
+
+  -- a monitor that its holder leaves, with nobody in a chain
+  pub keeps-deflated : holder ≡ thread → in-entry state ≡ 0 → in-waiting state ≡ 0 → KeepsReliance state t Fat Free holder
+  keeps-deflated q x y =
+      record {
+        unreserved = λ a. tt;
+        flat = λ a. absurd a;
+        chained = λ l a. absurd (omega (arith, l, x, y));
+        held = λ e a. absurd (n (sym e ∙ q));
+        not-own = λ a. absurd a;
+        kept = λ c a. absurd a;
+      }
+
+-- the contenders of a free word, when the thread goes from one state to another
+told-moved : (states : ℕ → ThreadState) (thread : ℕ) (old new : ThreadState) (holder : ℕ) (entry : List ℕ) → states thread ≡ old
+    → (T (telling? (seat old)) → T (telling? (seat new))) → (T (leaving? (seat new)) → holder ≡ thread → entry ≢ [])
+    → Told states holder entry → Told (update states thread new) holder entry
+told-moved states thread old new holder entry e keep last (inl (t, k)) = inl (t, by (equal? t thread))
+  where
+    by : (t ≡ thread) ⊎ (t ≢ thread) → T (telling? (seat (update states thread new t)))
+    by (inl q) = rw (q, update-same states thread new) (keep (rw (q, e) at k))
+    by (inr n) = rw (update-other states thread new t n) k
+told-moved states thread old new holder entry e keep last (inr (z, l)) = inr (z, by (equal? holder thread))
+  where
+    by : (holder ≡ thread) ⊎ (holder ≢ thread) → T (leaving? (seat (update states thread new holder))) → entry ≢ []
+    by (inl q) = rw (q, update-same states thread new) (λ k. last k q)
+    by (inr n) = rw (update-other states thread new holder n) l
+
+pub unstranded-moved : (word : WordSeen) (states : ℕ → ThreadState) (thread : ℕ) (old new : ThreadState) (holder : ℕ) (entry contention : List ℕ)
+    → states thread ≡ old
+    → (T (telling? (seat old)) → T (telling? (seat new))) → (T (leaving? (seat new)) → holder ≡ thread → entry ≢ [])
+    → Unstranded word states holder entry contention → Unstranded word (update states thread new) holder entry contention
+unstranded-moved Free states thread old new holder entry contention e keep last r = λ c. told-moved states thread old new holder entry e keep last (r c)
+unstranded-moved Anonymous states thread old new holder entry contention e keep last r = tt
+unstranded-moved Fat states thread old new holder entry contention e keep last r = tt
+unstranded-moved (Flat owner c) states thread old new holder entry contention e keep last r = tt
+unstranded-moved (Reserved owner c) states thread old new holder entry contention e keep last r = tt
+
+pub unstranded-told : (word : WordSeen) (states : ℕ → ThreadState) (holder : ℕ) (entry contention : List ℕ) → (contention ≢ [] → Told states holder entry)
+    → Unstranded word states holder entry contention
+unstranded-told Free states holder entry contention told = told
+unstranded-told Anonymous states holder entry contention told = tt
+unstranded-told Fat states holder entry contention told = tt
+unstranded-told (Flat owner c) states holder entry contention told = tt
+unstranded-told (Reserved owner c) states holder entry contention told = tt
+
+-- nobody contends; the thread holds the monitor and does not leave; somebody has just joined entry
+pub unstranded-empty : (word : WordSeen) (states : ℕ → ThreadState) (holder : ℕ) (entry contention : List ℕ) → contention ≡ []
+    → Unstranded word states holder entry contention
+unstranded-empty word states holder entry contention e = unstranded-told word states holder entry contention (λ c. absurd (c e))
+
+pub unstranded-held : (word : WordSeen) (states : ℕ → ThreadState) (thread : ℕ) (state : ThreadState) (entry contention : List ℕ) → thread ≢ 0
+    → (T (leaving? (seat state)) → ⊥) → Unstranded word (update states thread state) thread entry contention
+unstranded-held word states thread state entry contention z stays =
+    unstranded-told word (update states thread state) thread entry contention (λ c. inr (z, rw (update-same states thread state) (λ l. absurd (stays l))))
+
+pub unstranded-joined : (word : WordSeen) (states : ℕ → ThreadState) (first holder : ℕ) (entry contention : List ℕ) → holder ≢ 0
+    → Unstranded word states holder (enter-queue entry first) contention
+unstranded-joined word states first holder entry contention z =
+    unstranded-told word states holder (enter-queue entry first) contention (λ c. inr (z, λ k. entered≢nil entry first))
+
+pub flag-down : (word : WordSeen) (contention : List ℕ) → FlagOk word false contention → contention ≡ []
+flag-down Free contention x = x refl
+flag-down Anonymous contention x = x
+flag-down Fat contention x = x .1
+flag-down (Flat owner c) contention x = x refl
+flag-down (Reserved owner c) contention x = x
+
+-- nobody holds the monitor: its depth is 0
+pub unheld : (word : WordSeen) (holder depth : ℕ) → MonitorOk word holder depth → holder ≡ 0 → depth ≡ 0
+unheld Free holder depth m e = m
+unheld Anonymous holder depth m e = m
+unheld Fat holder zero m e = refl
+unheld Fat holder (suc depth) m e = absurd (m .1 (omega arith) e)
+unheld (Flat owner c) holder depth m e = m .0
+unheld (Reserved owner c) holder depth m e = m .0
+
+pub monitor-handed : (word : WordSeen) (holder next depth : ℕ) → MonitorOk word holder depth → MonitorOk word next 0
+monitor-handed Free holder next depth m = refl
+monitor-handed Anonymous holder next depth m = refl
+monitor-handed Fat holder next depth m = (omega arith, λ k. absurd (omega arith))
+monitor-handed (Flat owner c) holder next depth m = (refl, m .1, m .2)
+monitor-handed (Reserved owner c) holder next depth m = (refl, m .1, m .2)
+
+-- who owns: at depth 0 the holder does not matter; a fat word at a depth above 0 has its holder as owner; a reserved word with a count its thread
+pub owner-shallow : (word : WordSeen) (holder next : ℕ) → owner-of word holder 0 ≡ owner-of word next 0
+owner-shallow Free holder next = refl
+owner-shallow Anonymous holder next = refl
+owner-shallow Fat holder next = refl
+owner-shallow (Flat owner c) holder next = refl
+owner-shallow (Reserved owner c) holder next = refl
+
+pub fat-owner : (holder depth : ℕ) → 0 < depth → owner-of Fat holder depth ≡ holder
+fat-owner holder depth l = rw (ne-eqb depth 0 (omega (arith, l)))
+
+pub fat-unowned : (holder depth : ℕ) → depth ≡ 0 → owner-of Fat holder depth ≡ 0
+fat-unowned holder depth e = rw (eq-eqb depth 0 e)
+
+pub reserved-owner : (owner c holder depth : ℕ) → 0 < c → owner-of (Reserved owner c) holder depth ≡ owner
+reserved-owner owner c holder depth l = rw (ne-eqb c 0 (omega (arith, l)))
+
+pub reserved-unowned : (owner c holder depth : ℕ) → c ≡ 0 → owner-of (Reserved owner c) holder depth ≡ 0
+reserved-unowned owner c holder depth e = rw (eq-eqb c 0 e)
+
+-- the owner of a fat or a reserved word
+pub fat-owned : (holder depth thread : ℕ) → thread ≢ 0 → owner-of Fat holder depth ≡ thread → (0 < depth) × (holder ≡ thread)
+fat-owned holder depth thread z e = at (eqb depth 0) (equal depth 0) e
+  where
+    at : (b : Bool) → Equal b depth 0 → pick b 0 holder ≡ thread → (0 < depth) × (holder ≡ thread)
+    at true q e = absurd (z (sym e))
+    at false q e = (omega (arith, q), e)
+
+pub reserved-owned : (owner c thread : ℕ) → thread ≢ 0 → owner-of (Reserved owner c) 0 0 ≡ thread → (0 < c) × (owner ≡ thread)
+reserved-owned owner c thread z e = fat-owned owner c thread z e
+
+-- the first commit of an operation, and the second one of a wait
+pub first-commit : {n : ℕ} → n ≡ 0 → n + 1 ≡ 1
+first-commit e = ap (λ k. k + 1) e
+
+pub second-commit : {n : ℕ} → n ≡ 1 → n + 1 ≡ 2
+second-commit e = ap (λ k. k + 1) e
+
+-- nobody is in the list
+pub none : (xs : List ℕ) → length xs ≡ 0 → xs ≡ []
+none [] e = refl
+none (x ∷ xs) e = absurd (omega (arith, e))
+
+-- a thread that was idle still is, where a state is changed by a function that leaves idle as it is
+pub idle-update : (f : ThreadState → ThreadState) → f Idle ≡ Idle → (states : ℕ → ThreadState) (u t : ℕ) → states t ≡ Idle
+    → update states u (f (states u)) t ≡ Idle
+idle-update f fixed states u t e = at (equal? t u)
+  where
+    at : (t ≡ u) ⊎ (t ≢ u) → update states u (f (states u)) t ≡ Idle
+    at (inl q) = rw (← q, update-same states t (f (states t)), e) fixed
+    at (inr n) = update-other states u (f (states u)) t n ∙ e
+
+pub idle-handed : (states : ℕ → ThreadState) (queue : List ℕ) (t : ℕ) → states t ≡ Idle → handed-states states queue t ≡ Idle
+idle-handed states [] t e = e
+idle-handed states (first ∷ rest) t e = idle-update handed refl states first t e
+
+pub idle-all-notified : (states : ℕ → ThreadState) (waiters : List ℕ) (t : ℕ) → states t ≡ Idle → all-notified-states states waiters t ≡ Idle
+idle-all-notified states waiters t e = at (above-zero (count t waiters))
+  where
+    at : (b : Bool) → pick b (notified (states t)) (states t) ≡ Idle
+    at true = ap notified e
+    at false = e
+
+module _ (states : ℕ → ThreadState) (o : ListObject) (ghost : Ghost) (inv : Invariant states o ghost) where
+  pub idle-admitted : (t : ℕ) → states t ≡ Idle → admitted-states states (o .contention) t ≡ Idle
+  idle-admitted t e = let a : ThreadOk t Idle o (ghost .logs t) (ghost .woken t) (ghost .saved t) = rw e at (inv .threads t) in rw (a .placed .contention) e
+
+  pub first-queued : (first : ℕ) (rest : List ℕ) → o .entry ≡ first ∷ rest → (first ≢ 0) × (in-entry (states first) ≡ suc (count first rest))
+  first-queued first rest e =
+      let c : in-entry (states first) ≡ suc (count first rest) = sym (inv .threads first .placed .entry) ∙ (ap (count first) e ∙ count-same first rest) in
+      (λ q. (let b : in-entry (states 0) ≡ suc (count 0 rest) = rw q at c in absurd (omega (arith, rw (inv .whole .nobody) at b))), c)
+
+  pub contender-busy : (first : ℕ) (rest : List ℕ) → o .contention ≡ first ∷ rest → (t : ℕ) → states t ≡ Idle → first ≢ t
+  contender-busy first rest e t i q =
+      let c : in-contention (states first) ≡ suc (count first rest) = sym (inv .threads first .placed .contention) ∙ (ap (count first) e ∙ count-same first
+      rest) in
+      let b : in-contention (states t) ≡ suc (count t rest) = rw q at c in
+      omega (arith, rw i at b)
+
+-- two plain monitors with the same waiting, woken and saved
+pub same-monitor : {owner owner′ depth depth′ : ℕ} {waiting : List ℕ} {woken : ℕ → Bool} {saved : ℕ → Suspension} → owner ≡ owner′ → depth ≡ depth′
+    → _≡_ {A = PlainMonitor} (record { owner = owner; depth = depth; waiting = waiting; woken = woken; saved = saved })
+    (record { owner = owner′; depth = depth′; waiting = waiting; woken = woken; saved = saved })
+same-monitor {waiting = waiting} {woken = woken} {saved = saved} p q = λ k. record { owner = p k; depth = q k; waiting = waiting; woken = woken; saved = saved }

@@ -1,0 +1,313 @@
+-- What holds at one object, and of the threads as it sees them, after every schedule. Each part speaks only of what it reads, so that a change of anything
+-- else leaves it as it stands.
+use Prim.Native.Nat.{ℕ, _≤_, _<_}
+use mathlib.Core.Path.{_≡_}
+use mathlib.Core.Logic.{_≢_, _⊎_}
+use mathlib.Core.Bool.{Bool, true, false}
+use mathlib.Core.List.{List, []}
+use lib.Dec.{T}
+use Rattle.laws.specs.Choice.{pick}
+use Rattle.laws.specs.Update.{update}
+use Rattle.laws.specs.Count.{count}
+use Rattle.lock_rules.specs.Limits.{depth-limit, count-limit}
+use Rattle.lock_rules.specs.Rules.{onward}
+use Rattle.lock_rules.specs.Operations.{Operation}
+use Rattle.lock_rules.specs.Operations.{Enter, Exit, Wait, Notify, NotifyAll}
+use Rattle.lock_rules.specs.declared.Suspension.{Suspension}
+use Rattle.lock_rules.specs.declared.Carried.the-variants.{ToCheck, ToTell, ToInflate, ToResume}
+use Rattle.lock_rules.specs.declared.Doing.{Doing}
+use Rattle.lock_rules.specs.declared.Doing.the-variants.{EnterLook, EnterStore, EnterCancel, EnterGoIn, EnterCheck, EnterTry, ExitLook, ExitStore}
+use Rattle.lock_rules.specs.declared.Doing.the-variants.{ExitGoIn, ExitTest, ExitTell, ExitLeave, WaitLook, WaitCancel, WaitGoIn, WaitInflate}
+use Rattle.lock_rules.specs.declared.Doing.the-variants.{WaitGiveUp, WaitResume, NotifyLook, NotifyAllLook}
+use Rattle.lock_rules.specs.declared.ThreadState.{ThreadState}
+use Rattle.lock_rules.specs.declared.ThreadState.the-variants.{Idle, Running, Queued, Contending, Waiting}
+use Rattle.lock_rules.specs.declared.WordSeen.{WordSeen}
+use Rattle.lock_rules.specs.declared.WordSeen.the-variants.{Free, Anonymous, Fat, Flat, Reserved}
+use Rattle.lock_rules.specs.declared.Answer.the-variants.{Finished}
+use Rattle.lock_rules.specs.PlainMonitor.{PlainMonitor, Committed, commit}
+use Rattle.lock_rules.specs.Feed.{OperationLog, log-after, EndsRight}
+use Rattle.lock_rules.proofs.Objects.{ListObject, object-owner, owned-depth}
+use Rattle.lock_rules.proofs.Perform.{Performed}
+
+-- a thread's place in the monitor
+pub data Seat : Type 0 where
+  -- not in it; in a chain; an exit that has still to test the flag or to go in
+  outside parked telling : Seat
+  -- holder at depth 0; the same, about to leave; holder and owner
+  holding leaving owning : Seat
+
+-- what a thread relies on of word and flag
+pub data Reliance : Type 0 where
+  anything unreserved own-flat held-fat trying : Reliance
+  kept-to-enter kept-to-exit : ℕ → Reliance
+
+-- what its operation has committed: nothing; all that an exit commits; the giving up of a wait
+pub data Stage : Type 0 where
+  uncommitted all-committed given-up : Stage
+
+-- what it has saved
+pub data Saved : Type 0 where
+  nothing-saved : Saved
+  saves : Suspension → Saved
+
+pub record PhaseRow : Type 0 where
+  pub operation : Operation
+  pub seat : Seat
+  pub reliance : Reliance
+  pub stage : Stage
+  pub saved : Saved
+
+abbrev row-of : Operation → Seat → Reliance → Stage → PhaseRow
+row-of operation seat reliance stage = record { operation = operation; seat = seat; reliance = reliance; stage = stage; saved = nothing-saved }
+
+-- the table of the phases
+abbrev pub phase-row : Doing → PhaseRow
+phase-row EnterLook = row-of Enter outside anything uncommitted
+phase-row (EnterStore count) = row-of Enter outside (kept-to-enter count) uncommitted
+phase-row EnterCancel = row-of Enter outside anything uncommitted
+phase-row EnterGoIn = row-of Enter outside unreserved uncommitted
+phase-row EnterCheck = row-of Enter holding unreserved uncommitted
+phase-row EnterTry = row-of Enter holding trying uncommitted
+phase-row ExitLook = row-of Exit outside anything uncommitted
+phase-row (ExitStore count) = row-of Exit outside (kept-to-exit count) uncommitted
+phase-row ExitGoIn = row-of Exit telling unreserved all-committed
+phase-row ExitTest = row-of Exit telling unreserved all-committed
+phase-row ExitTell = row-of Exit holding unreserved all-committed
+phase-row ExitLeave = row-of Exit leaving anything all-committed
+phase-row WaitLook = row-of Wait outside anything uncommitted
+phase-row WaitCancel = row-of Wait outside anything uncommitted
+phase-row WaitGoIn = row-of Wait outside own-flat uncommitted
+phase-row WaitInflate = row-of Wait holding own-flat uncommitted
+phase-row WaitGiveUp = row-of Wait owning held-fat uncommitted
+phase-row (WaitResume suspension) = record { operation = Wait; seat = holding; reliance = held-fat; stage = given-up; saved = saves suspension }
+phase-row NotifyLook = row-of Notify outside anything uncommitted
+phase-row NotifyAllLook = row-of NotifyAll outside anything uncommitted
+
+abbrev pub seat : ThreadState → Seat
+seat Idle = outside
+seat (Running doing) = phase-row doing .seat
+seat (Queued carried) = parked
+seat Contending = parked
+seat (Waiting suspension) = parked
+
+abbrev pub telling? : Seat → Bool
+telling? outside = false
+telling? parked = false
+telling? telling = true
+telling? holding = false
+telling? leaving = false
+telling? owning = false
+
+abbrev pub leaving? : Seat → Bool
+leaving? outside = false
+leaving? parked = false
+leaving? telling = false
+leaving? holding = false
+leaving? leaving = true
+leaving? owning = false
+
+-- how often a thread is in each chain
+abbrev pub in-entry : ThreadState → ℕ
+in-entry Idle = 0
+in-entry (Running doing) = 0
+in-entry (Queued carried) = 1
+in-entry Contending = 0
+in-entry (Waiting suspension) = 0
+
+abbrev pub in-contention : ThreadState → ℕ
+in-contention Idle = 0
+in-contention (Running doing) = 0
+in-contention (Queued carried) = 0
+in-contention Contending = 1
+in-contention (Waiting suspension) = 0
+
+abbrev pub in-waiting : ThreadState → ℕ
+in-waiting Idle = 0
+in-waiting (Running doing) = 0
+in-waiting (Queued carried) = 0
+in-waiting Contending = 0
+in-waiting (Waiting suspension) = 1
+
+-- By holder and depth. HOLDS: in 6, 7, 10 to 13 and 15 the holder is the thread. OWNER: its depth is 0, but above 0 in 13.
+-- HOLD0: any other holder is at a depth above 0, and is no exit in 4 or 9 and not parked.
+abbrev pub Seated : Seat → ℕ → ℕ → ℕ → Type 0
+Seated outside t holder depth = holder ≡ t → t ≢ 0 → 0 < depth
+Seated parked t holder depth = (holder ≢ t) × (t ≢ 0)
+Seated telling t holder depth = (holder ≢ t) × (t ≢ 0)
+Seated holding t holder depth = (holder ≡ t) × (depth ≡ 0) × (t ≢ 0)
+Seated leaving t holder depth = (holder ≡ t) × (depth ≡ 0) × (t ≢ 0)
+Seated owning t holder depth = (holder ≡ t) × (0 < depth) × (t ≢ 0)
+
+-- By the chains: the thread is in the chain that its phase names, once, and in no other. One equation a chain says membership both ways.
+pub record InChains (entries contentions waits t : ℕ) (queue contenders waiters : List ℕ) : Type 0 where
+  pub entry : count t queue ≡ entries
+  pub contention : count t contenders ≡ contentions
+  pub waiting : count t waiters ≡ waits
+
+abbrev pub Placed : ThreadState → ℕ → List ℕ → List ℕ → List ℕ → Type 0
+Placed state t entry contention waiting = InChains (in-entry state) (in-contention state) (in-waiting state) t entry contention waiting
+
+-- what can be asked of a word
+abbrev pub Unreserved : WordSeen → Type 0
+Unreserved Free = Unit {0}
+Unreserved Anonymous = ⊥
+Unreserved Fat = Unit {0}
+Unreserved (Flat owner c) = Unit {0}
+Unreserved (Reserved owner c) = ⊥
+
+abbrev pub FlatOf : ℕ → WordSeen → Type 0
+FlatOf t Free = ⊥
+FlatOf t Anonymous = ⊥
+FlatOf t Fat = ⊥
+FlatOf t (Flat owner c) = owner ≡ t
+FlatOf t (Reserved owner c) = ⊥
+
+abbrev pub IsFat : WordSeen → Type 0
+IsFat Free = ⊥
+IsFat Anonymous = ⊥
+IsFat Fat = Unit {0}
+IsFat (Flat owner c) = ⊥
+IsFat (Reserved owner c) = ⊥
+
+-- free, or flat of another
+abbrev pub NotOwn : ℕ → WordSeen → Type 0
+NotOwn t Free = Unit {0}
+NotOwn t Anonymous = ⊥
+NotOwn t Fat = ⊥
+NotOwn t (Flat owner c) = owner ≢ t
+NotOwn t (Reserved owner c) = ⊥
+
+-- reserved for the thread, with count c
+abbrev pub KeptWord : ℕ → ℕ → WordSeen → Type 0
+KeptWord t c Free = ⊥
+KeptWord t c Anonymous = ⊥
+KeptWord t c Fat = ⊥
+KeptWord t c (Flat owner d) = ⊥
+KeptWord t c (Reserved owner d) = (owner ≡ t) × (d ≡ c)
+
+-- By the word. KEPT: in 2 the kept word is still the word. RES-PH, RES-HOLD: in 4, 6, 9 and 10 the word is not reserved.
+-- WFLAT: a wait in 4 or 12 has its own flat word. WOKENFAT: in 13 and 15 the word is fat. NOTOWN, TRYFLAG: in 7 it is not the thread's own, and the flag is 1.
+abbrev pub ReliesOn : Reliance → ℕ → WordSeen → Bool → ℕ → Type 0
+ReliesOn anything t word flag holder = Unit {0}
+ReliesOn unreserved t word flag holder = Unreserved word
+ReliesOn own-flat t word flag holder = FlatOf t word
+ReliesOn held-fat t word flag holder = IsFat word × (holder ≡ t) × (t ≢ 0)
+ReliesOn trying t word flag holder = NotOwn t word × (holder ≡ t) × (t ≢ 0) × (flag ≡ true)
+ReliesOn (kept-to-enter c) t word flag holder = KeptWord t c word × (c < count-limit)
+ReliesOn (kept-to-exit c) t word flag holder = KeptWord t c word × (0 < c)
+
+-- A queued thread relies on what it carries. NOTOWN: in 8 the word is not the thread's own. WAITFAT: in 14 it is fat.
+abbrev pub Relies : ThreadState → ℕ → WordSeen → Bool → ℕ → Type 0
+Relies Idle t word flag holder = Unit {0}
+Relies (Running doing) t word flag holder = ReliesOn (phase-row doing .reliance) t word flag holder
+Relies (Queued ToCheck) t word flag holder = Unreserved word
+Relies (Queued ToTell) t word flag holder = Unreserved word
+Relies (Queued ToInflate) t word flag holder = FlatOf t word
+Relies (Queued (ToResume suspension)) t word flag holder = IsFat word
+Relies Contending t word flag holder = NotOwn t word
+Relies (Waiting suspension) t word flag holder = IsFat word
+
+-- By the log of the operation: its commits so far, and the answer that an exit's last one left
+abbrev pub Staged : Stage → OperationLog → Type 0
+Staged uncommitted log = log .commits ≡ 0
+Staged all-committed log = (log .commits ≡ 1) × (log .answer ≡ Finished 0)
+Staged given-up log = log .commits ≡ 1
+
+abbrev pub Logged : ThreadState → OperationLog → Type 0
+Logged Idle log = Unit {0}
+Logged (Running doing) log = (log .operation ≡ phase-row doing .operation) × Staged (phase-row doing .stage) log
+Logged (Queued carried) log = (log .operation ≡ phase-row (onward carried) .operation) × Staged (phase-row (onward carried) .stage) log
+Logged Contending log = (log .operation ≡ Enter) × Staged uncommitted log
+Logged (Waiting suspension) log = (log .operation ≡ Wait) × Staged given-up log
+
+-- By the plain monitor's woken threads, and by what they and the waiting have saved there: the same, with a depth in range
+abbrev pub woken? : Saved → Bool
+woken? nothing-saved = false
+woken? (saves suspension) = true
+
+abbrev pub state-woken? : ThreadState → Bool
+state-woken? Idle = false
+state-woken? (Running doing) = woken? (phase-row doing .saved)
+state-woken? (Queued carried) = woken? (phase-row (onward carried) .saved)
+state-woken? Contending = false
+state-woken? (Waiting suspension) = false
+
+abbrev pub SavedIs : Saved → Suspension → Type 0
+SavedIs nothing-saved plain = Unit {0}
+SavedIs (saves suspension) plain = (plain ≡ suspension) × (0 < suspension .depth) × (suspension .depth ≤ depth-limit)
+
+abbrev pub SavedRight : ThreadState → Suspension → Type 0
+SavedRight Idle plain = Unit {0}
+SavedRight (Running doing) plain = SavedIs (phase-row doing .saved) plain
+SavedRight (Queued carried) plain = SavedIs (phase-row (onward carried) .saved) plain
+SavedRight Contending plain = Unit {0}
+SavedRight (Waiting suspension) plain = SavedIs (saves suspension) plain
+
+-- what the plain monitors know of the threads: their logs, and at this object who is woken and what is saved
+pub record Ghost : Type 0 where
+  pub logs : ℕ → OperationLog
+  pub woken : ℕ → Bool
+  pub saved : ℕ → Suspension
+
+pub record ThreadOk (t : ℕ) (state : ThreadState) (o : ListObject) (log : OperationLog) (woke : Bool) (suspension : Suspension) : Type 0 where
+  pub seated : Seated (seat state) t (o .holder) (o .depth)
+  pub placed : Placed state t (o .entry) (o .contention) (o .waiting)
+  pub relies : Relies state t (o .word) (o .flag) (o .holder)
+  pub logged : Logged state log
+  pub saved : SavedRight state suspension
+  pub woken : woke ≡ state-woken? state
+
+-- Of the monitor, by the word. DEPTH: a depth above 0 goes with a fat word, and then there is a holder. Threads and counts are in range.
+abbrev pub MonitorOk : WordSeen → ℕ → ℕ → Type 0
+MonitorOk Free holder depth = depth ≡ 0
+MonitorOk Anonymous holder depth = depth ≡ 0
+MonitorOk Fat holder depth = (depth ≤ depth-limit) × (0 < depth → holder ≢ 0)
+MonitorOk (Flat owner c) holder depth = (depth ≡ 0) × (owner ≢ 0) × (c ≤ count-limit)
+MonitorOk (Reserved owner c) holder depth = (depth ≡ 0) × (owner ≢ 0) × (c ≤ count-limit)
+
+-- Of the flag and the contenders. FATFLAG: a fat word has flag 0. CONTFLAG: contenders only with flag 1. RES-CONT: none with a reserved word.
+abbrev pub FlagOk : WordSeen → Bool → List ℕ → Type 0
+FlagOk Free flag contention = flag ≡ false → contention ≡ []
+FlagOk Anonymous flag contention = contention ≡ []
+FlagOk Fat flag contention = (flag ≡ false) × (contention ≡ [])
+FlagOk (Flat owner c) flag contention = flag ≡ false → contention ≡ []
+FlagOk (Reserved owner c) flag contention = contention ≡ []
+
+-- STRAND. Of the contenders of a free word: an exit has still to tell them, or somebody holds the monitor and will not leave it to nobody.
+abbrev pub Told : (ℕ → ThreadState) → ℕ → List ℕ → Type 0
+Told states holder entry = ((t : ℕ) × T (telling? (seat (states t)))) ⊎ ((holder ≢ 0) × (T (leaving? (seat (states holder))) → entry ≢ []))
+
+abbrev pub Unstranded : WordSeen → (ℕ → ThreadState) → ℕ → List ℕ → List ℕ → Type 0
+Unstranded Free states holder entry contention = contention ≢ [] → Told states holder entry
+Unstranded Anonymous states holder entry contention = Unit {0}
+Unstranded Fat states holder entry contention = Unit {0}
+Unstranded (Flat owner c) states holder entry contention = Unit {0}
+Unstranded (Reserved owner c) states holder entry contention = Unit {0}
+
+pub record ObjectOk (states : ℕ → ThreadState) (o : ListObject) : Type 0 where
+  pub nobody : states 0 ≡ Idle
+  pub monitor : MonitorOk (o .word) (o .holder) (o .depth)
+  pub empty : o .holder ≡ 0 → o .entry ≡ []
+  pub flag : FlagOk (o .word) (o .flag) (o .contention)
+  pub unstranded : Unstranded (o .word) states (o .holder) (o .entry) (o .contention)
+
+pub record Invariant (states : ℕ → ThreadState) (o : ListObject) (ghost : Ghost) : Type 0 where
+  pub threads : (t : ℕ) → ThreadOk t (states t) o (ghost .logs t) (ghost .woken t) (ghost .saved t)
+  pub whole : ObjectOk states o
+
+-- the plain monitor that the object shows
+abbrev pub monitor-of : ListObject → Ghost → PlainMonitor
+monitor-of o ghost = record { owner = object-owner o; depth = owned-depth o; waiting = o .waiting; woken = ghost .woken; saved = ghost .saved }
+
+-- What is shown of a step of `thread`: the invariant is kept, with the plain monitor after it if the step commits, and the answer is the plain one.
+pub record Refines (thread : ℕ) (operation : Operation) (states : ℕ → ThreadState) (o : ListObject) (ghost : Ghost) (performed : Performed) : Type 0 where
+  pub outside : (t : ℕ) → t ≢ thread → states t ≡ Idle → performed .states t ≡ Idle
+  pub committed : Committed
+  pub woken : ℕ → Bool
+  pub saved : ℕ → Suspension
+  pub commits : T (performed .commits) → commit operation thread (monitor-of o ghost) ≡ committed
+  pub invariant : Invariant (performed .states) (performed .object)
+      (record { logs = update (ghost .logs) thread (log-after (performed .commits) (ghost .logs thread) (committed .answer)); woken = woken; saved = saved })
+  pub monitor : pick (performed .commits) (committed .monitor) (monitor-of o ghost)
+      ≡ monitor-of (performed .object) (record { logs = ghost .logs; woken = woken; saved = saved })
+  pub ended : EndsRight operation (performed .answer) (log-after (performed .commits) (ghost .logs thread) (committed .answer))

@@ -1,0 +1,109 @@
+-- The chains of a sound table, any of the three: their members are threads of the table, at that object, each once; so no chain is longer than the table has threads.
+use Prim.Native.Nat.{ℕ, _≤_, _<_}
+use mathlib.Core.Path.{_≡_, refl, ap, _∙_}
+use mathlib.Core.Logic.{_≢_, _⊎_, inl, inr}
+use mathlib.Core.Bool.{Bool, true, false}
+use mathlib.Core.List.{List}
+use native.Mathlib.Omega.{arith}
+use lib.Dec.{eqb}
+use lib.ListN.{length}
+use Rattle.laws.specs.Choice.{pick}
+use Rattle.laws.specs.Count.{count}
+use Rattle.laws.proofs.Choice.{equal?, Equal, equal}
+use Rattle.laws.proofs.Count.{distinct-within}
+use Rattle.lock_rules.specs.declared.ThreadState.{ThreadState}
+use Rattle.lock_rules.specs.declared.ThreadState.the-variants.{Idle, Running, Queued, Contending, Waiting}
+use Rattle.lock_rules.proofs.Objects.{ListObject}
+use Rattle.lock_rules.proofs.Tables.{ListThread, ListTable, seen-from, states-at, seen-idle}
+use Rattle.lock_rules.proofs.Invariant.{in-entry, in-contention, in-waiting, Placed}
+use Rattle.lock_rules.proofs.ListSound.{InTable, SoundTable}
+
+pub data Chain : Type 0 where
+  entry-chain contention-chain waiting-chain : Chain
+
+abbrev pub chain-of : Chain → ListObject → List ℕ
+chain-of entry-chain o = o .entry
+chain-of contention-chain o = o .contention
+chain-of waiting-chain o = o .waiting
+
+-- how often a thread in this state is in the chain
+abbrev pub times-in : Chain → ThreadState → ℕ
+times-in entry-chain state = in-entry state
+times-in contention-chain state = in-contention state
+times-in waiting-chain state = in-waiting state
+
+pub placed-in : (chain : Chain) (t : ℕ) (state : ThreadState) (o : ListObject) → Placed state t (o .entry) (o .contention) (o .waiting)
+    → count t (chain-of chain o) ≡ times-in chain state
+placed-in entry-chain t state o p = p .entry
+placed-in contention-chain t state o p = p .contention
+placed-in waiting-chain t state o p = p .waiting
+
+idle-out : (chain : Chain) → times-in chain Idle ≡ 0
+idle-out entry-chain = refl
+idle-out contention-chain = refl
+idle-out waiting-chain = refl
+
+once : (chain : Chain) (state : ThreadState) → times-in chain state ≤ 1
+once entry-chain Idle = omega arith
+once entry-chain (Running doing) = omega arith
+once entry-chain (Queued carried) = omega arith
+once entry-chain Contending = omega arith
+once entry-chain (Waiting saved) = omega arith
+once contention-chain Idle = omega arith
+once contention-chain (Running doing) = omega arith
+once contention-chain (Queued carried) = omega arith
+once contention-chain Contending = omega arith
+once contention-chain (Waiting saved) = omega arith
+once waiting-chain Idle = omega arith
+once waiting-chain (Running doing) = omega arith
+once waiting-chain (Queued carried) = omega arith
+once waiting-chain Contending = omega arith
+once waiting-chain (Waiting saved) = omega arith
+
+-- a thread is seen idle from o, or is at o
+pub seen-or-at : (o : ℕ) (thread : ListThread) → (seen-from o thread ≡ Idle) ⊎ (thread .object ≡ o)
+seen-or-at o thread = at (eqb (thread .object) o) (equal (thread .object) o)
+  where
+    at : (b : Bool) → Equal b (thread .object) o → (pick b (thread .state) Idle ≡ Idle) ⊎ (thread .object ≡ o)
+    at true q = inr q
+    at false q = inl refl
+
+module _ (threads objects : ℕ) (table : ListTable) (sound : SoundTable threads objects table) (chain : Chain) (o : ℕ) where
+  abbrev members : List ℕ
+  members = chain-of chain (table .objects o)
+
+  counted : (t : ℕ) → count t members ≡ times-in chain (states-at table o t)
+  counted t = placed-in chain t (states-at table o t) (table .objects o) (sound .sound o .placed t)
+
+  -- a member is no idle thread
+  not-idle : (t : ℕ) → 0 < count t members → states-at table o t ≡ Idle → ⊥
+  not-idle t h e = omega (arith, h, counted t, ap (times-in chain) e, idle-out chain)
+
+  pub member-at : (t : ℕ) → 0 < count t members → table .threads t .object ≡ o
+  member-at t h = at (seen-or-at o (table .threads t))
+    where
+      at : (states-at table o t ≡ Idle) ⊎ (table .threads t .object ≡ o) → table .threads t .object ≡ o
+      at (inl e) = absurd (not-idle t h e)
+      at (inr q) = q
+
+  pub member-in : (t : ℕ) → 0 < count t members → (0 < t) × (t ≤ threads)
+  member-in t h = (real (equal? t 0), at (sound .range t))
+    where
+      real : (t ≡ 0) ⊎ (t ≢ 0) → 0 < t
+      real (inl q) = absurd (not-idle t h (ap (states-at table o) q ∙ sound .sound o .nobody))
+      real (inr n) = omega (arith, n)
+
+      at : InTable threads objects t (table .threads t) → t ≤ threads
+      at (inl e) = absurd (not-idle t h (seen-idle o (table .threads t) e))
+      at (inr b) = b .0
+
+  pub short : length members ≤ threads
+  short = distinct-within threads members (λ t. omega (arith, counted t, once chain (states-at table o t))) member-in
+
+  -- a thread whose state names no chain is in none
+  pub out-of-chain : (t : ℕ) → times-in chain (table .threads t .state) ≡ 0 → count t members ≡ 0
+  out-of-chain t e = counted t ∙ at (eqb (table .threads t .object) o)
+    where
+      at : (b : Bool) → times-in chain (pick b (table .threads t .state) Idle) ≡ 0
+      at true = e
+      at false = idle-out chain

@@ -1,0 +1,82 @@
+-- What document 01's "Sound means" says of a table with lists. What it says of the records' fields and links is not here.
+use Prim.Native.Nat.{ℕ, _≤_, _<_}
+use mathlib.Core.Path.{_≡_}
+use mathlib.Core.Logic.{_⊎_}
+use mathlib.Core.List.{[]}
+use Rattle.lock_rules.specs.Limits.{depth-limit, count-limit}
+use Rattle.lock_rules.specs.Rules.{onward}
+use Rattle.lock_rules.specs.declared.Suspension.{Suspension}
+use Rattle.lock_rules.specs.declared.Doing.{Doing}
+use Rattle.lock_rules.specs.declared.Doing.the-variants.{EnterLook, EnterStore, EnterCancel, EnterGoIn, EnterCheck, EnterTry, ExitLook, ExitStore}
+use Rattle.lock_rules.specs.declared.Doing.the-variants.{ExitGoIn, ExitTest, ExitTell, ExitLeave, WaitLook, WaitCancel, WaitGoIn, WaitInflate}
+use Rattle.lock_rules.specs.declared.Doing.the-variants.{WaitGiveUp, WaitResume, NotifyLook, NotifyAllLook}
+use Rattle.lock_rules.specs.declared.ThreadState.{ThreadState}
+use Rattle.lock_rules.specs.declared.ThreadState.the-variants.{Idle, Running, Queued, Contending, Waiting}
+use Rattle.lock_rules.specs.declared.WordSeen.{WordSeen}
+use Rattle.lock_rules.specs.declared.WordSeen.the-variants.{Free, Anonymous, Fat, Flat, Reserved}
+use Rattle.lock_rules.proofs.Objects.{ListObject, empty}
+use Rattle.lock_rules.proofs.Tables.{ListThread, ListTable, states-at}
+use Rattle.lock_rules.proofs.Invariant.{Placed}
+
+-- a saved depth is 1 to 65,535
+abbrev pub SuspensionFine : Suspension → Type 0
+SuspensionFine suspension = (0 < suspension .depth) × (suspension .depth ≤ depth-limit)
+
+-- a kept word in phase 2 has count 0 to 62 for enter, 1 to 63 for exit
+abbrev pub DoingFine : Doing → Type 0
+DoingFine EnterLook = Unit {0}
+DoingFine (EnterStore c) = c < count-limit
+DoingFine EnterCancel = Unit {0}
+DoingFine EnterGoIn = Unit {0}
+DoingFine EnterCheck = Unit {0}
+DoingFine EnterTry = Unit {0}
+DoingFine ExitLook = Unit {0}
+DoingFine (ExitStore c) = (0 < c) × (c ≤ count-limit)
+DoingFine ExitGoIn = Unit {0}
+DoingFine ExitTest = Unit {0}
+DoingFine ExitTell = Unit {0}
+DoingFine ExitLeave = Unit {0}
+DoingFine WaitLook = Unit {0}
+DoingFine WaitCancel = Unit {0}
+DoingFine WaitGoIn = Unit {0}
+DoingFine WaitInflate = Unit {0}
+DoingFine WaitGiveUp = Unit {0}
+DoingFine (WaitResume suspension) = SuspensionFine suspension
+DoingFine NotifyLook = Unit {0}
+DoingFine NotifyAllLook = Unit {0}
+
+abbrev pub StateFine : ThreadState → Type 0
+StateFine Idle = Unit {0}
+StateFine (Running doing) = DoingFine doing
+StateFine (Queued carried) = DoingFine (onward carried)
+StateFine Contending = Unit {0}
+StateFine (Waiting suspension) = SuspensionFine suspension
+
+-- a word is valid, with its thread at most `threads`
+abbrev pub WordFine : ℕ → WordSeen → Type 0
+WordFine threads Free = Unit {0}
+WordFine threads Anonymous = Unit {0}
+WordFine threads Fat = Unit {0}
+WordFine threads (Flat owner c) = (0 < owner) × (owner ≤ threads) × (c ≤ count-limit)
+WordFine threads (Reserved owner c) = (0 < owner) × (owner ≤ threads) × (c ≤ count-limit)
+
+-- of an object and the threads as it sees them
+pub record SoundObject (threads : ℕ) (states : ℕ → ThreadState) (o : ListObject) : Type 0 where
+  pub nobody : states 0 ≡ Idle
+  -- each parked thread is in exactly the chain that its phase names, and no other thread is in a chain
+  pub placed : (t : ℕ) → Placed (states t) t (o .entry) (o .contention) (o .waiting)
+  pub word : WordFine threads (o .word)
+  pub holder : o .holder ≤ threads
+  pub deep : o .depth ≤ depth-limit
+  -- holder 0 goes with depth 0 and an empty entry chain
+  pub shallow : o .holder ≡ 0 → o .depth ≡ 0
+  pub empty : o .holder ≡ 0 → o .entry ≡ []
+
+-- every thread past the table's size is idle, and every other one that is not has an object of the table
+abbrev pub InTable : ℕ → ℕ → ℕ → ListThread → Type 0
+InTable threads objects t thread = (thread .state ≡ Idle) ⊎ ((t ≤ threads) × (1 ≤ thread .object) × (thread .object ≤ objects))
+
+pub record SoundTable (threads objects : ℕ) (table : ListTable) : Type 0 where
+  pub range : (t : ℕ) → InTable threads objects t (table .threads t)
+  pub fine : (t : ℕ) → StateFine (table .threads t .state)
+  pub sound : (o : ℕ) → SoundObject threads (states-at table o) (table .objects o)

@@ -1,0 +1,279 @@
+-- Phase 1, look: enter, exit and wait.
+use Prim.Native.Nat.{ℕ, _+_, _-_, _<_}
+use mathlib.Core.Path.{_≡_, refl, sym, ap, _∙_}
+use mathlib.Core.Logic.{inl}
+use mathlib.Core.Bool.{Bool, true, false}
+use mathlib.Core.List.{List, [], _∷_}
+use native.Mathlib.Omega.{arith}
+use lib.Dec.{eqb, ltb}
+use lib.ListN.{length}
+use Rattle.laws.specs.Choice.{pick, both}
+use Rattle.laws.specs.Update.{update}
+use Rattle.laws.specs.Count.{count}
+use Rattle.laws.proofs.Choice.{Equal, equal, Below, below}
+use Rattle.laws.proofs.Update.{update-same}
+use Rattle.laws.proofs.Count.{count-none}
+use Rattle.lock_rules.specs.Limits.{count-limit}
+use Rattle.lock_rules.specs.Ownership.{owner-of, depth-of}
+use Rattle.lock_rules.specs.Actions.{go-on, finish-word, finish-depth, let-go}
+use Rattle.lock_rules.specs.Rules.{owner-seen, deflation, enter-look, exit-owned, wait-owned, owner-only}
+use Rattle.lock_rules.specs.Changes.{word-after}
+use Rattle.lock_rules.specs.Operations.{Enter, Exit, Wait}
+use Rattle.lock_rules.specs.declared.Doing.{Doing}
+use Rattle.lock_rules.specs.declared.Doing.the-variants.{EnterLook, EnterStore, EnterCancel, EnterGoIn, ExitLook, ExitStore, ExitTest, ExitLeave}
+use Rattle.lock_rules.specs.declared.Doing.the-variants.{WaitLook, WaitCancel, WaitGoIn, WaitGiveUp}
+use Rattle.lock_rules.specs.declared.ThreadState.the-variants.{Running}
+use Rattle.lock_rules.specs.declared.WordSeen.{WordSeen}
+use Rattle.lock_rules.specs.declared.WordSeen.the-variants.{Free, Anonymous, Fat, Flat, Reserved}
+use Rattle.lock_rules.specs.declared.WordChange.{WordChange}
+use Rattle.lock_rules.specs.declared.WordChange.the-variants.{Unchanged, Freed, OwnFlat, OwnReserved}
+use Rattle.lock_rules.specs.declared.Answer.the-variants.{GoneOn}
+use Rattle.lock_rules.specs.PlainMonitor.{unowned, owned-by, finished}
+use Rattle.lock_rules.proofs.Commits.{commit-enter, commit-enter-again, commit-exit-last, commit-exit}
+use Rattle.lock_rules.proofs.Objects.{ListObject, object-of, empty, sight-of, object-owner, owned-depth}
+use Rattle.lock_rules.proofs.Invariant.{all-committed, nothing-saved, phase-row, Seated, ReliesOn, MonitorOk, FlagOk, Unstranded}
+use Rattle.lock_rules.proofs.OtherThreads.{Others, others-word, others-depth}
+use Rattle.lock_rules.proofs.Facts.{by-below, keeps-taken, keeps-flat, keeps-freed, keeps-anonymous, keeps-deflated, unstranded-empty, fat-owned}
+use Rattle.lock_rules.proofs.Facts.{reserved-owned, first-commit, none, same-monitor}
+use Rattle.lock_rules.proofs.Refine.{plain-at, Actor, Stepping, Right, refine}
+use Rattle.lock_rules.proofs.Parts.{move-refines, go-on-refines, owner-only-refines, word-refines, depth-refines}
+
+module _ (actor : Actor) where
+  pub enter-look-refines : (word : WordSeen) (flag : Bool) (holder depth : ℕ) (entry contention waiting : List ℕ)
+      → let o = object-of word flag holder depth entry contention waiting in
+      Stepping actor EnterLook o → Right actor Enter o (enter-look (actor .thread) (sight-of o) word)
+  unfolding enter-look
+  enter-look-refines Free flag holder depth entry contention waiting step =
+      word-refines actor Enter (object-of Free flag holder depth entry contention waiting) (OwnFlat 0) step
+      (record {
+        keeps = λ t n. keeps-taken (actor .states t) (actor .thread) t holder n 0;
+        does = commit-enter (actor .thread)
+            (plain-at actor (object-of Free flag holder depth entry contention waiting)) refl;
+        seated = step .self .seated;
+        asleep = step .self .woken;
+        monitor = (step .inv .whole .monitor, actor .real, omega arith);
+        flag = step .inv .whole .flag;
+        unstranded = tt;
+        ended = (first-commit (step .self .logged .1), refl);
+      })
+  enter-look-refines Anonymous flag holder depth entry contention waiting step =
+      word-refines actor Enter (object-of Anonymous flag holder depth entry contention waiting) (OwnReserved 1) step
+      (record {
+        keeps = λ t n. keeps-anonymous (actor .states t) (actor .thread) t holder n (Reserved (actor .thread) 1);
+        does = commit-enter (actor .thread)
+            (plain-at actor (object-of Anonymous flag holder depth entry contention waiting)) refl;
+        seated = step .self .seated;
+        asleep = step .self .woken;
+        monitor = (step .inv .whole .monitor, actor .real, omega arith);
+        flag = step .inv .whole .flag;
+        unstranded = tt;
+        ended = (first-commit (step .self .logged .1), refl);
+      })
+  enter-look-refines Fat flag holder depth entry contention waiting step =
+      go-on-refines actor _ EnterLook EnterGoIn step (refl, refl, refl, refl) (λ k. k) tt
+  enter-look-refines (Flat owner c) flag holder depth entry contention waiting step =
+      at (eqb owner (actor .thread)) (ltb c count-limit) (equal owner (actor .thread)) (below c count-limit)
+    where
+      at : (own low : Bool) → Equal own owner (actor .thread) → Below low c count-limit
+          → let o = object-of (Flat owner c) flag holder depth entry contention waiting in
+          Right actor Enter o
+          (pick own (pick low (finish-word (sight-of o) (OwnFlat (c + 1))) (go-on (sight-of o) EnterGoIn)) (go-on (sight-of o) EnterGoIn))
+      at true true q l =
+          word-refines actor Enter (object-of (Flat owner c) flag holder depth entry contention waiting) (OwnFlat (c + 1)) step
+          (record {
+            keeps = λ t n. keeps-flat (actor .states t) (actor .thread) t holder n owner c (c + 1) q;
+            does = commit-enter-again (actor .thread)
+                (plain-at actor (object-of (Flat owner c) flag holder depth entry contention waiting)) (actor .real) q (omega (arith, l));
+            seated = step .self .seated;
+            asleep = step .self .woken;
+            monitor = (step .inv .whole .monitor .0, actor .real, omega (arith, l));
+            flag = step .inv .whole .flag;
+            unstranded = tt;
+            ended = (first-commit (step .self .logged .1), refl);
+          })
+      at true false q l = go-on-refines actor _ EnterLook EnterGoIn step (refl, refl, refl, refl) (λ k. k) tt
+      at false true q l = go-on-refines actor _ EnterLook EnterGoIn step (refl, refl, refl, refl) (λ k. k) tt
+      at false false q l = go-on-refines actor _ EnterLook EnterGoIn step (refl, refl, refl, refl) (λ k. k) tt
+  enter-look-refines (Reserved owner c) flag holder depth entry contention waiting step =
+      at (eqb owner (actor .thread)) (ltb c count-limit) (equal owner (actor .thread)) (below c count-limit)
+    where
+      at : (own low : Bool) → Equal own owner (actor .thread) → Below low c count-limit
+          → let o = object-of (Reserved owner c) flag holder depth entry contention waiting in
+          Right actor Enter o (pick own (pick low (go-on (sight-of o) (EnterStore c)) (go-on (sight-of o) EnterCancel)) (go-on (sight-of o) EnterCancel))
+      at true true q l = go-on-refines actor _ EnterLook (EnterStore c) step (refl, refl, refl, refl) (λ k. k) ((q, refl), l)
+      at true false q l = go-on-refines actor _ EnterLook EnterCancel step (refl, refl, refl, refl) (λ k. k) tt
+      at false true q l = go-on-refines actor _ EnterLook EnterCancel step (refl, refl, refl, refl) (λ k. k) tt
+      at false false q l = go-on-refines actor _ EnterLook EnterCancel step (refl, refl, refl, refl) (λ k. k) tt
+
+  -- an exit's last commit: nobody owns the object after it
+  let-go-refines : (word : WordSeen) (change : WordChange) (flag : Bool) (holder depth new : ℕ) (entry contention waiting : List ℕ) (next : Doing)
+      → let o = object-of word flag holder depth entry contention waiting in
+      let word′ = word-after (actor .thread) change word in
+      let after = object-of word′ flag holder new entry contention waiting in
+      Stepping actor ExitLook o → object-owner o ≡ actor .thread → owned-depth o ≡ 1 → Others (actor .thread) (actor .states) after (actor .ghost)
+      → Seated (phase-row next .seat) (actor .thread) holder new → ReliesOn (phase-row next .reliance) (actor .thread) word′ flag holder
+      → phase-row next .operation ≡ Exit → phase-row next .stage ≡ all-committed → phase-row next .saved ≡ nothing-saved
+      → MonitorOk word′ holder new → FlagOk word′ flag contention → Unstranded word′ (update (actor .states) (actor .thread) (Running next)) holder entry
+      contention
+      → owner-of word′ holder new ≡ 0 → depth-of word′ new ≡ 0 → Right actor Exit o (let-go (sight-of o) change new next)
+  let-go-refines word change flag holder depth new entry contention waiting next step q one others seated relies operation stage saved monitor flagged
+      unstranded unowned shallow =
+      let o = object-of word flag holder depth entry contention waiting in
+      refine actor Exit o
+      (record {
+        after = object-of (word-after (actor .thread) change word) flag holder new entry contention waiting;
+        states = actor .states;
+        state = Running
+            next;
+        answer = GoneOn;
+        commits = true;
+        committed = finished (owned-by (plain-at actor o) 0 0);
+        woken = actor .ghost .woken;
+        saved = actor .ghost .saved;
+        nobody = step .inv .whole .nobody;
+        stays = λ t e. e;
+        does = λ k. commit-exit-last (actor .thread) (plain-at actor o) q
+            one;
+        others = others;
+        self = record {
+          seated = seated;
+          placed = step .self .placed;
+          relies = relies;
+          logged = rw (operation, stage)
+              (step .self .logged .0, (first-commit (step .self .logged .1), refl));
+          saved = rw saved tt;
+          woken = rw saved (step .self .woken);
+        };
+        monitor = monitor;
+        empty = step .inv .whole .empty;
+        flag = flagged;
+        unstranded = unstranded;
+        shows = same-monitor (sym unowned) (sym shallow);
+        ended = tt;
+      })
+
+  -- the test for an empty monitor, and what it says
+  abbrev AllEmpty : Bool → List ℕ → List ℕ → List ℕ → Type 0
+  AllEmpty true entry contention waiting = (entry ≡ []) × (waiting ≡ [])
+  AllEmpty false entry contention waiting = Unit {0}
+
+  all-empty : (entry contention waiting : List ℕ) → AllEmpty (both (empty entry) (both (empty contention) (eqb (length waiting) 0))) entry contention waiting
+  all-empty [] [] waiting = at (eqb (length waiting) 0) (equal (length waiting) 0)
+    where
+      at : (b : Bool) → Equal b (length waiting) 0 → AllEmpty b [] [] waiting
+      at true e = (refl, none waiting e)
+      at false e = tt
+  all-empty [] (first ∷ rest) waiting = tt
+  all-empty (first ∷ rest) contention waiting = tt
+
+  exit-owned-refines : (word : WordSeen) (flag : Bool) (holder depth : ℕ) (entry contention waiting : List ℕ)
+      → let o = object-of word flag holder depth entry contention waiting in
+      Stepping actor ExitLook o → object-owner o ≡ actor .thread → Right actor Exit o (exit-owned (sight-of o) word)
+  unfolding exit-owned
+  exit-owned-refines Free flag holder depth entry contention waiting step q = absurd (actor .real (sym q))
+  exit-owned-refines Anonymous flag holder depth entry contention waiting step q = absurd (actor .real (sym q))
+  exit-owned-refines Fat flag holder depth entry contention waiting step q = at (ltb 1 depth) (below 1 depth)
+    where
+      inside : (0 < depth) × (holder ≡ actor .thread)
+      inside = fat-owned holder depth (actor .thread) (actor .real) q
+
+      leave : (b : Bool) → AllEmpty b entry contention waiting → depth ≡ 1 → let o = object-of Fat flag holder depth entry contention waiting in
+          Right actor Exit o (let-go (sight-of o) (pick b Freed Unchanged) 0 ExitLeave)
+      leave true (noentry, nowaiting) one =
+          let lowered = others-depth (actor .thread) (actor .states) (object-of Fat flag holder depth entry contention waiting) (actor .ghost) 0 (inside .1)
+          (λ t n. step .inv .threads t) in
+          let free = others-word (actor .thread) (actor .states) (object-of Fat flag holder 0 entry contention waiting) (actor .ghost) Free
+          (λ t n. keeps-deflated (actor .states t) (actor .thread) t holder n (inside .1)
+          (sym (step .inv .threads t .placed .entry) ∙ (ap (count t) noentry ∙ count-none t)) (sym (step .inv .threads t .placed .waiting)
+          ∙ (ap (count t) nowaiting ∙ count-none t)))
+          lowered in
+          let-go-refines Fat Freed flag holder depth 0 entry contention waiting ExitLeave step q one free (inside .1, refl, actor .real) tt refl refl refl refl
+          (λ k. step .inv .whole .flag .1) (unstranded-empty Free (update (actor .states) (actor .thread) (Running ExitLeave)) holder entry contention
+          (step .inv .whole .flag .1))
+          refl refl
+      leave false e one =
+          let-go-refines Fat Unchanged flag holder depth 0 entry contention waiting ExitLeave step q one
+          (others-depth (actor .thread) (actor .states) (object-of Fat flag holder depth entry contention waiting) (actor .ghost) 0 (inside .1)
+          (λ t n. step .inv .threads t))
+          (inside .1, refl, actor .real) tt refl refl refl (omega arith, λ k. absurd (omega arith)) (step .inv .whole .flag) tt refl refl
+
+      at : (b : Bool) → Below b 1 depth → let o = object-of Fat flag holder depth entry contention waiting in
+          Right actor Exit o (pick b (finish-depth (sight-of o) (depth - 1)) (let-go (sight-of o) (deflation (sight-of o)) 0 ExitLeave))
+      at true more =
+          depth-refines actor Exit flag holder depth (depth - 1) entry contention waiting step (inside .1)
+          (record {
+            woken = actor .ghost .woken;
+            does = commit-exit (actor .thread)
+                (plain-at actor (object-of Fat flag holder depth entry contention waiting)) q (λ e. omega (arith, more, e));
+            others = λ t n. refl;
+            asleep = step .self .woken;
+            above = omega (arith, more);
+            limit = omega (arith, step .inv .whole .monitor .0);
+            ended = (first-commit (step .self .logged .1), refl);
+          })
+      at false low =
+          leave (both (empty entry) (both (empty contention) (eqb (length waiting) 0))) (all-empty entry contention waiting) (omega (arith, inside .0, low))
+  exit-owned-refines (Flat owner c) flag holder depth entry contention waiting step q =
+      by-below (Right actor Exit (object-of (Flat owner c) flag holder depth entry contention waiting)) 0 c
+      (λ e. word-refines actor Exit (object-of (Flat owner c) flag holder depth entry contention waiting) (OwnFlat (c - 1)) step
+      (record {
+        keeps = λ t n. keeps-flat (actor .states t) (actor .thread) t holder n owner c (c - 1) q;
+        does = commit-exit (actor .thread)
+            (plain-at actor (object-of (Flat owner c) flag holder depth entry contention waiting)) q (λ x. omega (arith, e, x)) ∙ ap finished
+            (same-monitor refl (omega (arith, e)));
+        seated = step .self .seated;
+        asleep = step .self .woken;
+        monitor = (
+          step .inv .whole .monitor .0,
+          actor .real,
+          omega (arith, step .inv .whole .monitor .2),
+        );
+        flag = step .inv .whole .flag;
+        unstranded = tt;
+        ended = (first-commit (step .self .logged .1), refl);
+      }))
+      (λ e. let-go-refines (Flat owner c) Freed flag holder depth depth entry contention waiting ExitTest step q (omega (arith, e))
+      (others-word (actor .thread) (actor .states) (object-of (Flat owner c) flag holder depth entry contention waiting) (actor .ghost) Free
+      (λ t n. keeps-freed (actor .states t) (actor .thread) t holder n owner c q) (λ t n. step .inv .threads t))
+      (λ x. omega (arith, step .self .seated x (actor .real), step .inv .whole .monitor .0), actor .real) tt refl refl refl (step .inv .whole .monitor .0)
+      (step .inv .whole .flag)
+      (λ k. inl (actor .thread, rw (update-same (actor .states) (actor .thread) (Running ExitTest)) tt)) refl refl)
+  exit-owned-refines (Reserved owner c) flag holder depth entry contention waiting step q =
+      let (l, own) = reserved-owned owner c (actor .thread) (actor .real) q in
+      go-on-refines actor _ ExitLook (ExitStore c) step (refl, refl, refl, refl) (λ k. k) ((own, refl), l)
+
+  pub exit-look-refines : (o : ListObject) → Stepping actor ExitLook o
+      → Right actor Exit o (owner-only (actor .thread) (sight-of o) (owner-seen (sight-of o)) (exit-owned (sight-of o) (o .word)))
+  exit-look-refines o step =
+      owner-only-refines actor Exit o ExitLook (exit-owned (sight-of o) (o .word)) tt step (λ k. k) (step .self .seated) (step .self .woken)
+      (step .self .logged .1)
+      (exit-owned-refines (o .word) (o .flag) (o .holder) (o .depth) (o .entry) (o .contention) (o .waiting) step)
+
+  wait-owned-refines : (word : WordSeen) (flag : Bool) (holder depth : ℕ) (entry contention waiting : List ℕ)
+      → let o = object-of word flag holder depth entry contention waiting in
+      Stepping actor WaitLook o → object-owner o ≡ actor .thread → Right actor Wait o (wait-owned (sight-of o) word)
+  unfolding wait-owned
+  wait-owned-refines Free flag holder depth entry contention waiting step q = absurd (actor .real (sym q))
+  wait-owned-refines Anonymous flag holder depth entry contention waiting step q = absurd (actor .real (sym q))
+  wait-owned-refines Fat flag holder depth entry contention waiting step q =
+      let (l, held) = fat-owned holder depth (actor .thread) (actor .real) q in
+      move-refines actor Wait _ WaitLook WaitGiveUp step (λ k. k) (λ k. k)
+      (record {
+        seated = (held, l, actor .real);
+        placed = step .self .placed;
+        relies = (tt, held, actor .real);
+        logged = step .self .logged;
+        saved = tt;
+        woken = step .self .woken;
+      })
+  wait-owned-refines (Flat owner c) flag holder depth entry contention waiting step q =
+      go-on-refines actor _ WaitLook WaitGoIn step (refl, refl, refl, refl) (λ k. k) q
+  wait-owned-refines (Reserved owner c) flag holder depth entry contention waiting step q =
+      go-on-refines actor _ WaitLook WaitCancel step (refl, refl, refl, refl) (λ k. k) tt
+
+  pub wait-look-refines : (o : ListObject) → Stepping actor WaitLook o
+      → Right actor Wait o (owner-only (actor .thread) (sight-of o) (owner-seen (sight-of o)) (wait-owned (sight-of o) (o .word)))
+  wait-look-refines o step =
+      owner-only-refines actor Wait o WaitLook (wait-owned (sight-of o) (o .word)) tt step (λ k. k) (step .self .seated) (step .self .woken)
+      (step .self .logged .1)
+      (wait-owned-refines (o .word) (o .flag) (o .holder) (o .depth) (o .entry) (o .contention) (o .waiting) step)

@@ -1,0 +1,176 @@
+-- Every event on a sound table gives a sound table. A fresh table is sound, and so is every table that a schedule comes to.
+use Prim.Native.Nat.{ℕ, _≤_}
+use mathlib.Core.Path.{_≡_, refl, sym, ap, _∙_, subst₂, fun-ext}
+use mathlib.Core.Logic.{_≢_, _⊎_, inl, inr}
+use mathlib.Core.Bool.{Bool, true, false}
+use mathlib.Core.List.{List, [], _∷_}
+use native.Mathlib.Omega.{arith}
+use lib.Dec.{eqb}
+use Rattle.laws.specs.Choice.{pick}
+use Rattle.laws.specs.Update.{update}
+use Rattle.laws.proofs.Choice.{equal?, Equal, equal}
+use Rattle.laws.proofs.Update.{update-same, update-other}
+use Rattle.laws.proofs.Count.{count-none}
+use Rattle.lock_rules.specs.Rules.{begun, decide}
+use Rattle.lock_rules.specs.Operations.{Operation}
+use Rattle.lock_rules.specs.Operations.{Enter, Exit, Wait, Notify, NotifyAll}
+use Rattle.lock_rules.specs.declared.Doing.{Doing}
+use Rattle.lock_rules.specs.declared.ThreadState.{ThreadState}
+use Rattle.lock_rules.specs.declared.ThreadState.the-variants.{Idle, Running}
+use Rattle.lock_rules.specs.Events.{Event}
+use Rattle.lock_rules.proofs.Objects.{empty, sight-of}
+use Rattle.lock_rules.proofs.Perform.{Performed}
+use Rattle.lock_rules.proofs.Turns.{by-event}
+use Rattle.lock_rules.proofs.Tables.{ListThread, ListTable, seen-from, states-at, perform-at, begin-at, step-at, list-kind, turn, final, fresh-word}
+use Rattle.lock_rules.proofs.Tables.{fresh, seen-idle, seen-here, seen-elsewhere}
+use Rattle.lock_rules.proofs.Invariant.{Placed}
+use Rattle.lock_rules.proofs.Lift.{seen-there, seen-as-before}
+use Rattle.lock_rules.proofs.ListSound.{StateFine, WordFine, SoundObject, InTable, SoundTable}
+use Rattle.lock_rules.proofs.SoundEffects.{ActionFine, either-way, decide-fine}
+use Rattle.lock_rules.proofs.SoundPerform.{performed-idle, performed-fine, performed-sound}
+use Rattle.lock_rules.proofs.ListChains.{entry-chain, member-in}
+
+seen-fine : (o : ℕ) (thread : ListThread) → StateFine (thread .state) → StateFine (seen-from o thread)
+seen-fine o thread fine = either-way StateFine (eqb (thread .object) o) fine tt
+
+begun-fine : (operation : Operation) → StateFine (Running (begun operation))
+begun-fine Enter = tt
+begun-fine Exit = tt
+begun-fine Wait = tt
+begun-fine Notify = tt
+begun-fine NotifyAll = tt
+
+module _ (threads objects : ℕ) (table : ListTable) (sound : SoundTable threads objects table) where
+  sound-begin : (operation : Operation) (t o : ℕ) → 1 ≤ t → t ≤ threads → 1 ≤ o → o ≤ objects → table .threads t .state ≡ Idle
+      → SoundTable threads objects (begin-at table operation t o)
+  sound-begin operation t o real low oreal olow idle =
+      record {
+        range = λ u. range u (equal? u t);
+        fine = λ u. fine u (equal? u t);
+        sound = λ b. let s = sound .sound b in
+            record {
+              nobody = ap (seen-from b) (update-other (table .threads) t _ 0 (λ k. omega (arith, k, real))) ∙ s .nobody;
+              placed = λ u. placed b u (equal? u t);
+              word = s .word;
+              holder = s .holder;
+              deep = s .deep;
+              shallow = s .shallow;
+              empty = s .empty;
+            };
+      }
+    where
+      range : (u : ℕ) → (u ≡ t) ⊎ (u ≢ t) → InTable threads objects u (update (table .threads) t (record { object = o; state = Running (begun operation) }) u)
+      range u (inl k) = rw (k, update-same (table .threads) t (record { object = o; state = Running (begun operation) })) (inr (low, oreal, olow))
+      range u (inr n) = rw (update-other (table .threads) t (record { object = o; state = Running (begun operation) }) u n) (sound .range u)
+
+      fine : (u : ℕ) → (u ≡ t) ⊎ (u ≢ t) → StateFine (update (table .threads) t (record { object = o; state = Running (begun operation) }) u .state)
+      fine u (inl k) = rw (k, update-same (table .threads) t (record { object = o; state = Running (begun operation) })) (begun-fine operation)
+      fine u (inr n) = rw (update-other (table .threads) t (record { object = o; state = Running (begun operation) }) u n) (sound .fine u)
+
+      still : (b : Bool) (entry contention waiting : List ℕ) → Placed Idle t entry contention waiting
+          → Placed (pick b (Running (begun operation)) Idle) t entry contention waiting
+      still true entry contention waiting p = p
+      still false entry contention waiting p = p
+
+      placed : (b u : ℕ) → (u ≡ t) ⊎ (u ≢ t)
+          → Placed (states-at (begin-at table operation t o) b u) u (table .objects b .entry) (table .objects b .contention) (table .objects b .waiting)
+      placed b u (inl k) =
+          rw (k, update-same (table .threads) t (record { object = o; state = Running (begun operation) }))
+          (still (eqb o b) (table .objects b .entry) (table .objects b .contention) (table .objects b .waiting)
+          (rw (seen-idle b (table .threads t) idle) at (sound .sound b .placed t)))
+      placed b u (inr n) = rw (update-other (table .threads) t (record { object = o; state = Running (begun operation) }) u n) (sound .sound b .placed u)
+
+  -- a step of thread t, which is at the object `home`
+  module _ (t : ℕ) (doing : Doing) (real : 1 ≤ t) (low : t ≤ threads) (running : table .threads t .state ≡ Running doing) where
+    abbrev home : ℕ
+    home = table .threads t .object
+
+    abbrev result : Performed
+    result = perform-at table home t doing
+
+    here : states-at table home t ≡ Running doing
+    here = seen-here home (table .threads t) refl ∙ running
+
+    owes : ActionFine t (table .objects home .holder) (decide t (sight-of (table .objects home)) doing)
+    owes =
+        decide-fine threads t (sight-of (table .objects home)) (λ e. omega (arith, real, e)) (sound .sound home .deep) (sound .sound home .shallow) doing
+        (rw running at (sound .fine t)) (sound .sound home .word)
+
+    stays-idle : (u : ℕ) → u ≢ t → states-at table home u ≡ Idle → result .states u ≡ Idle
+    stays-idle u n e =
+        performed-idle threads t (states-at table home) (table .objects home) (sound .sound home) doing here real low
+        (decide t (sight-of (table .objects home)) doing) u n e
+
+    elsewhere : (u : ℕ) → table .threads u .object ≢ home → result .states u ≡ Idle
+    elsewhere u s = stays-idle u (λ k. s (ap (λ x. table .threads x .object) k)) (seen-elsewhere home (table .threads u) s)
+
+    step-range : (u : ℕ) → InTable threads objects u (step-at table t doing .table .threads u)
+    step-range u = at (eqb (table .threads u .object) home) (equal (table .threads u .object) home) (equal? u t) (sound .range u)
+      where
+        at : (b : Bool) → Equal b (table .threads u .object) home → (u ≡ t) ⊎ (u ≢ t) → InTable threads objects u (table .threads u)
+            → InTable threads objects u (pick b (record { object = home; state = result .states u }) (table .threads u))
+        at true s n (inr b) = inr (b .0, rw (← s) (b .1), rw (← s) (b .2))
+        at true s (inl q) (inl i) =
+            absurd
+            (let bad : _≡_ {A = ThreadState} Idle (Running doing) = sym i ∙ (ap (λ x. table .threads x .state) q ∙ running) in
+            let f : _≡_ {A = ℕ} 0 1 = cc in
+            omega arith)
+        at true s (inr n) (inl i) = inl (stays-idle u n (seen-idle home (table .threads u) i))
+        at false s n b = b
+
+    step-fine : (u : ℕ) → StateFine (step-at table t doing .table .threads u .state)
+    step-fine u = at (eqb (table .threads u .object) home)
+      where
+        at : (b : Bool) → StateFine (pick {A = ListThread} b (record { object = home; state = result .states u }) (table .threads u) .state)
+        at true =
+            performed-fine threads t (states-at table home) (table .objects home) (sound .sound home) doing here real low
+            (decide t (sight-of (table .objects home)) doing) owes
+            (λ x. seen-fine home (table .threads x) (sound .fine x)) u
+        at false = sound .fine u
+
+    step-sound : (b : ℕ) → (b ≡ home) ⊎ (b ≢ home) → SoundObject threads (states-at (step-at table t doing .table) b) (step-at table t doing .table .objects b)
+    step-sound b (inl q) =
+        rw q
+        (subst₂ (SoundObject threads) (fun-ext (seen-there table home result elsewhere)) (sym (update-same (table .objects) home (result .object)))
+        (performed-sound threads t (states-at table home) (table .objects home) (sound .sound home) doing here real low
+        (decide t (sight-of (table .objects home)) doing) owes (member-in threads objects table sound entry-chain home)))
+    step-sound b (inr n) =
+        subst₂ (SoundObject threads) (fun-ext (seen-as-before table home result b n)) (sym (update-other (table .objects) home (result .object) b n))
+        (sound .sound b)
+
+    sound-step : SoundTable threads objects (step-at table t doing .table)
+    sound-step = record { range = step-range; fine = step-fine; sound = λ b. step-sound b (equal? b home) }
+
+  pub sound-turn : (event : Event) → SoundTable threads objects (turn threads objects table event .table)
+  sound-turn =
+      by-event list-kind threads objects table (λ event result. SoundTable threads objects (result .table)) (λ event number. sound)
+      (λ number operation t o asked real low oreal olow idle. sound-begin operation t o real low oreal olow idle)
+      (λ t doing real low running. sound-step t doing real low running)
+
+pub sound-fresh : (threads objects : ℕ) (reserved : Bool) → SoundTable threads objects (fresh reserved)
+sound-fresh threads objects reserved =
+    record {
+      range = λ t. inl refl;
+      fine = λ t. tt;
+      sound = λ o.
+          record {
+            nobody = seen-idle o (record { object = 0; state = Idle }) refl;
+            placed = λ t. rw (seen-idle o (record { object = 0; state = Idle }) refl)
+                (record { entry = count-none t; contention = count-none t; waiting = count-none t });
+            word = word reserved;
+            holder = omega arith;
+            deep = omega arith;
+            shallow = λ e. refl;
+            empty = λ e. refl;
+          };
+    }
+  where
+    word : (reserved : Bool) → WordFine threads (fresh-word reserved)
+    word true = tt
+    word false = tt
+
+pub sound-run : (threads objects : ℕ) (events : List Event) (table : ListTable) → SoundTable threads objects table
+    → SoundTable threads objects (final threads objects table events)
+sound-run threads objects [] table sound = sound
+sound-run threads objects (event ∷ rest) table sound =
+    sound-run threads objects rest (turn threads objects table event .table) (sound-turn threads objects table sound event)

@@ -1,0 +1,33 @@
+-- Events, what each returns, and what a schedule shows of them. Nothing of a table is shown.
+use Prim.Native.Nat.{ℕ}
+use mathlib.Core.Bool.{Bool}
+use Rattle.lock_rules.specs.declared.Answer.{Answer}
+use Rattle.lock_rules.specs.Numbers.{returned-of, woken-of}
+
+pub data Event : Type 0 where
+  -- operation's number, thread, object
+  Begin : ℕ → ℕ → ℕ → Event
+  -- one step of a thread
+  Step : ℕ → Event
+
+pub data Reply : Type 0 where
+  Begun : Reply
+  -- the number of a refusal before any rule, 11 to 17
+  Refused : ℕ → Reply
+  -- a step's answer, and whether the step was marked (c)
+  Answered : Answer → Bool → Reply
+
+-- document 01, "Returned first"
+abbrev pub returned : Reply → ℕ
+returned Begun = 0
+returned (Refused number) = number
+returned (Answered answer commits) = returned-of answer
+
+abbrev pub woken : Reply → ℕ
+woken Begun = 0
+woken (Refused number) = 0
+woken (Answered answer commits) = woken-of answer
+
+pub record Shown : Type 0 where
+  pub event : Event
+  pub reply : Reply

@@ -1,0 +1,8 @@
+-- The five operations, and the one that a begin asks for by its number (document 01, "The table").
+pub data Operation : Type 0 where
+  Enter Exit Wait Notify NotifyAll : Operation
+
+-- no number but theirs asks for one
+pub data Asked : Type 0 where
+  Unknown : Asked
+  Known : Operation → Asked

@@ -1,2 +1,0 @@
--- Laws of the plain monitors.
-pub mod Commits
