@@ -1,0 +1,12 @@
+-- `lock_soundness::object::empty_object` meets its contract: each way through the code is that of the definition.
+use Rattle.lock_soundness.specs.Fields.{emptyObject}
+use Rattle.lock_soundness.proofs.object.empty_object.Statement.{statement}
+use Rattle.lock_soundness.proofs.object.empty_object.Tie as tie
+
+pub empty-object-spec : {M : Type 1} → statement M
+unfolding emptyObject
+empty-object-spec =
+    tie.close
+    (tie.spec
+    (λ c κs. tt)
+    (λ c. simp (c .empty-monitor .ensures)))

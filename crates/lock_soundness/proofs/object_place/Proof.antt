@@ -1,0 +1,16 @@
+-- `lock_soundness::object_place` meets its contract: each way through the code is that of the definition.
+use borrow.Author.Needs.{needs}
+use borrow.Author.Tests.{eq-eqb, le-ltb, lt-ltb, ne-eqb}
+use Rattle.lock_soundness.specs.Fused.{objectPlace}
+use Rattle.lock_soundness.proofs.object_place.Statement.{statement}
+use Rattle.lock_soundness.proofs.object_place.Tie as tie
+
+pub object-place-spec : {M : Type 1} → statement M
+unfolding objectPlace
+object-place-spec =
+    tie.close
+    (tie.spec
+    (λ c. simp (eq-eqb _ _ (c .if1 .taken)))
+    (λ c. simp (lt-ltb _ _ (c .if2 .taken), ne-eqb _ _ (c .before .if1 .left)))
+    (λ c. search needs)
+    (λ c. simp (le-ltb _ _ (c .if2 .left), ne-eqb _ _ (c .before .if1 .left))))

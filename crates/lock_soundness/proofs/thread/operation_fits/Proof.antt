@@ -1,0 +1,15 @@
+-- `lock_soundness::thread::operation_fits` meets its contract: each way through the code is that of the definition.
+use Rattle.lock_soundness.specs.Fields.{operationFits}
+use Rattle.lock_soundness.proofs.thread.operation_fits.Statement.{statement}
+use Rattle.lock_soundness.proofs.thread.operation_fits.Tie as tie
+
+pub operation-fits-spec : {M : Type 1} → statement M
+unfolding operationFits
+operation-fits-spec =
+    tie.close
+    (tie.spec
+    (λ c κs. tt)
+    (λ c κs. tt)
+    (λ c κs. tt)
+    (λ c κs. tt)
+    (λ c. simp (c .implies .ensures, c .before .carries-phase .ensures, c .before .before .uses-phase .ensures, c .before .before .before .within .ensures)))
