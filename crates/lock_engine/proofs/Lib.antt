@@ -1,1 +1,2 @@
 -- The laws of events.
+pub mod Cases

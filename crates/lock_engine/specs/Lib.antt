@@ -2,3 +2,4 @@
 pub mod Outcome
 pub mod Begin
 pub mod Step
+pub mod Cases

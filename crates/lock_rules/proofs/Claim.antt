@@ -32,8 +32,8 @@ OwnedByOther o t = (object-owner o ≢ 0) × (object-owner o ≢ t)
 -- another thread than t, not parked, has an unfinished operation on the object of t
 abbrev pub BusyOther : ListTable → ℕ → Type 0
 BusyOther table t =
-    (u : ℕ) × (u ≢ t) × T (unparked (table .threads u .state)) × T (unfinished (table .threads u .state)) × (table .threads u .object ≡ table .threads
-    t .object)
+    (u : ℕ) × (u ≢ t) × T (unparked (table .threads u .state)) × T (unfinished (table .threads u .state))
+    × (table .threads u .object ≡ table .threads t .object)
 
 pub record Claim (table : ListTable) (plain : Plain) : Type 0 where
   -- each object's owner and depth, its waiting threads in order, its woken threads
@@ -106,8 +106,8 @@ world-claim table plain world =
             → OwnedByOther (table .objects (table .threads t .object)) t ⊎ BusyOther table t
         on (inl n) = inl n
         on (inr (u, n, p, q)) =
-            let (a, b, c) = there u (eqb (table .threads u .object) (table .threads t .object)) (equal (table .threads u .object) (table .threads t .object))
-            p q in
+            let home = table .threads t .object in
+            let (a, b, c) = there u (eqb (table .threads u .object) home) (equal (table .threads u .object) home) p q in
             inr (u, n, a, b, c)
 
 pub demand : Demand

@@ -5,14 +5,12 @@ use mathlib.Core.Logic.{_≢_}
 use mathlib.Core.Bool.{Bool, true, false, true≢false}
 use mathlib.Core.List.{List, [], _∷_, _++_}
 use native.Mathlib.Omega.{arith}
-use lib.Dec.{T, eqb, ltb}
-use Rattle.laws.specs.Choice.{pick}
+use lib.Dec.{T}
 use Rattle.laws.specs.Update.{update}
-use Rattle.laws.proofs.Choice.{Equal, equal, Below, below}
 use Rattle.laws.proofs.Count.{count-joined}
 use Rattle.lock_rules.specs.Limits.{depth-limit}
 use Rattle.lock_rules.specs.Ownership.{owner-of}
-use Rattle.lock_rules.specs.Actions.{keep-object, finish-depth, inflate, become-holder, raise-flag}
+use Rattle.lock_rules.specs.Actions.{keep-object, inflate, become-holder, raise-flag}
 use Rattle.lock_rules.specs.Rules.{onward, go-in-again, go-in, enter-check, enter-try}
 use Rattle.lock_rules.specs.Operations.{Operation}
 use Rattle.lock_rules.specs.Operations.{Enter, Exit, Wait}
@@ -23,9 +21,8 @@ use Rattle.lock_rules.specs.declared.Doing.the-variants.{EnterGoIn, Ente
 use Rattle.lock_rules.specs.declared.ThreadState.the-variants.{Idle, Running, Queued, Contending}
 use Rattle.lock_rules.specs.declared.WordSeen.{WordSeen}
 use Rattle.lock_rules.specs.declared.WordSeen.the-variants.{Free, Anonymous, Fat, Flat, Reserved}
-use Rattle.lock_rules.specs.declared.ChainAction.the-variants.{Stay, JoinEntry, Contend}
+use Rattle.lock_rules.specs.declared.ChainAction.the-variants.{JoinEntry}
 use Rattle.lock_rules.specs.declared.Answer.the-variants.{GoneOn, Finished, Parked, TooDeep}
-use Rattle.lock_rules.specs.declared.Action.the-variants.{Unruled}
 use Rattle.lock_rules.specs.PlainMonitor.{owned-by, finished, commit}
 use Rattle.lock_rules.proofs.Commits.{commit-enter, commit-enter-again, commit-too-deep}
 use Rattle.lock_rules.proofs.Objects.{ListObject, object-of, sight-of}
@@ -34,10 +31,10 @@ use Rattle.lock_rules.proofs.Tables.{fresh}
 use Rattle.lock_rules.proofs.Invariant.{holding, nothing-saved, phase-row, leaving?, InChains, Unreserved, FlatOf, NotOwn, ReliesOn, Relies}
 use Rattle.lock_rules.proofs.Invariant.{Logged, woken?, SavedIs, MonitorOk, FlagOk, Invariant}
 use Rattle.lock_rules.proofs.OtherThreads.{others-flag, others-taken, others-joined-entry, others-joined-contention}
-use Rattle.lock_rules.proofs.Facts.{by-equal, unstranded-moved, unstranded-held, unstranded-joined, unheld, monitor-handed, owner-shallow, fat-owner}
-use Rattle.lock_rules.proofs.Facts.{fat-unowned, first-commit, same-monitor}
-use Rattle.lock_rules.proofs.Refine.{plain-at, Actor, Self, Stepping, Right, nothing-committed, refine}
-use Rattle.lock_rules.proofs.Parts.{ended-self, end-refines, depth-refines, hand-refines, inflate-refines}
+use Rattle.lock_rules.proofs.SharedFacts.{by-below, by-equal, unstranded-moved, unstranded-held, unstranded-joined, unheld, monitor-handed}
+use Rattle.lock_rules.proofs.SharedFacts.{owner-shallow, fat-owner, fat-unowned, first-commit, same-monitor}
+use Rattle.lock_rules.proofs.Refinement.{plain-at, Actor, Self, Stepping, Right, nothing-committed, refine}
+use Rattle.lock_rules.proofs.RuleShapes.{ended-self, end-refines, depth-refines, hand-refines, inflate-refines}
 
 module _ (actor : Actor) where
   -- nobody holds the monitor: the thread becomes its holder
@@ -65,12 +62,10 @@ module _ (actor : Actor) where
         others = others-taken (actor .thread) (actor .states) (object-of word flag holder depth entry contention
             waiting) (actor .ghost) q (λ t n. inv .threads t);
         self = self u;
-        monitor = rw u (monitor-handed word holder (actor .thread) depth
-            (inv .whole .monitor));
+        monitor = rw u (monitor-handed word holder (actor .thread) depth (inv .whole .monitor));
         empty = λ x. absurd (actor .real x);
         flag = inv .whole .flag;
-        unstranded = unstranded-held word (actor .states)
-            (actor .thread) (Running next) entry contention (actor .real) stays;
+        unstranded = unstranded-held word (actor .states) (actor .thread) (Running next) entry contention (actor .real) stays;
         shows = same-monitor same-owner refl;
         ended = tt;
       })
@@ -86,8 +81,7 @@ module _ (actor : Actor) where
       (record {
         after = object-of word flag holder depth (enter-queue entry (actor .thread)) contention waiting;
         states = actor .states;
-        state = Queued
-            carried;
+        state = Queued carried;
         answer = Parked;
         commits = false;
         committed = nothing-committed;
@@ -102,8 +96,7 @@ module _ (actor : Actor) where
         monitor = inv .whole .monitor;
         empty = λ x. absurd (q x);
         flag = inv .whole .flag;
-        unstranded = unstranded-joined word (update (actor .states) (actor .thread) (Queued carried))
-            (actor .thread) holder entry contention q;
+        unstranded = unstranded-joined word (update (actor .states) (actor .thread) (Queued carried)) (actor .thread) holder entry contention q;
         shows = refl;
         ended = tt;
       })
@@ -124,7 +117,10 @@ module _ (actor : Actor) where
       → Right actor (phase-row doing .operation) o (go-in (actor .thread) (sight-of o) carried)
   unfolding go-in
   go-in-refines word flag holder depth entry contention waiting doing carried step seated saves-not saved-not operation stage relies queued again =
-      at (eqb holder 0) (eqb holder (actor .thread)) (equal holder 0) (equal holder (actor .thread))
+      by-equal (Right actor (phase-row doing .operation) (object-of word flag holder depth entry contention waiting)) holder 0 free
+      (λ e. by-equal (Right actor (phase-row doing .operation) (object-of word flag holder depth entry contention waiting)) holder (actor .thread) again
+      (λ q. join-refines (phase-row doing .operation) word flag holder depth entry contention waiting carried (step .inv) e
+      (record { seated = (q, actor .real); placed = joined (step .self .placed); relies = queued e; logged = logged; saved = saved; woken = woken })))
     where
       woken : actor .ghost .woken (actor .thread) ≡ woken? (phase-row (onward carried) .saved)
       woken = rw saves-not (rw saved-not at (step .self .woken))
@@ -148,56 +144,38 @@ module _ (actor : Actor) where
             woken = woken;
           })
 
-      at : (nobody self : Bool) → Equal nobody holder 0 → Equal self holder (actor .thread)
-          → let o = object-of word flag holder depth entry contention waiting in
-          Right actor (phase-row doing .operation) o
-          (pick nobody (become-holder (actor .thread) (sight-of o) (onward carried))
-          (pick self (go-in-again (sight-of o) carried) (keep-object (sight-of o) JoinEntry (Queued carried) Parked false)))
-      at true true e q = free e
-      at true false e q = free e
-      at false true e q = again q
-      at false false e q =
-          join-refines (phase-row doing .operation) word flag holder depth entry contention waiting carried (step .inv) e
-          (record { seated = (q, actor .real); placed = joined (step .self .placed); relies = queued e; logged = logged; saved = saved; woken = woken })
-
   enter-again-refines : (word : WordSeen) (flag : Bool) (holder depth : ℕ) (entry contention waiting : List ℕ)
       → let o = object-of word flag holder depth entry contention waiting in
       Stepping actor EnterGoIn o → holder ≡ actor .thread → Right actor Enter o (go-in-again (sight-of o) ToCheck)
   unfolding go-in-again
-  enter-again-refines word flag holder depth entry contention waiting step q =
-      at word (step .inv .whole .monitor) step (eqb depth 0) (ltb depth depth-limit) (equal depth 0) (below depth depth-limit)
-    where
-      above : 0 < depth
-      above = step .self .seated q (actor .real)
-
-      at : (word : WordSeen) → MonitorOk word holder depth → let o = object-of word flag holder depth entry contention waiting in
-          Stepping actor EnterGoIn o → (shallow low : Bool) → Equal shallow depth 0 → Below low depth depth-limit
-          → Right actor Enter o (pick shallow Unruled (pick low (finish-depth (sight-of o) (depth + 1)) (keep-object (sight-of o) Stay Idle TooDeep true)))
-      at Free m step shallow low e l = absurd (omega (arith, above, m))
-      at Anonymous m step shallow low e l = absurd (omega (arith, above, m))
-      at (Flat owner c) m step shallow low e l = absurd (omega (arith, above, m .0))
-      at (Reserved owner c) m step shallow low e l = absurd (omega (arith, above, m .0))
-      at Fat m step true low e l = absurd (omega (arith, above, e))
-      at Fat m step false true e l =
-          depth-refines actor Enter flag holder depth (depth + 1) entry contention waiting step q
-          (record {
-            woken = actor .ghost .woken;
-            does = commit-enter-again (actor .thread)
-                (plain-at actor (object-of Fat flag holder depth entry contention waiting)) (actor .real) (fat-owner holder depth above ∙ q) l;
-            others = λ t n. refl;
-            asleep = step .self .woken;
-            above = omega arith;
-            limit = omega (arith, l);
-            ended = (
-              first-commit (step .self .logged .1),
-              refl,
-            );
-          })
-      at Fat m step false false e l =
-          end-refines actor Enter _ EnterGoIn TooDeep step (λ k. k) (step .self .seated) (step .self .woken)
-          (commit-too-deep (actor .thread) (plain-at actor (object-of Fat flag holder depth entry contention waiting)) (actor .real)
-          (fat-owner holder depth above ∙ q) l)
-          (first-commit (step .self .logged .1), refl)
+  enter-again-refines Free flag holder depth entry contention waiting step q =
+      absurd (omega (arith, step .self .seated q (actor .real), step .inv .whole .monitor))
+  enter-again-refines Anonymous flag holder depth entry contention waiting step q =
+      absurd (omega (arith, step .self .seated q (actor .real), step .inv .whole .monitor))
+  enter-again-refines (Flat owner c) flag holder depth entry contention waiting step q =
+      absurd (omega (arith, step .self .seated q (actor .real), step .inv .whole .monitor .0))
+  enter-again-refines (Reserved owner c) flag holder depth entry contention waiting step q =
+      absurd (omega (arith, step .self .seated q (actor .real), step .inv .whole .monitor .0))
+  enter-again-refines Fat flag holder depth entry contention waiting step q =
+      let o = object-of Fat flag holder depth entry contention waiting in
+      let above = step .self .seated q (actor .real) in
+      by-equal (Right actor Enter o) depth 0 (λ e. absurd (omega (arith, above, e)))
+      (λ e. by-below (Right actor Enter o) depth depth-limit
+      (λ l. depth-refines actor Enter flag holder depth (depth + 1) entry contention waiting step q
+      (record {
+        woken = actor .ghost .woken;
+        does = commit-enter-again (actor .thread) (plain-at actor o) (actor .real) (fat-owner holder depth above ∙ q) l;
+        others = λ t n. refl;
+        asleep = step .self .woken;
+        above = omega arith;
+        limit = omega (arith, l);
+        ended = (
+          first-commit (step .self .logged .1),
+          refl,
+        );
+      }))
+      (λ l. end-refines actor Enter o EnterGoIn TooDeep step (λ k. k) (step .self .seated) (step .self .woken)
+      (commit-too-deep (actor .thread) (plain-at actor o) (actor .real) (fat-owner holder depth above ∙ q) l) (first-commit (step .self .logged .1), refl)))
 
   pub enter-go-in-refines : (o : ListObject) → Stepping actor EnterGoIn o → Right actor Enter o (go-in (actor .thread) (sight-of o) ToCheck)
   enter-go-in-refines o step =
@@ -289,8 +267,7 @@ module _ (actor : Actor) where
         state = Idle;
         answer = Finished 0;
         commits = true;
-        committed = finished
-            (owned-by (plain-at actor (object-of word flag holder depth entry contention waiting)) (actor .thread) new);
+        committed = finished (owned-by (plain-at actor (object-of word flag holder depth entry contention waiting)) (actor .thread) new);
         foreign = foreign;
         open-word = thin;
         above = above;
@@ -312,8 +289,7 @@ module _ (actor : Actor) where
       (λ e. depth-refines actor Enter flag holder depth 1 entry contention waiting step (step .self .seated .0)
       (record {
         woken = actor .ghost .woken;
-        does = commit-enter (actor .thread)
-            (plain-at actor (object-of Fat flag holder depth entry contention waiting)) (fat-unowned holder depth e);
+        does = commit-enter (actor .thread) (plain-at actor (object-of Fat flag holder depth entry contention waiting)) (fat-unowned holder depth e);
         others = λ t n. refl;
         asleep = step .self .woken;
         above = omega arith;

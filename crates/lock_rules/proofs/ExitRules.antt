@@ -5,14 +5,12 @@ use mathlib.Core.Logic.{_≢_, inl, inr}
 use mathlib.Core.Bool.{Bool, true, false, true≢false}
 use mathlib.Core.List.{List, [], _∷_, cons≢nil}
 use native.Mathlib.Omega.{arith}
-use lib.Dec.{T, eqb}
-use Rattle.laws.specs.Choice.{pick}
+use lib.Dec.{T}
 use Rattle.laws.specs.Update.{update}
 use Rattle.laws.specs.Count.{count}
-use Rattle.laws.proofs.Choice.{Equal, equal}
 use Rattle.laws.proofs.Update.{update-same, update-other}
 use Rattle.laws.proofs.Count.{count-other}
-use Rattle.lock_rules.specs.Actions.{keep-object, go-on}
+use Rattle.lock_rules.specs.Actions.{go-on}
 use Rattle.lock_rules.specs.Rules.{onward, exit-test, exit-tell, exit-leave}
 use Rattle.lock_rules.specs.Changes.{handed}
 use Rattle.lock_rules.specs.Operations.{Exit}
@@ -22,19 +20,17 @@ use Rattle.lock_rules.specs.declared.Doing.the-variants.{ExitGoIn, ExitT
 use Rattle.lock_rules.specs.declared.ThreadState.the-variants.{Idle, Running, Queued}
 use Rattle.lock_rules.specs.declared.WordSeen.{WordSeen}
 use Rattle.lock_rules.specs.declared.WordSeen.the-variants.{Free, Anonymous, Fat, Flat, Reserved}
-use Rattle.lock_rules.specs.declared.ChainAction.the-variants.{HandOver}
 use Rattle.lock_rules.specs.declared.Answer.the-variants.{GoneOn, Finished}
-use Rattle.lock_rules.specs.declared.Action.the-variants.{Unruled}
 use Rattle.lock_rules.proofs.Objects.{ListObject, object-of, sight-of}
 use Rattle.lock_rules.proofs.Perform.{enter-queue, count-entered-other, handed-object, handed-states}
 use Rattle.lock_rules.proofs.Invariant.{phase-row, leaving?, in-entry, FlagOk, Told, Unstranded}
 use Rattle.lock_rules.proofs.Reliances.{is-queued}
 use Rattle.lock_rules.proofs.Membership.{not-first}
 use Rattle.lock_rules.proofs.OtherThreads.{others-told}
-use Rattle.lock_rules.proofs.Facts.{by-equal, unstranded-empty, unstranded-joined, flag-down, owner-shallow, first-queued, contender-busy}
-use Rattle.lock_rules.proofs.Facts.{same-monitor}
-use Rattle.lock_rules.proofs.Refine.{Actor, Stepping, Right, nothing-committed, refine}
-use Rattle.lock_rules.proofs.Parts.{go-on-refines, ended-self, hand-refines}
+use Rattle.lock_rules.proofs.SharedFacts.{by-equal, unstranded-empty, unstranded-joined, flag-down, owner-shallow, first-queued}
+use Rattle.lock_rules.proofs.SharedFacts.{contender-busy, same-monitor}
+use Rattle.lock_rules.proofs.Refinement.{Actor, Stepping, Right, nothing-committed, refine}
+use Rattle.lock_rules.proofs.RuleShapes.{go-on-refines, ended-self, hand-refines}
 
 module _ (actor : Actor) where
   pub exit-test-refines : (word : WordSeen) (flag : Bool) (holder depth : ℕ) (entry contention waiting : List ℕ)
@@ -104,8 +100,7 @@ module _ (actor : Actor) where
         monitor = step .inv .whole .monitor;
         empty = step .inv .whole .empty;
         flag = step .inv .whole .flag;
-        unstranded = unstranded-empty (o .word) (update (actor .states) (actor .thread) (Running ExitLeave)) (o .holder)
-            (o .entry) (o .contention) e;
+        unstranded = unstranded-empty (o .word) (update (actor .states) (actor .thread) (Running ExitLeave)) (o .holder) (o .entry) (o .contention) e;
         shows = refl;
         ended = tt;
       })
@@ -133,8 +128,7 @@ module _ (actor : Actor) where
         stays = λ t e. update-other (actor .states) first (Queued ToCheck) t
             (λ k. contender-busy (actor .states) o (actor .ghost) (step .inv) first rest refl t e (sym k)) ∙ e;
         does = λ k. absurd k;
-        others = others-told
-            (actor .thread) (actor .states) o (actor .ghost) first rest refl (λ t n. step .inv .threads t);
+        others = others-told (actor .thread) (actor .states) o (actor .ghost) first rest refl (λ t n. step .inv .threads t);
         self = record {
           seated = step .self .seated;
           placed = record {
@@ -148,8 +142,7 @@ module _ (actor : Actor) where
           woken = step .self .woken;
         };
         monitor = step .inv .whole .monitor;
-        empty = λ x. absurd
-            (actor .real (sym q ∙ x));
+        empty = λ x. absurd (actor .real (sym q ∙ x));
         flag = flag-rest word first rest (step .inv .whole .flag);
         unstranded = unstranded-joined word
             (update (update (actor .states) first (Queued ToCheck)) (actor .thread) (Running ExitLeave)) first holder entry rest
@@ -194,8 +187,8 @@ module _ (actor : Actor) where
   unstranded-handed : (word : WordSeen) (flag : Bool) (holder depth : ℕ) (entry contention waiting : List ℕ)
       → let o = object-of word flag holder depth entry contention waiting in
       Stepping actor ExitLeave o
-      → Unstranded word (update (handed-states (actor .states) entry) (actor .thread) Idle) (handed-object o entry .holder) (handed-object o entry .entry)
-      contention
+      → Unstranded word (update (handed-states (actor .states) entry) (actor .thread) Idle) (handed-object o entry .holder)
+      (handed-object o entry .entry) contention
   unstranded-handed Free flag holder depth entry contention waiting step = told-handed flag holder depth entry contention waiting entry step refl
   unstranded-handed Anonymous flag holder depth entry contention waiting step = tt
   unstranded-handed Fat flag holder depth entry contention waiting step = tt

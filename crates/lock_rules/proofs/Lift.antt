@@ -31,9 +31,9 @@ use Rattle.lock_rules.proofs.Tables.{ListThread, ListTable, seen-from, 
 use Rattle.lock_rules.proofs.Tables.{shown, fresh-word, fresh, seen-idle, seen-here, seen-elsewhere}
 use Rattle.lock_rules.proofs.Invariant.{phase-row, leaving?, Ghost, ThreadOk, ObjectOk, Invariant, monitor-of, Refines}
 use Rattle.lock_rules.proofs.OtherThreads.{with-own}
-use Rattle.lock_rules.proofs.Facts.{unstranded-moved}
-use Rattle.lock_rules.proofs.Refine.{Actor, Stepping}
-use Rattle.lock_rules.proofs.Steps.{step-refines}
+use Rattle.lock_rules.proofs.SharedFacts.{unstranded-moved}
+use Rattle.lock_rules.proofs.Refinement.{Actor, Stepping}
+use Rattle.lock_rules.proofs.EveryStep.{step-refines}
 
 -- what the plain monitors know of the threads at object o
 abbrev pub ghost-at : Plain → ℕ → Ghost
@@ -246,8 +246,7 @@ module _ (table : ListTable) (plain : Plain) (t : ℕ) (result : Performed) (wor
 
       -- the plain monitor of the object, after the step
       here : fed .monitors home ≡ monitor-of (result .object) (record { logs = plain .logs; woken = refined .woken; saved = refined .saved })
-      here = rw (world .objects t, update-same (plain .monitors) home)
-          (pick-is (result .commits) _ (refined .committed .monitor) (plain .monitors home)
+      here = rw (world .objects t, update-same (plain .monitors) home) (pick-is (result .commits) _ (refined .committed .monitor) (plain .monitors home)
           (λ k. ap (λ (x : Committed). x .monitor) ((rw (world .objects t) at runs) ∙ refined .commits k))
           ∙ (ap (pick (result .commits) (refined .committed .monitor)) (world .monitors home) ∙ refined .monitor))
 

@@ -1,4 +1,5 @@
--- The chains of a sound table, any of the three: their members are threads of the table, at that object, each once; so no chain is longer than the table has threads.
+-- The chains of a sound table, any of the three: their members are threads of the table, at that object, each once;
+-- so no chain is longer than the table has threads.
 use Prim.Native.Nat.{ℕ, _≤_, _<_}
 use mathlib.Core.Path.{_≡_, refl, ap, _∙_}
 use mathlib.Core.Logic.{_≢_, _⊎_, inl, inr}

@@ -46,8 +46,7 @@ line number phase word = record { returned = number; phase = phase; woken = 0; w
 
 listing : lines 2 1 (fresh false)
     (Begin 1 1 1 ∷ Step 1 ∷ Begin 1 2 1 ∷ Step 2 ∷ Step 2 ∷ Step 2 ∷ Step 2 ∷ Begin 2 1 1 ∷ Step 1 ∷ Step 1 ∷ Step 1 ∷ Step 1 ∷ Step 1 ∷ Step 2 ∷ Step 2 ∷ [])
-    ≡ line 0 1 0 ∷ line 1 0 0x100 ∷ line 0 1 0x100 ∷ line 0 4 0x100 ∷ line 0 6 0x100 ∷ line 0 7 0x100 ∷ line 2 8 0x100 ∷ line 0 1 0x100 ∷ line 0 9 0 ∷ line 0
-    4 0
-    ∷ line 0 10 0 ∷ line 0 11 0 ∷ line 1 0 0 ∷ line 0 7 0 ∷ line 1 0 0x101 ∷ []
+    ≡ line 0 1 0 ∷ line 1 0 0x100 ∷ line 0 1 0x100 ∷ line 0 4 0x100 ∷ line 0 6 0x100 ∷ line 0 7 0x100 ∷ line 2 8 0x100 ∷ line 0 1 0x100 ∷ line 0 9 0
+    ∷ line 0 4 0 ∷ line 0 10 0 ∷ line 0 11 0 ∷ line 1 0 0 ∷ line 0 7 0 ∷ line 1 0 0x101 ∷ []
 unfolding update count enter-queue enter-queue-all asked-for decide enter-look exit-owned go-in go-in-again enter-check enter-try exit-test exit-tell exit-leave
 listing = refl

@@ -5,18 +5,18 @@ use mathlib.Core.Logic.{inl}
 use mathlib.Core.Bool.{Bool, true, false}
 use mathlib.Core.List.{List, [], _∷_}
 use native.Mathlib.Omega.{arith}
-use lib.Dec.{eqb, ltb}
+use lib.Dec.{eqb}
 use lib.ListN.{length}
 use Rattle.laws.specs.Choice.{pick, both}
 use Rattle.laws.specs.Update.{update}
 use Rattle.laws.specs.Count.{count}
-use Rattle.laws.proofs.Choice.{Equal, equal, Below, below}
+use Rattle.laws.proofs.Choice.{Equal, equal}
 use Rattle.laws.proofs.Update.{update-same}
 use Rattle.laws.proofs.Count.{count-none}
 use Rattle.lock_rules.specs.Limits.{count-limit}
 use Rattle.lock_rules.specs.Ownership.{owner-of, depth-of}
-use Rattle.lock_rules.specs.Actions.{go-on, finish-word, finish-depth, let-go}
-use Rattle.lock_rules.specs.Rules.{owner-seen, deflation, enter-look, exit-owned, wait-owned, owner-only}
+use Rattle.lock_rules.specs.Actions.{let-go}
+use Rattle.lock_rules.specs.Rules.{owner-seen, enter-look, exit-owned, wait-owned, owner-only}
 use Rattle.lock_rules.specs.Changes.{word-after}
 use Rattle.lock_rules.specs.Operations.{Enter, Exit, Wait}
 use Rattle.lock_rules.specs.declared.Doing.{Doing}
@@ -30,13 +30,30 @@ use Rattle.lock_rules.specs.declared.WordChange.the-variants.{Unchanged,
 use Rattle.lock_rules.specs.declared.Answer.the-variants.{GoneOn}
 use Rattle.lock_rules.specs.PlainMonitor.{unowned, owned-by, finished}
 use Rattle.lock_rules.proofs.Commits.{commit-enter, commit-enter-again, commit-exit-last, commit-exit}
-use Rattle.lock_rules.proofs.Objects.{ListObject, object-of, empty, sight-of, object-owner, owned-depth}
+use Rattle.lock_rules.proofs.Objects.{with-word, with-depth, ListObject, object-of, empty, sight-of, object-owner, owned-depth}
 use Rattle.lock_rules.proofs.Invariant.{all-committed, nothing-saved, phase-row, Seated, ReliesOn, MonitorOk, FlagOk, Unstranded}
 use Rattle.lock_rules.proofs.OtherThreads.{Others, others-word, others-depth}
-use Rattle.lock_rules.proofs.Facts.{by-below, keeps-taken, keeps-flat, keeps-freed, keeps-anonymous, keeps-deflated, unstranded-empty, fat-owned}
-use Rattle.lock_rules.proofs.Facts.{reserved-owned, first-commit, none, same-monitor}
-use Rattle.lock_rules.proofs.Refine.{plain-at, Actor, Stepping, Right, refine}
-use Rattle.lock_rules.proofs.Parts.{move-refines, go-on-refines, owner-only-refines, word-refines, depth-refines}
+use Rattle.lock_rules.proofs.SharedFacts.{by-equal, by-below, keeps-taken, keeps-flat, keeps-freed, keeps-anonymous, keeps-deflated}
+use Rattle.lock_rules.proofs.SharedFacts.{unstranded-empty, fat-owned, reserved-owned, first-commit, none, same-monitor}
+use Rattle.lock_rules.proofs.Refinement.{plain-at, Actor, Stepping, Right, refine}
+use Rattle.lock_rules.proofs.RuleShapes.{move-refines, go-on-refines, owner-only-refines, word-refines, depth-refines}
+
+-- What is shown of an exit's last commit: the thread owned the object at depth 1, and nobody owns it after.
+record LetGoParts (actor : Actor) (o : ListObject) (change : WordChange) (new : ℕ) (next : Doing) : Type 0 where
+  owns : object-owner o ≡ actor .thread
+  one : owned-depth o ≡ 1
+  others : Others (actor .thread) (actor .states) (with-depth (with-word o (word-after (actor .thread) change (o .word))) new) (actor .ghost)
+  seated : Seated (phase-row next .seat) (actor .thread) (o .holder) new
+  relies : ReliesOn (phase-row next .reliance) (actor .thread) (word-after (actor .thread) change (o .word)) (o .flag) (o .holder)
+  operation : phase-row next .operation ≡ Exit
+  stage : phase-row next .stage ≡ all-committed
+  saved : phase-row next .saved ≡ nothing-saved
+  monitor : MonitorOk (word-after (actor .thread) change (o .word)) (o .holder) new
+  flag : FlagOk (word-after (actor .thread) change (o .word)) (o .flag) (o .contention)
+  unstranded : Unstranded (word-after (actor .thread) change (o .word)) (update (actor .states) (actor .thread) (Running next)) (o .holder) (o .entry)
+      (o .contention)
+  unowned : owner-of (word-after (actor .thread) change (o .word)) (o .holder) new ≡ 0
+  shallow : depth-of (word-after (actor .thread) change (o .word)) new ≡ 0
 
 module _ (actor : Actor) where
   pub enter-look-refines : (word : WordSeen) (flag : Bool) (holder depth : ℕ) (entry contention waiting : List ℕ)
@@ -47,8 +64,7 @@ module _ (actor : Actor) where
       word-refines actor Enter (object-of Free flag holder depth entry contention waiting) (OwnFlat 0) step
       (record {
         keeps = λ t n. keeps-taken (actor .states t) (actor .thread) t holder n 0;
-        does = commit-enter (actor .thread)
-            (plain-at actor (object-of Free flag holder depth entry contention waiting)) refl;
+        does = commit-enter (actor .thread) (plain-at actor (object-of Free flag holder depth entry contention waiting)) refl;
         seated = step .self .seated;
         asleep = step .self .woken;
         monitor = (step .inv .whole .monitor, actor .real, omega arith);
@@ -60,8 +76,7 @@ module _ (actor : Actor) where
       word-refines actor Enter (object-of Anonymous flag holder depth entry contention waiting) (OwnReserved 1) step
       (record {
         keeps = λ t n. keeps-anonymous (actor .states t) (actor .thread) t holder n (Reserved (actor .thread) 1);
-        does = commit-enter (actor .thread)
-            (plain-at actor (object-of Anonymous flag holder depth entry contention waiting)) refl;
+        does = commit-enter (actor .thread) (plain-at actor (object-of Anonymous flag holder depth entry contention waiting)) refl;
         seated = step .self .seated;
         asleep = step .self .woken;
         monitor = (step .inv .whole .monitor, actor .real, omega arith);
@@ -72,59 +87,38 @@ module _ (actor : Actor) where
   enter-look-refines Fat flag holder depth entry contention waiting step =
       go-on-refines actor _ EnterLook EnterGoIn step (refl, refl, refl, refl) (λ k. k) tt
   enter-look-refines (Flat owner c) flag holder depth entry contention waiting step =
-      at (eqb owner (actor .thread)) (ltb c count-limit) (equal owner (actor .thread)) (below c count-limit)
-    where
-      at : (own low : Bool) → Equal own owner (actor .thread) → Below low c count-limit
-          → let o = object-of (Flat owner c) flag holder depth entry contention waiting in
-          Right actor Enter o
-          (pick own (pick low (finish-word (sight-of o) (OwnFlat (c + 1))) (go-on (sight-of o) EnterGoIn)) (go-on (sight-of o) EnterGoIn))
-      at true true q l =
-          word-refines actor Enter (object-of (Flat owner c) flag holder depth entry contention waiting) (OwnFlat (c + 1)) step
-          (record {
-            keeps = λ t n. keeps-flat (actor .states t) (actor .thread) t holder n owner c (c + 1) q;
-            does = commit-enter-again (actor .thread)
-                (plain-at actor (object-of (Flat owner c) flag holder depth entry contention waiting)) (actor .real) q (omega (arith, l));
-            seated = step .self .seated;
-            asleep = step .self .woken;
-            monitor = (step .inv .whole .monitor .0, actor .real, omega (arith, l));
-            flag = step .inv .whole .flag;
-            unstranded = tt;
-            ended = (first-commit (step .self .logged .1), refl);
-          })
-      at true false q l = go-on-refines actor _ EnterLook EnterGoIn step (refl, refl, refl, refl) (λ k. k) tt
-      at false true q l = go-on-refines actor _ EnterLook EnterGoIn step (refl, refl, refl, refl) (λ k. k) tt
-      at false false q l = go-on-refines actor _ EnterLook EnterGoIn step (refl, refl, refl, refl) (λ k. k) tt
+      by-equal (Right actor Enter (object-of (Flat owner c) flag holder depth entry contention waiting)) owner (actor .thread)
+      (λ q. by-below (Right actor Enter (object-of (Flat owner c) flag holder depth entry contention waiting)) c count-limit
+      (λ l. word-refines actor Enter (object-of (Flat owner c) flag holder depth entry contention waiting) (OwnFlat (c + 1)) step
+      (record {
+        keeps = λ t n. keeps-flat (actor .states t) (actor .thread) t holder n owner c (c + 1) q;
+        does = commit-enter-again (actor .thread)
+            (plain-at actor (object-of (Flat owner c) flag holder depth entry contention waiting)) (actor .real) q (omega (arith, l));
+        seated = step .self .seated;
+        asleep = step .self .woken;
+        monitor = (step .inv .whole .monitor .0, actor .real, omega (arith, l));
+        flag = step .inv .whole .flag;
+        unstranded = tt;
+        ended = (first-commit (step .self .logged .1), refl);
+      }))
+      (λ l. go-on-refines actor _ EnterLook EnterGoIn step (refl, refl, refl, refl) (λ k. k) tt))
+      (λ q. go-on-refines actor _ EnterLook EnterGoIn step (refl, refl, refl, refl) (λ k. k) tt)
   enter-look-refines (Reserved owner c) flag holder depth entry contention waiting step =
-      at (eqb owner (actor .thread)) (ltb c count-limit) (equal owner (actor .thread)) (below c count-limit)
-    where
-      at : (own low : Bool) → Equal own owner (actor .thread) → Below low c count-limit
-          → let o = object-of (Reserved owner c) flag holder depth entry contention waiting in
-          Right actor Enter o (pick own (pick low (go-on (sight-of o) (EnterStore c)) (go-on (sight-of o) EnterCancel)) (go-on (sight-of o) EnterCancel))
-      at true true q l = go-on-refines actor _ EnterLook (EnterStore c) step (refl, refl, refl, refl) (λ k. k) ((q, refl), l)
-      at true false q l = go-on-refines actor _ EnterLook EnterCancel step (refl, refl, refl, refl) (λ k. k) tt
-      at false true q l = go-on-refines actor _ EnterLook EnterCancel step (refl, refl, refl, refl) (λ k. k) tt
-      at false false q l = go-on-refines actor _ EnterLook EnterCancel step (refl, refl, refl, refl) (λ k. k) tt
+      by-equal (Right actor Enter (object-of (Reserved owner c) flag holder depth entry contention waiting)) owner (actor .thread)
+      (λ q. by-below (Right actor Enter (object-of (Reserved owner c) flag holder depth entry contention waiting)) c count-limit
+      (λ l. go-on-refines actor _ EnterLook (EnterStore c) step (refl, refl, refl, refl) (λ k. k) ((q, refl), l))
+      (λ l. go-on-refines actor _ EnterLook EnterCancel step (refl, refl, refl, refl) (λ k. k) tt))
+      (λ q. go-on-refines actor _ EnterLook EnterCancel step (refl, refl, refl, refl) (λ k. k) tt)
 
   -- an exit's last commit: nobody owns the object after it
-  let-go-refines : (word : WordSeen) (change : WordChange) (flag : Bool) (holder depth new : ℕ) (entry contention waiting : List ℕ) (next : Doing)
-      → let o = object-of word flag holder depth entry contention waiting in
-      let word′ = word-after (actor .thread) change word in
-      let after = object-of word′ flag holder new entry contention waiting in
-      Stepping actor ExitLook o → object-owner o ≡ actor .thread → owned-depth o ≡ 1 → Others (actor .thread) (actor .states) after (actor .ghost)
-      → Seated (phase-row next .seat) (actor .thread) holder new → ReliesOn (phase-row next .reliance) (actor .thread) word′ flag holder
-      → phase-row next .operation ≡ Exit → phase-row next .stage ≡ all-committed → phase-row next .saved ≡ nothing-saved
-      → MonitorOk word′ holder new → FlagOk word′ flag contention → Unstranded word′ (update (actor .states) (actor .thread) (Running next)) holder entry
-      contention
-      → owner-of word′ holder new ≡ 0 → depth-of word′ new ≡ 0 → Right actor Exit o (let-go (sight-of o) change new next)
-  let-go-refines word change flag holder depth new entry contention waiting next step q one others seated relies operation stage saved monitor flagged
-      unstranded unowned shallow =
-      let o = object-of word flag holder depth entry contention waiting in
+  let-go-refines : (o : ListObject) (change : WordChange) (new : ℕ) (next : Doing) → Stepping actor ExitLook o → LetGoParts actor o change new next
+      → Right actor Exit o (let-go (sight-of o) change new next)
+  let-go-refines o change new next step parts =
       refine actor Exit o
       (record {
-        after = object-of (word-after (actor .thread) change word) flag holder new entry contention waiting;
+        after = with-depth (with-word o (word-after (actor .thread) change (o .word))) new;
         states = actor .states;
-        state = Running
-            next;
+        state = Running next;
         answer = GoneOn;
         commits = true;
         committed = finished (owned-by (plain-at actor o) 0 0);
@@ -132,23 +126,21 @@ module _ (actor : Actor) where
         saved = actor .ghost .saved;
         nobody = step .inv .whole .nobody;
         stays = λ t e. e;
-        does = λ k. commit-exit-last (actor .thread) (plain-at actor o) q
-            one;
-        others = others;
+        does = λ k. commit-exit-last (actor .thread) (plain-at actor o) (parts .owns) (parts .one);
+        others = parts .others;
         self = record {
-          seated = seated;
+          seated = parts .seated;
           placed = step .self .placed;
-          relies = relies;
-          logged = rw (operation, stage)
-              (step .self .logged .0, (first-commit (step .self .logged .1), refl));
-          saved = rw saved tt;
-          woken = rw saved (step .self .woken);
+          relies = parts .relies;
+          logged = rw (parts .operation, parts .stage) (step .self .logged .0, (first-commit (step .self .logged .1), refl));
+          saved = rw (parts .saved) tt;
+          woken = rw (parts .saved) (step .self .woken);
         };
-        monitor = monitor;
+        monitor = parts .monitor;
         empty = step .inv .whole .empty;
-        flag = flagged;
-        unstranded = unstranded;
-        shows = same-monitor (sym unowned) (sym shallow);
+        flag = parts .flag;
+        unstranded = parts .unstranded;
+        shows = same-monitor (sym (parts .unowned)) (sym (parts .shallow));
         ended = tt;
       })
 
@@ -172,7 +164,20 @@ module _ (actor : Actor) where
   unfolding exit-owned
   exit-owned-refines Free flag holder depth entry contention waiting step q = absurd (actor .real (sym q))
   exit-owned-refines Anonymous flag holder depth entry contention waiting step q = absurd (actor .real (sym q))
-  exit-owned-refines Fat flag holder depth entry contention waiting step q = at (ltb 1 depth) (below 1 depth)
+  exit-owned-refines Fat flag holder depth entry contention waiting step q =
+      by-below (Right actor Exit (object-of Fat flag holder depth entry contention waiting)) 1 depth
+      (λ more. depth-refines actor Exit flag holder depth (depth - 1) entry contention waiting step (inside .1)
+      (record {
+        woken = actor .ghost .woken;
+        does = commit-exit (actor .thread) (plain-at actor (object-of Fat flag holder depth entry contention waiting)) q (λ e. omega (arith, more, e));
+        others = λ t n. refl;
+        asleep = step .self .woken;
+        above = omega (arith, more);
+        limit = omega (arith, step .inv .whole .monitor .0);
+        ended = (first-commit (step .self .logged .1), refl);
+      }))
+      (λ low. leave (both (empty entry) (both (empty contention) (eqb (length waiting) 0))) (all-empty entry contention waiting)
+      (omega (arith, inside .0, low)))
     where
       inside : (0 < depth) × (holder ≡ actor .thread)
       inside = fat-owned holder depth (actor .thread) (actor .real) q
@@ -187,32 +192,41 @@ module _ (actor : Actor) where
           (sym (step .inv .threads t .placed .entry) ∙ (ap (count t) noentry ∙ count-none t)) (sym (step .inv .threads t .placed .waiting)
           ∙ (ap (count t) nowaiting ∙ count-none t)))
           lowered in
-          let-go-refines Fat Freed flag holder depth 0 entry contention waiting ExitLeave step q one free (inside .1, refl, actor .real) tt refl refl refl refl
-          (λ k. step .inv .whole .flag .1) (unstranded-empty Free (update (actor .states) (actor .thread) (Running ExitLeave)) holder entry contention
-          (step .inv .whole .flag .1))
-          refl refl
-      leave false e one =
-          let-go-refines Fat Unchanged flag holder depth 0 entry contention waiting ExitLeave step q one
-          (others-depth (actor .thread) (actor .states) (object-of Fat flag holder depth entry contention waiting) (actor .ghost) 0 (inside .1)
-          (λ t n. step .inv .threads t))
-          (inside .1, refl, actor .real) tt refl refl refl (omega arith, λ k. absurd (omega arith)) (step .inv .whole .flag) tt refl refl
-
-      at : (b : Bool) → Below b 1 depth → let o = object-of Fat flag holder depth entry contention waiting in
-          Right actor Exit o (pick b (finish-depth (sight-of o) (depth - 1)) (let-go (sight-of o) (deflation (sight-of o)) 0 ExitLeave))
-      at true more =
-          depth-refines actor Exit flag holder depth (depth - 1) entry contention waiting step (inside .1)
+          let-go-refines (object-of Fat flag holder depth entry contention waiting) Freed 0 ExitLeave step
           (record {
-            woken = actor .ghost .woken;
-            does = commit-exit (actor .thread)
-                (plain-at actor (object-of Fat flag holder depth entry contention waiting)) q (λ e. omega (arith, more, e));
-            others = λ t n. refl;
-            asleep = step .self .woken;
-            above = omega (arith, more);
-            limit = omega (arith, step .inv .whole .monitor .0);
-            ended = (first-commit (step .self .logged .1), refl);
+            owns = q;
+            one = one;
+            others = free;
+            seated = (inside .1, refl, actor .real);
+            relies = tt;
+            operation = refl;
+            stage = refl;
+            saved = refl;
+            monitor = refl;
+            flag = λ k. step .inv .whole .flag .1;
+            unstranded = unstranded-empty Free
+                (update (actor .states) (actor .thread) (Running ExitLeave)) holder entry contention (step .inv .whole .flag .1);
+            unowned = refl;
+            shallow = refl;
           })
-      at false low =
-          leave (both (empty entry) (both (empty contention) (eqb (length waiting) 0))) (all-empty entry contention waiting) (omega (arith, inside .0, low))
+      leave false e one =
+          let-go-refines (object-of Fat flag holder depth entry contention waiting) Unchanged 0 ExitLeave step
+          (record {
+            owns = q;
+            one = one;
+            others = others-depth (actor .thread) (actor .states) (object-of Fat flag holder depth entry contention waiting)
+                (actor .ghost) 0 (inside .1) (λ t n. step .inv .threads t);
+            seated = (inside .1, refl, actor .real);
+            relies = tt;
+            operation = refl;
+            stage = refl;
+            saved = refl;
+            monitor = (omega arith, λ k. absurd (omega arith));
+            flag = step .inv .whole .flag;
+            unstranded = tt;
+            unowned = refl;
+            shallow = refl;
+          })
   exit-owned-refines (Flat owner c) flag holder depth entry contention waiting step q =
       by-below (Right actor Exit (object-of (Flat owner c) flag holder depth entry contention waiting)) 0 c
       (λ e. word-refines actor Exit (object-of (Flat owner c) flag holder depth entry contention waiting) (OwnFlat (c - 1)) step
@@ -232,12 +246,23 @@ module _ (actor : Actor) where
         unstranded = tt;
         ended = (first-commit (step .self .logged .1), refl);
       }))
-      (λ e. let-go-refines (Flat owner c) Freed flag holder depth depth entry contention waiting ExitTest step q (omega (arith, e))
-      (others-word (actor .thread) (actor .states) (object-of (Flat owner c) flag holder depth entry contention waiting) (actor .ghost) Free
-      (λ t n. keeps-freed (actor .states t) (actor .thread) t holder n owner c q) (λ t n. step .inv .threads t))
-      (λ x. omega (arith, step .self .seated x (actor .real), step .inv .whole .monitor .0), actor .real) tt refl refl refl (step .inv .whole .monitor .0)
-      (step .inv .whole .flag)
-      (λ k. inl (actor .thread, rw (update-same (actor .states) (actor .thread) (Running ExitTest)) tt)) refl refl)
+      (λ e. let-go-refines (object-of (Flat owner c) flag holder depth entry contention waiting) Freed depth ExitTest step
+      (record {
+        owns = q;
+        one = omega (arith, e);
+        others = others-word (actor .thread) (actor .states) (object-of (Flat owner c) flag holder depth entry
+            contention waiting) (actor .ghost) Free (λ t n. keeps-freed (actor .states t) (actor .thread) t holder n owner c q) (λ t n. step .inv .threads t);
+        seated = (λ x. omega (arith, step .self .seated x (actor .real), step .inv .whole .monitor .0), actor .real);
+        relies = tt;
+        operation = refl;
+        stage = refl;
+        saved = refl;
+        monitor = step .inv .whole .monitor .0;
+        flag = step .inv .whole .flag;
+        unstranded = λ k. inl (actor .thread, rw (update-same (actor .states) (actor .thread) (Running ExitTest)) tt);
+        unowned = refl;
+        shallow = refl;
+      }))
   exit-owned-refines (Reserved owner c) flag holder depth entry contention waiting step q =
       let (l, own) = reserved-owned owner c (actor .thread) (actor .real) q in
       go-on-refines actor _ ExitLook (ExitStore c) step (refl, refl, refl, refl) (λ k. k) ((own, refl), l)

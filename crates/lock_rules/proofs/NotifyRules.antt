@@ -31,9 +31,9 @@ use Rattle.lock_rules.proofs.Invariant.{IsFat, ThreadOk, Invariant}
 use Rattle.lock_rules.proofs.Reliances.{is-waiting}
 use Rattle.lock_rules.proofs.Membership.{not-first}
 use Rattle.lock_rules.proofs.OtherThreads.{others-notified, others-all-notified}
-use Rattle.lock_rules.proofs.Facts.{fat-owned, first-commit, none, idle-update, idle-all-notified}
-use Rattle.lock_rules.proofs.Refine.{plain-at, Actor, Stepping, Right, refine}
-use Rattle.lock_rules.proofs.Parts.{ended-self, end-refines, owner-only-refines}
+use Rattle.lock_rules.proofs.SharedFacts.{fat-owned, first-commit, none, idle-update, idle-all-notified}
+use Rattle.lock_rules.proofs.Refinement.{plain-at, Actor, Stepping, Right, refine}
+use Rattle.lock_rules.proofs.RuleShapes.{ended-self, end-refines, owner-only-refines}
 
 module _ (actor : Actor) where
   -- only a fat word has waiters
@@ -82,8 +82,7 @@ module _ (actor : Actor) where
         nobody = step .inv .whole .nobody;
         stays = λ t e. idle-update notified refl (actor .states) first t e;
         does = λ k. commit-notify (actor .thread) (plain-at actor o) q;
-        others = others-notified (actor .thread) (actor .states) o (actor .ghost) first rest
-            refl (λ t n. step .inv .threads t);
+        others = others-notified (actor .thread) (actor .states) o (actor .ghost) first rest refl (λ t n. step .inv .threads t);
         self = ended-self actor (step .self .seated)
             (record {
               entry = count-entered-other (actor .thread) first entry far ∙ step .self .placed .entry;
@@ -140,15 +139,12 @@ module _ (actor : Actor) where
         answer = Finished (length waiting);
         commits = true;
         committed = wake-all (plain-at actor o);
-        woken = λ t. either
-            (above-zero (count t waiting)) (actor .ghost .woken t);
+        woken = λ t. either (above-zero (count t waiting)) (actor .ghost .woken t);
         saved = actor .ghost .saved;
         nobody = step .inv .whole .nobody;
-        stays = idle-all-notified
-            (actor .states) waiting;
+        stays = idle-all-notified (actor .states) waiting;
         does = λ k. commit-notify-all (actor .thread) (plain-at actor o) q;
-        others = others-all-notified (actor .thread)
-            (actor .states) o (actor .ghost) (λ t n. step .inv .threads t);
+        others = others-all-notified (actor .thread) (actor .states) o (actor .ghost) (λ t n. step .inv .threads t);
         self = ended-self actor (step .self .seated)
             (record {
               entry = omega (arith, count-entered-all (actor .thread) entry waiting, step .self .placed .entry, step .self .placed .waiting);

@@ -251,8 +251,8 @@ pub others-cancelled : (thread : ℕ) (states : ℕ → ThreadState) (ghost : Gh
 others-cancelled thread states ghost u c word′ flag holder depth entry contention waiting others t x = at (equal? t u)
   where
     at : (t ≡ u) ⊎ (t ≢ u)
-        → ThreadOk t (update states u (sent-back (states u)) t) (object-of word′ flag holder depth entry contention waiting) (ghost .logs t) (ghost .woken
-        t) (ghost .saved t)
+        → ThreadOk t (update states u (sent-back (states u)) t) (object-of word′ flag holder depth entry contention waiting) (ghost .logs t)
+        (ghost .woken t) (ghost .saved t)
     at (inl q) =
         rw (q, update-same states u (sent-back (states u)))
         (sent-back-ok (states u) u c word′ flag holder depth entry contention waiting _ _ _ (others u (λ k. x (q ∙ k))))

@@ -15,7 +15,7 @@ use Rattle.lock_rules.specs.declared.WordSeen.{WordSeen}
 use Rattle.lock_rules.specs.declared.WordSeen.the-variants.{Free, Anonymous, Fat, Flat, Reserved}
 use Rattle.lock_rules.proofs.Objects.{ListObject, object-owner}
 use Rattle.lock_rules.proofs.Invariant.{seat, telling?, Seated, NotOwn, Ghost, ThreadOk, MonitorOk, Told, Unstranded, Invariant}
-use Rattle.lock_rules.proofs.Facts.{fat-owner}
+use Rattle.lock_rules.proofs.SharedFacts.{fat-owner}
 
 telling-runs : (state : ThreadState) → T (telling? (seat state)) → T (unparked state) × T (unfinished state)
 telling-runs Idle k = absurd k

@@ -5,9 +5,7 @@ use mathlib.Core.Logic.{_≢_, _⊎_, inl, inr}
 use mathlib.Core.Bool.{Bool, true, false}
 use native.Mathlib.Omega.{arith}
 use lib.Dec.{eqb, ltb}
-use borrow.Author.Tests.{eqb-true, eqb-false, ltb-true}
 use Rattle.laws.specs.Choice.{pick, both}
-use Rattle.laws.proofs.Choice.{by-test}
 use Rattle.lock_rules.specs.Limits.{depth-limit, count-limit}
 use Rattle.lock_rules.specs.Ownership.{owner-of}
 use Rattle.lock_rules.specs.Actions.{keep-object, go-on, finish-word, finish-depth, let-go, inflate, raise-flag}
@@ -37,7 +35,7 @@ use Rattle.lock_rules.specs.declared.Effect.{Effect}
 use Rattle.lock_rules.specs.declared.Action.{Action}
 use Rattle.lock_rules.specs.declared.Action.the-variants.{Unruled, Do}
 use Rattle.lock_rules.proofs.Invariant.{in-entry, in-contention, in-waiting}
-use Rattle.lock_rules.proofs.Facts.{fat-owned, reserved-owned}
+use Rattle.lock_rules.proofs.SharedFacts.{by-equal, by-below, fat-owned, reserved-owned}
 use Rattle.lock_rules.proofs.ListSound.{SuspensionFine, DoingFine, StateFine, WordFine}
 
 abbrev pub InNone : ThreadState → Type 0
@@ -131,10 +129,10 @@ module _ (threads thread : ℕ) (sight : Sight) (real : thread ≢ 0) (deep : si
       record { state = fine; word = tt; deep = low; shallow = λ e. absurd (held e); joins = none; entry = held; holder = inl refl }
 
   owner-only-fine : (owner : ℕ) (action : Action) → (owner ≡ thread → Fine action) → Fine (owner-only thread sight owner action)
-  owner-only-fine owner action fine = by-test Fine (eqb owner thread) (λ e. fine (eqb-true owner thread e)) (λ e. idle-fine NotOwner true)
+  owner-only-fine owner action fine = by-equal Fine owner thread (λ e. fine e) (λ e. idle-fine NotOwner true)
 
   holder-only-fine : (action : Action) → (sight .holder ≢ 0 → Fine action) → Fine (holder-only thread sight action)
-  holder-only-fine action fine = by-test Fine (eqb (sight .holder) thread) (λ e. fine (λ q. real (sym (eqb-true (sight .holder) thread e) ∙ q))) (λ e. tt)
+  holder-only-fine action fine = by-equal Fine (sight .holder) thread (λ e. fine (λ q. real (sym e ∙ q))) (λ e. tt)
 
   enter-look-fine : (word : WordSeen) → Fine (enter-look thread sight word)
   unfolding enter-look
@@ -143,10 +141,10 @@ module _ (threads thread : ℕ) (sight : Sight) (real : thread ≢ 0) (deep : si
   enter-look-fine Fat = go-on-fine EnterGoIn tt
   enter-look-fine (Flat owner c) =
       either-way Fine (eqb owner thread)
-      (by-test Fine (ltb c count-limit) (λ l. word-fine (OwnFlat (c + 1)) (omega (arith, ltb-true c count-limit l))) (λ l. go-on-fine EnterGoIn tt))
+      (by-below Fine c count-limit (λ l. word-fine (OwnFlat (c + 1)) (omega (arith, l))) (λ l. go-on-fine EnterGoIn tt))
       (go-on-fine EnterGoIn tt)
   enter-look-fine (Reserved owner c) =
-      either-way Fine (eqb owner thread) (by-test Fine (ltb c count-limit) (λ l. go-on-fine (EnterStore c) (ltb-true c count-limit l))
+      either-way Fine (eqb owner thread) (by-below Fine c count-limit (λ l. go-on-fine (EnterStore c) l)
       (λ l. go-on-fine EnterCancel tt))
       (go-on-fine EnterCancel tt)
 
@@ -193,7 +191,7 @@ module _ (threads thread : ℕ) (sight : Sight) (real : thread ≢ 0) (deep : si
 
   enter-store-fine : (c : ℕ) → Fine (enter-store sight c)
   unfolding enter-store
-  enter-store-fine c = by-test Fine (ltb c count-limit) (λ l. word-fine (OwnReserved (c + 1)) (omega (arith, ltb-true c count-limit l))) (λ l. tt)
+  enter-store-fine c = by-below Fine c count-limit (λ l. word-fine (OwnReserved (c + 1)) (omega (arith, l))) (λ l. tt)
 
   exit-store-fine : (c : ℕ) → c ≤ count-limit → Fine (exit-store sight c)
   unfolding exit-store
@@ -213,8 +211,8 @@ module _ (threads thread : ℕ) (sight : Sight) (real : thread ≢ 0) (deep : si
   unfolding go-in-again
   go-in-again-fine ToCheck held =
       either-way Fine (eqb (sight .depth) 0) tt
-      (by-test Fine (ltb (sight .depth) depth-limit)
-      (λ l. depth-fine (sight .depth + 1) (omega (arith, ltb-true (sight .depth) depth-limit l)) (λ e. absurd (held e))) (λ l. idle-fine TooDeep true))
+      (by-below Fine (sight .depth) depth-limit
+      (λ l. depth-fine (sight .depth + 1) (omega (arith, l)) (λ e. absurd (held e))) (λ l. idle-fine TooDeep true))
   go-in-again-fine ToTell held = tt
   go-in-again-fine ToInflate held = tt
   go-in-again-fine (ToResume suspension) held = tt
@@ -222,7 +220,7 @@ module _ (threads thread : ℕ) (sight : Sight) (real : thread ≢ 0) (deep : si
   go-in-fine : (carried : Carried) → DoingFine (onward carried) → Fine (go-in thread sight carried)
   unfolding go-in
   go-in-fine carried fine =
-      by-test Fine (eqb (sight .holder) 0)
+      by-equal Fine (sight .holder) 0
       (λ e. record {
         state = fine;
         word = tt;
@@ -232,8 +230,8 @@ module _ (threads thread : ℕ) (sight : Sight) (real : thread ≢ 0) (deep : si
         entry = λ q. absurd (real q);
         holder = inr refl;
       })
-      (λ e. either-way Fine (eqb (sight .holder) thread) (go-in-again-fine carried (eqb-false (sight .holder) 0 e))
-      (keep-fine JoinEntry (Queued carried) Parked false fine (refl, refl, refl) (eqb-false (sight .holder) 0 e)))
+      (λ e. either-way Fine (eqb (sight .holder) thread) (go-in-again-fine carried e)
+      (keep-fine JoinEntry (Queued carried) Parked false fine (refl, refl, refl) e))
 
   raise-flag-fine : Fine (raise-flag sight)
   raise-flag-fine = record { state = tt; word = tt; deep = deep; shallow = shallow; joins = (refl, refl, refl); entry = λ e. e; holder = inl refl }
@@ -284,8 +282,8 @@ module _ (threads thread : ℕ) (sight : Sight) (real : thread ≢ 0) (deep : si
   wait-give-up-fine Free = tt
   wait-give-up-fine Anonymous = tt
   wait-give-up-fine Fat =
-      by-test Fine (eqb (sight .depth) 0) (λ e. tt)
-      (λ e. keep-fine GiveUp (Waiting (record { depth = sight .depth })) Parked true (omega (arith, eqb-false (sight .depth) 0 e), deep)
+      by-equal Fine (sight .depth) 0 (λ e. tt)
+      (λ e. keep-fine GiveUp (Waiting (record { depth = sight .depth })) Parked true (omega (arith, e), deep)
       (refl, refl, refl) tt)
   wait-give-up-fine (Flat owner c) = tt
   wait-give-up-fine (Reserved owner c) = tt

@@ -36,7 +36,7 @@ use Rattle.lock_rules.proofs.Perform.{count-entered, count-entered-othe
 use Rattle.lock_rules.proofs.Perform.{notified-object, notified-states, states-after, object-after, effected, perform}
 use Rattle.lock_rules.proofs.Invariant.{in-entry, in-contention, in-waiting, InChains, Placed}
 use Rattle.lock_rules.proofs.Membership.{not-first, members-after}
-use Rattle.lock_rules.proofs.Facts.{idle-update, idle-handed, idle-all-notified}
+use Rattle.lock_rules.proofs.SharedFacts.{idle-update, idle-handed, idle-all-notified}
 use Rattle.lock_rules.proofs.ListSound.{DoingFine, StateFine, WordFine, SoundObject}
 use Rattle.lock_rules.proofs.SoundEffects.{InNone, Joins, EntryHeld, ChangeFine, ActionFine, either-way}
 

@@ -4,13 +4,12 @@ use mathlib.Core.Path.{ap, _≡_, refl, sym, _∙_}
 use mathlib.Core.Bool.{Bool, true, false}
 use mathlib.Core.List.{List}
 use native.Mathlib.Omega.{arith}
-use lib.Dec.{T, eqb, ltb}
+use lib.Dec.{T, eqb}
 use Rattle.laws.specs.Choice.{pick}
 use Rattle.laws.specs.Update.{update}
-use Rattle.laws.proofs.Choice.{Equal, equal, Below, below}
+use Rattle.laws.proofs.Choice.{Equal, equal}
 use Rattle.lock_rules.specs.Limits.{count-limit}
 use Rattle.lock_rules.specs.Ownership.{owner-of}
-use Rattle.lock_rules.specs.Actions.{finish-word}
 use Rattle.lock_rules.specs.Rules.{enter-store, exit-store, cancel}
 use Rattle.lock_rules.specs.Changes.{cancelled, sent-back}
 use Rattle.lock_rules.specs.Operations.{Enter, Exit}
@@ -21,16 +20,15 @@ use Rattle.lock_rules.specs.declared.WordSeen.{WordSeen}
 use Rattle.lock_rules.specs.declared.WordSeen.the-variants.{Free, Anonymous, Fat, Flat, Reserved}
 use Rattle.lock_rules.specs.declared.WordChange.the-variants.{OwnReserved}
 use Rattle.lock_rules.specs.declared.Answer.the-variants.{GoneOn}
-use Rattle.lock_rules.specs.declared.Action.the-variants.{Unruled}
 use Rattle.lock_rules.specs.PlainMonitor.{PlainMonitor, Committed, owned-by, finished, commit}
 use Rattle.lock_rules.proofs.Commits.{commit-enter, commit-enter-again, commit-exit-last, commit-exit}
 use Rattle.lock_rules.proofs.Objects.{object-of, sight-of}
 use Rattle.lock_rules.proofs.Invariant.{anything, phase-row, leaving?, MonitorOk, FlagOk, Unstranded, monitor-of}
 use Rattle.lock_rules.proofs.OtherThreads.{beside, others-word, others-cancelled}
-use Rattle.lock_rules.proofs.Facts.{keeps-anonymous, keeps-reserved, unstranded-empty, reserved-owner, reserved-unowned, first-commit}
-use Rattle.lock_rules.proofs.Facts.{idle-update, same-monitor}
-use Rattle.lock_rules.proofs.Refine.{plain-at, Actor, Stepping, Right, Alike, moved, nothing-committed, refine}
-use Rattle.lock_rules.proofs.Parts.{go-on-refines, word-refines}
+use Rattle.lock_rules.proofs.SharedFacts.{by-equal, by-below, keeps-anonymous, keeps-reserved, unstranded-empty, reserved-owner}
+use Rattle.lock_rules.proofs.SharedFacts.{reserved-unowned, first-commit, idle-update, same-monitor}
+use Rattle.lock_rules.proofs.Refinement.{plain-at, Actor, Stepping, Right, Alike, moved, nothing-committed, refine}
+use Rattle.lock_rules.proofs.RuleShapes.{go-on-refines, word-refines}
 
 module _ (actor : Actor) where
   pub enter-store-refines : (word : WordSeen) (c : ℕ) (flag : Bool) (holder depth : ℕ) (entry contention waiting : List ℕ)
@@ -41,7 +39,21 @@ module _ (actor : Actor) where
   enter-store-refines Anonymous c flag holder depth entry contention waiting step = absurd (step .self .relies .0)
   enter-store-refines Fat c flag holder depth entry contention waiting step = absurd (step .self .relies .0)
   enter-store-refines (Flat owner d) c flag holder depth entry contention waiting step = absurd (step .self .relies .0)
-  enter-store-refines (Reserved owner d) c flag holder depth entry contention waiting step = at (ltb c count-limit) (below c count-limit)
+  enter-store-refines (Reserved owner d) c flag holder depth entry contention waiting step =
+      by-below (Right actor Enter (object-of (Reserved owner d) flag holder depth entry contention waiting)) c count-limit
+      (λ l. word-refines actor Enter (object-of (Reserved owner d) flag holder depth entry contention waiting) (OwnReserved (c + 1)) step
+      (record {
+        keeps = λ t n. keeps-reserved (actor .states t) (actor .thread) t holder n owner d (c + 1) own;
+        does = does (eqb d 0) (equal d 0) ∙ ap
+            finished (same-monitor (sym (reserved-owner (actor .thread) (c + 1) holder depth (omega arith))) (deep (eqb d 0) (equal d 0)));
+        seated = step .self .seated;
+        asleep = step .self .woken;
+        monitor = (step .inv .whole .monitor .0, actor .real, omega (arith, l));
+        flag = step .inv .whole .flag;
+        unstranded = tt;
+        ended = (first-commit (step .self .logged .1), refl);
+      }))
+      (λ l. absurd (omega (arith, l, step .self .relies .1)))
     where
       own : owner ≡ actor .thread
       own = step .self .relies .0 .0
@@ -68,23 +80,6 @@ module _ (actor : Actor) where
       deep true e = omega (arith, e, kept)
       deep false e = omega (arith, kept)
 
-      at : (b : Bool) → Below b c count-limit → let o = object-of (Reserved owner d) flag holder depth entry contention waiting in
-          Right actor Enter o (pick b (finish-word (sight-of o) (OwnReserved (c + 1))) Unruled)
-      at true l =
-          word-refines actor Enter (object-of (Reserved owner d) flag holder depth entry contention waiting) (OwnReserved (c + 1)) step
-          (record {
-            keeps = λ t n. keeps-reserved (actor .states t) (actor .thread) t holder n owner d (c + 1) own;
-            does = does (eqb d 0) (equal d 0) ∙ ap
-                finished (same-monitor (sym (reserved-owner (actor .thread) (c + 1) holder depth (omega arith))) (deep (eqb d 0) (equal d 0)));
-            seated = step .self .seated;
-            asleep = step .self .woken;
-            monitor = (step .inv .whole .monitor .0, actor .real, omega (arith, l));
-            flag = step .inv .whole .flag;
-            unstranded = tt;
-            ended = (first-commit (step .self .logged .1), refl);
-          })
-      at false l = absurd (omega (arith, l, step .self .relies .1))
-
   pub exit-store-refines : (word : WordSeen) (c : ℕ) (flag : Bool) (holder depth : ℕ) (entry contention waiting : List ℕ)
       → let o = object-of word flag holder depth entry contention waiting in
       Stepping actor (ExitStore c) o → Right actor Exit o (exit-store (sight-of o) c)
@@ -93,7 +88,24 @@ module _ (actor : Actor) where
   exit-store-refines Anonymous c flag holder depth entry contention waiting step = absurd (step .self .relies .0)
   exit-store-refines Fat c flag holder depth entry contention waiting step = absurd (step .self .relies .0)
   exit-store-refines (Flat owner d) c flag holder depth entry contention waiting step = absurd (step .self .relies .0)
-  exit-store-refines (Reserved owner d) c flag holder depth entry contention waiting step = at (eqb c 0) (equal c 0)
+  exit-store-refines (Reserved owner d) c flag holder depth entry contention waiting step =
+      by-equal (Right actor Exit (object-of (Reserved owner d) flag holder depth entry contention waiting)) c 0
+      (λ e. absurd (omega (arith, e, step .self .relies .1)))
+      (λ e. word-refines actor Exit (object-of (Reserved owner d) flag holder depth entry contention waiting) (OwnReserved (c - 1)) step
+      (record {
+        keeps = λ t n. keeps-reserved (actor .states t) (actor .thread) t holder n owner d (c - 1) own;
+        does = does (eqb d 1) (equal d 1) ∙ ap finished (shows (eqb d 1) (equal d 1));
+        seated = step .self .seated;
+        asleep = step .self .woken;
+        monitor = (
+          step .inv .whole .monitor .0,
+          actor .real,
+          omega (arith, kept, step .inv .whole .monitor .2),
+        );
+        flag = step .inv .whole .flag;
+        unstranded = tt;
+        ended = (first-commit (step .self .logged .1), refl);
+      }))
     where
       own : owner ≡ actor .thread
       own = step .self .relies .0 .0
@@ -123,27 +135,6 @@ module _ (actor : Actor) where
       shows false e =
           same-monitor (sym (reserved-owner (actor .thread) (c - 1) holder depth (omega (arith, e, kept, step .self .relies .1)))) (omega (arith, kept))
 
-      at : (b : Bool) → Equal b c 0 → let o = object-of (Reserved owner d) flag holder depth entry contention waiting in
-          Right actor Exit o (pick b Unruled (finish-word (sight-of o) (OwnReserved (c - 1))))
-      at true e = absurd (omega (arith, e, step .self .relies .1))
-      at false e =
-          word-refines actor Exit (object-of (Reserved owner d) flag holder depth entry contention waiting) (OwnReserved (c - 1)) step
-          (record {
-            keeps = λ t n. keeps-reserved (actor .states t) (actor .thread) t holder n owner d (c - 1) own;
-            does = does (eqb d 1) (equal d 1) ∙ ap
-                finished (shows (eqb d 1) (equal d 1));
-            seated = step .self .seated;
-            asleep = step .self .woken;
-            monitor = (
-              step .inv .whole .monitor .0,
-              actor .real,
-              omega (arith, kept, step .inv .whole .monitor .2),
-            );
-            flag = step .inv .whole .flag;
-            unstranded = tt;
-            ended = (first-commit (step .self .logged .1), refl);
-          })
-
   -- a cancelled word: nobody else is moved but the thread of a reserved one
   pub cancel-refines : (word : WordSeen) (flag : Bool) (holder depth : ℕ) (entry contention waiting : List ℕ) (doing look : Doing) → Alike doing look
       → phase-row look .reliance ≡ anything → (T (leaving? (phase-row look .seat)) → ⊥) → let o = object-of word flag holder depth entry contention waiting in
@@ -171,8 +162,7 @@ module _ (actor : Actor) where
         monitor = step .inv .whole .monitor;
         empty = step .inv .whole .empty;
         flag = λ k. step .inv .whole .flag;
-        unstranded = unstranded-empty Free
-            (update (actor .states) (actor .thread) (Running look)) holder entry contention (step .inv .whole .flag);
+        unstranded = unstranded-empty Free (update (actor .states) (actor .thread) (Running look)) holder entry contention (step .inv .whole .flag);
         shows = refl;
         ended = tt;
       })
@@ -184,8 +174,7 @@ module _ (actor : Actor) where
       refine actor (phase-row doing .operation) (object-of (Reserved owner c) flag holder depth entry contention waiting)
       (record {
         after = object-of (cancelled (Reserved owner c)) flag holder depth entry contention waiting;
-        states = update (actor .states) owner
-            (sent-back (actor .states owner));
+        states = update (actor .states) owner (sent-back (actor .states owner));
         state = Running look;
         answer = GoneOn;
         commits = false;
@@ -193,17 +182,14 @@ module _ (actor : Actor) where
         woken = actor .ghost .woken;
         saved = actor .ghost .saved;
         nobody = step .inv .whole .nobody;
-        stays = λ t e. idle-update sent-back refl
-            (actor .states) owner t e;
+        stays = λ t e. idle-update sent-back refl (actor .states) owner t e;
         does = λ k. absurd k;
         others = others-cancelled (actor .thread) (actor .states) (actor .ghost) owner c
             (cancelled (Reserved owner c)) flag holder depth entry contention waiting (λ t n. step .inv .threads t);
-        self = let a = moved actor (step .self) look
-            alike (rw easy tt) in beside a (a .seated) (a .placed) (rw easy tt);
+        self = let a = moved actor (step .self) look alike (rw easy tt) in beside a (a .seated) (a .placed) (rw easy tt);
         monitor = monitor (eqb c 0);
         empty = step .inv .whole .empty;
-        flag = flagged
-            (eqb c 0);
+        flag = flagged (eqb c 0);
         unstranded = stranded (eqb c 0);
         shows = shows (eqb c 0) (equal c 0);
         ended = tt;
@@ -219,12 +205,10 @@ module _ (actor : Actor) where
 
       stranded : (b : Bool)
           → Unstranded (pick b Free (Flat owner (c - 1))) (update (update (actor .states) owner (sent-back (actor .states owner))) (actor .thread)
-          (Running look)) holder entry
-          contention
+          (Running look)) holder entry contention
       stranded b =
           unstranded-empty (pick b Free (Flat owner (c - 1))) (update (update (actor .states) owner (sent-back (actor .states owner))) (actor .thread)
-          (Running look)) holder
-          entry contention (step .inv .whole .flag)
+          (Running look)) holder entry contention (step .inv .whole .flag)
 
       shows : (b : Bool) → Equal b c 0
           → plain-at actor (object-of (Reserved owner c) flag holder depth entry contention waiting)

@@ -4,13 +4,9 @@ use mathlib.Core.Path.{refl, sym, ap, _∙_}
 use mathlib.Core.Bool.{Bool, true, false}
 use mathlib.Core.List.{List, [], _∷_, _++_}
 use native.Mathlib.Omega.{arith}
-use lib.Dec.{eqb}
-use Rattle.laws.specs.Choice.{pick}
 use Rattle.laws.specs.Update.{update}
-use Rattle.laws.proofs.Choice.{Equal, equal}
 use Rattle.laws.proofs.Update.{update-same, update-other}
 use Rattle.laws.proofs.Count.{count-joined}
-use Rattle.lock_rules.specs.Actions.{keep-object, finish-depth, inflate}
 use Rattle.lock_rules.specs.Rules.{wait-inflate, wait-give-up, wait-resume}
 use Rattle.lock_rules.specs.Operations.{Wait}
 use Rattle.lock_rules.specs.declared.Suspension.{Suspension}
@@ -18,16 +14,14 @@ use Rattle.lock_rules.specs.declared.Doing.the-variants.{WaitInflate, Wa
 use Rattle.lock_rules.specs.declared.ThreadState.the-variants.{Running, Waiting}
 use Rattle.lock_rules.specs.declared.WordSeen.{WordSeen}
 use Rattle.lock_rules.specs.declared.WordSeen.the-variants.{Free, Anonymous, Fat, Flat, Reserved}
-use Rattle.lock_rules.specs.declared.ChainAction.the-variants.{GiveUp}
 use Rattle.lock_rules.specs.declared.Answer.the-variants.{GoneOn, Parked}
-use Rattle.lock_rules.specs.declared.Action.the-variants.{Unruled}
 use Rattle.lock_rules.specs.PlainMonitor.{finished, give-up}
 use Rattle.lock_rules.proofs.Commits.{commit-give-up, commit-resume}
 use Rattle.lock_rules.proofs.Objects.{with-waiting, object-of, sight-of}
 use Rattle.lock_rules.proofs.OtherThreads.{others-joined-waiting, others-ghost}
-use Rattle.lock_rules.proofs.Facts.{by-equal, fat-owner, fat-unowned, first-commit, second-commit, same-monitor}
-use Rattle.lock_rules.proofs.Refine.{plain-at, Actor, Stepping, Right, nothing-committed}
-use Rattle.lock_rules.proofs.Parts.{depth-refines, hand-refines, inflate-refines}
+use Rattle.lock_rules.proofs.SharedFacts.{by-equal, fat-owner, fat-unowned, first-commit, second-commit, same-monitor}
+use Rattle.lock_rules.proofs.Refinement.{plain-at, Actor, Stepping, Right, nothing-committed}
+use Rattle.lock_rules.proofs.RuleShapes.{depth-refines, hand-refines, inflate-refines}
 
 module _ (actor : Actor) where
   pub wait-inflate-refines : (word : WordSeen) (flag : Bool) (holder depth : ℕ) (entry contention waiting : List ℕ)
@@ -94,8 +88,7 @@ module _ (actor : Actor) where
           placed = record {
             entry = gone;
             contention = step .self .placed .contention;
-            waiting = count-joined (actor .thread) waiting ∙ ap suc
-                (step .self .placed .waiting);
+            waiting = count-joined (actor .thread) waiting ∙ ap suc (step .self .placed .waiting);
           };
           relies = tt;
           logged = (step .self .logged .0, first-commit (step .self .logged .1));

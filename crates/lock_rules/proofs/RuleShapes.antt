@@ -5,14 +5,13 @@ use mathlib.Core.Logic.{_≢_}
 use mathlib.Core.Bool.{Bool, true, false}
 use mathlib.Core.List.{List, [], _∷_}
 use native.Mathlib.Omega.{arith}
-use lib.Dec.{T, eqb}
+use lib.Dec.{T}
 use Rattle.laws.specs.Choice.{pick}
 use Rattle.laws.specs.Update.{update}
 use Rattle.laws.specs.Count.{count}
-use Rattle.laws.proofs.Choice.{Equal, equal}
 use Rattle.laws.proofs.Count.{count-none}
 use Rattle.lock_rules.specs.Limits.{depth-limit}
-use Rattle.lock_rules.specs.Actions.{keep-object, go-on, not-owner, finish-word, finish-depth, inflate}
+use Rattle.lock_rules.specs.Actions.{keep-object, go-on, finish-word, finish-depth, inflate}
 use Rattle.lock_rules.specs.Rules.{owner-seen, owner-only}
 use Rattle.lock_rules.specs.Changes.{word-after}
 use Rattle.lock_rules.specs.Operations.{Operation}
@@ -39,9 +38,9 @@ use Rattle.lock_rules.proofs.Invariant.{ThreadOk, MonitorOk, FlagOk, Un
 use Rattle.lock_rules.proofs.Reliances.{KeepsReliance}
 use Rattle.lock_rules.proofs.Membership.{not-first}
 use Rattle.lock_rules.proofs.OtherThreads.{Others, inflated, others-word, others-depth, others-ghost, others-handed, others-inflated}
-use Rattle.lock_rules.proofs.Facts.{unstranded-moved, monitor-handed, fat-owner, first-commit, idle-handed, idle-admitted, first-queued}
-use Rattle.lock_rules.proofs.Facts.{same-monitor}
-use Rattle.lock_rules.proofs.Refine.{known, Actor, Self, Stepping, plain-at, Right, Alike, moved, nothing-committed, refine}
+use Rattle.lock_rules.proofs.SharedFacts.{by-equal, unstranded-moved, monitor-handed, fat-owner, first-commit, idle-handed, idle-admitted}
+use Rattle.lock_rules.proofs.SharedFacts.{first-queued, same-monitor}
+use Rattle.lock_rules.proofs.Refinement.{known, Actor, Self, Stepping, plain-at, Right, Alike, moved, nothing-committed, refine}
 
 -- the plain monitor, owned by the thread
 abbrev pub owned : Actor → ListObject → ℕ → (ℕ → Bool) → PlainMonitor
@@ -80,9 +79,8 @@ pub record InflateParts (actor : Actor) (operation : Operation) (o : ListObject)
   pub limit : new ≤ depth-limit
   pub does : T commits → commit operation (actor .thread) (plain-at actor o) ≡ committed
   pub self : InChains 0 0 0 (actor .thread) (enter-queue-all (o .entry) (o .contention)) [] (o .waiting)
-      → ThreadOk (actor .thread) state (inflated o new) (log-after commits (actor .ghost .logs (actor .thread)) (committed .answer)) (actor .ghost .woken
-      (actor .thread))
-      (actor .ghost .saved (actor .thread))
+      → ThreadOk (actor .thread) state (inflated o new) (log-after commits (actor .ghost .logs (actor .thread)) (committed .answer))
+      (actor .ghost .woken (actor .thread)) (actor .ghost .saved (actor .thread))
   pub shows : pick commits (committed .monitor) (plain-at actor o) ≡ owned actor o new (actor .ghost .woken)
   pub ended : EndsRight operation answer (log-after commits (actor .ghost .logs (actor .thread)) (committed .answer))
 
@@ -193,14 +191,11 @@ module _ (actor : Actor) where
       → (T (telling? (phase-row doing .seat)) → ⊥) → Seated outside (actor .thread) (o .holder) (o .depth) → actor .ghost .woken (actor .thread) ≡ false
       → actor .ghost .logs (actor .thread) .commits ≡ 0 → (object-owner o ≡ actor .thread → Right actor operation o action)
       → Right actor operation o (owner-only (actor .thread) (sight-of o) (owner-seen (sight-of o)) action)
-  owner-only-refines operation o doing action only step quiet seated asleep fresh owned = at (eqb (object-owner o) (actor .thread))
-      (equal (object-owner o) (actor .thread))
-    where
-      at : (b : Bool) → Equal b (object-owner o) (actor .thread) → Right actor operation o (pick b action (not-owner (sight-of o)))
-      at true q = owned q
-      at false q =
-          end-refines operation o doing NotOwner step quiet seated asleep (commit-not-owner (actor .thread) (plain-at actor o) operation only asleep q)
-          (first-commit fresh, refl)
+  owner-only-refines operation o doing action only step quiet seated asleep fresh owner =
+      by-equal (Right actor operation o) (object-owner o) (actor .thread) owner
+      (λ other. end-refines operation o doing NotOwner step quiet seated asleep (commit-not-owner (actor .thread) (plain-at actor o) operation only asleep
+      other)
+      (first-commit fresh, refl))
 
   -- the word changes, and the operation ends
   pub word-refines : (operation : Operation) (o : ListObject) (change : WordChange) {doing : Doing} → Stepping actor doing o
@@ -258,8 +253,7 @@ module _ (actor : Actor) where
         empty = step .inv .whole .empty;
         flag = step .inv .whole .flag;
         unstranded = tt;
-        shows = same-monitor (sym (fat-owner holder new (parts .above) ∙ q))
-            refl;
+        shows = same-monitor (sym (fat-owner holder new (parts .above) ∙ q)) refl;
         ended = parts .ended;
       })
 
