@@ -4,11 +4,12 @@ use mathlib.Core.List.{List, [], _∷_, _++_}
 use Rattle.laws.specs.Every.{all-up-to}
 use Rattle.chains.specs.Chain.{members, chain-test}
 use Rattle.lock_word.specs.Read.{decodeOf, flatOf, reservedOf, fatOf}
-use Rattle.lock_word.specs.Cases.{Case, AllHold}
+use Rattle.lock_word.specs.Cases.{Case, AllHold, word-cases}
 use Rattle.lock_word.proofs.Cases.{word-cases-hold}
 use Rattle.lock_rules.specs.Rules.{decide, enter-look, exit-owned, go-in, go-in-again}
 use Rattle.lock_table.specs.Access.{threadAt, setThread, objectAt, setObject}
 use Rattle.lock_table.specs.Fresh.{freshOf, freshReturnedOf, firstWordOf}
+use Rattle.lock_table.specs.Operation.{operationNumberOf}
 use Rattle.lock_table.specs.Phase.{phaseNumberOf, carriedNumberOf}
 use Rattle.lock_perform.specs.State.{stateBy, lookOf, goInOf, recordOf, doingRecordOf}
 use Rattle.lock_perform.specs.Sight.{seenOf}
@@ -58,7 +59,7 @@ both-hold (row ∷ rows) more p q = (p .0, both-hold rows more (p .1) q)
 
 engine-cases-hold : AllHold engine-cases
 unfolding all-up-to members chain-test decodeOf flatOf reservedOf fatOf decide enter-look exit-owned go-in go-in-again threadAt setThread objectAt setObject
-    freshOf freshReturnedOf firstWordOf phaseNumberOf carriedNumberOf stateBy lookOf goInOf recordOf doingRecordOf seenOf actionOf wordAfter sizesFit wordFits
+    freshOf freshReturnedOf firstWordOf operationNumberOf phaseNumberOf carriedNumberOf stateBy lookOf goInOf recordOf doingRecordOf seenOf actionOf wordAfter sizesFit wordFits
     usesPhase carriesPhase operationFits keptFits savesDepth savedFits unheldFits chainNamed firstIn foundIn namesChain emptyThread emptyMonitor emptyObject
     unusedFits soundOf wordsValid operationsFit keptWordsFit savedDepthsFit holdersFit unheldMonitorsFit chainsEnd parkedFound chainsNamed pastThreadsEmpty
     pastObjectsEmpty unusedFieldsEmpty returnedOf answerNumberOf stepOf stepGated stepRanged stepThread stepWord settleOf
@@ -71,4 +72,4 @@ engine-cases-hold = (
 )
 
 pub cases-hold : AllHold all-cases
-cases-hold = both-hold _ _ word-cases-hold engine-cases-hold
+cases-hold = both-hold word-cases engine-cases word-cases-hold engine-cases-hold
