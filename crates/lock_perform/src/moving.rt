@@ -141,8 +141,8 @@ fn wake_first(moved: Moved) -> Moved
     }
 }
 
-// A number read in a word as a thread's; one that no table can have is nobody's.
-fn thread_number(number: u16) -> u8
+// A number of any source as a record's; one that no table can have is nobody's.
+pub fn thread_number(number: u16) -> u8
     ensures { λ r. ⌜ r ≡ threadNumberOf number ⌝ }
 {
     if 255 < number {

@@ -1,0 +1,6 @@
+-- The laws of the definitions in specs/.
+pub mod Fields
+pub mod Grammar
+pub mod LineEnd
+pub mod LineLimit
+pub mod Lines

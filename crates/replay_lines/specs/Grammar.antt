@@ -1,0 +1,60 @@
+-- The lines of a schedule (document 01, "The replay program"): `L threads objects r`, then `E`, `X`, `W`, `N` or `A` with thread and
+-- object, or `S` with thread. A line is given with its newline, so that a last piece without one is malformed.
+use Prim.Native.Nat.{ℕ}
+use mathlib.Core.List.{List, [], _∷_}
+use lib.ListN.{drop}
+use lib.Dec.{ltb, eqb}
+use Rattle.laws.specs.Choice.{pick}
+use Rattle.replay_lines.specs.Bytes.{newline, letter-A, letter-E, letter-L, letter-N, letter-S, letter-W, letter-X}
+use Rattle.replay_lines.specs.Number.{fieldOf}
+use Rattle.replay_lines.specs.declared.number.Number.{Number}
+use Rattle.replay_lines.specs.declared.number.Number.the-variants.{Found, Absent}
+use Rattle.replay_lines.specs.declared.reading.Line.{Line}
+use Rattle.replay_lines.specs.declared.reading.Line.the-variants.{Header, Begin, Step, Malformed}
+
+abbrev pub number-then : Number → List ℕ → (ℕ → List ℕ → Line) → Line
+number-then (Found value length) text next = next value (drop length text)
+number-then Absent text next = Malformed
+
+-- a space and a number, then what follows, of the number and the text behind it
+abbrev pub field-then : List ℕ → (ℕ → List ℕ → Line) → Line
+field-then text next = number-then (fieldOf text) text next
+
+-- the newline and nothing else
+unfoldable pub endOf : List ℕ → Line → Line
+endOf [] line = Malformed
+endOf (byte ∷ []) line = pick (eqb byte newline) line Malformed
+endOf (byte ∷ more ∷ text) line = Malformed
+
+-- behind S
+unfoldable pub stepOf : List ℕ → Line
+stepOf text = field-then text (λ thread rest. endOf rest (Step thread))
+
+-- behind E, X, W, N or A, and behind the thread
+unfoldable pub beginObjectOf : ℕ → ℕ → List ℕ → Line
+beginObjectOf operation thread text = field-then text (λ object rest. endOf rest (Begin operation thread object))
+
+unfoldable pub beginOf : ℕ → List ℕ → Line
+beginOf operation text = pick (eqb operation 0) Malformed (field-then text (beginObjectOf operation))
+
+-- behind L, behind the threads, and behind the objects: r is 1 for reserved words, 0 for free ones
+unfoldable pub headerReservedOf : ℕ → ℕ → List ℕ → Line
+headerReservedOf threads objects text =
+    field-then text (λ r rest. pick (ltb 1 r) Malformed (endOf rest (Header threads objects (eqb r 1))))
+
+unfoldable pub headerObjectsOf : ℕ → List ℕ → Line
+headerObjectsOf threads text = field-then text (headerReservedOf threads)
+
+unfoldable pub headerOf : List ℕ → Line
+headerOf text = field-then text headerObjectsOf
+
+-- document 01's number of the operation with this letter, 0 if there is none
+unfoldable pub operationOf : ℕ → ℕ
+operationOf letter =
+    pick (eqb letter letter-E) 1
+    (pick (eqb letter letter-X) 2 (pick (eqb letter letter-W) 3 (pick (eqb letter letter-N) 4 (pick (eqb letter letter-A) 5 0))))
+
+unfoldable pub lineOf : List ℕ → Line
+lineOf [] = Malformed
+lineOf (letter ∷ text) =
+    pick (eqb letter letter-L) (headerOf text) (pick (eqb letter letter-S) (stepOf text) (beginOf (operationOf letter) text))

@@ -1,0 +1,22 @@
+// The bytes that a line is made of, in ASCII. specs/Bytes.antt states the same numbers for the contracts.
+pub const NEWLINE: u8 = 10;
+
+pub const SPACE: u8 = 32;
+
+pub const DIGIT_ZERO: u8 = 48;
+
+pub const DIGIT_NINE: u8 = 57;
+
+pub const LETTER_A: u8 = 65;
+
+pub const LETTER_E: u8 = 69;
+
+pub const LETTER_L: u8 = 76;
+
+pub const LETTER_N: u8 = 78;
+
+pub const LETTER_S: u8 = 83;
+
+pub const LETTER_W: u8 = 87;
+
+pub const LETTER_X: u8 = 88;

@@ -1,0 +1,16 @@
+// The line reader of the replay program (document 01, "The replay program"): what one line says, and where it ends.
+//
+//   L threads objects r     the header; r is 1 for reserved words, 0 for free ones
+//   E thread object         enter; X exit, W wait, N notify, A notify all
+//   S thread                one step
+//
+// Each reader gets the part of the line that starts where it reads, and hands on the part behind what it has read.
+mod bytes;
+mod cutting;
+mod number;
+mod reading;
+
+pub use cutting::LINE_LIMIT;
+pub use cutting::line_end;
+pub use reading::Line;
+pub use reading::read_line;

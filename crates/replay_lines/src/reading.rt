@@ -1,0 +1,164 @@
+// What a line says. The letter picks the reader; each reader takes one field and hands the rest to the next.
+use crate::bytes::LETTER_A;
+use crate::bytes::LETTER_E;
+use crate::bytes::LETTER_L;
+use crate::bytes::LETTER_N;
+use crate::bytes::LETTER_S;
+use crate::bytes::LETTER_W;
+use crate::bytes::LETTER_X;
+use crate::bytes::NEWLINE;
+use crate::number::Number;
+use crate::number::read_field;
+ghost use mathlib.Core.Path.{_≡_};
+ghost use Rattle.replay_lines.specs.Grammar.{endOf, stepOf, beginOf, beginObjectOf, headerOf, headerObjectsOf, headerReservedOf, operationOf, lineOf};
+
+pub enum Line {
+    Header {
+        threads: u16,
+        objects: u16,
+        reserved: bool,
+    },
+    // document 01's number of the operation: 1 enter, 2 exit, 3 wait, 4 notify, 5 notify all
+    Begin {
+        operation: u8,
+        thread: u16,
+        object: u16,
+    },
+    Step {
+        thread: u16,
+    },
+    Malformed,
+}
+
+// The line, if the newline is all that is left of its text.
+fn end_line(text: &[u8], line: Line) -> Line
+    ensures { λ r. ⌜ r ≡ endOf (now (text .entry)) line ⌝ }
+{
+    if text.len() != 1 {
+        return Line::Malformed;
+    }
+    if text[0] == NEWLINE {
+        return line;
+    }
+    Line::Malformed
+}
+
+// Behind S: the thread.
+fn read_step(text: &[u8]) -> Line
+    ensures { λ r. ⌜ r ≡ stepOf (now (text .entry)) ⌝ }
+{
+    let Number::Found { value, length } = read_field(text) else {
+        return Line::Malformed;
+    };
+    end_line(&text[length..], Line::Step { thread: value })
+}
+
+// Behind the letter of an operation: the thread.
+fn read_begin(operation: u8, text: &[u8]) -> Line
+    ensures { λ r. ⌜ r ≡ beginOf operation (now (text .entry)) ⌝ }
+{
+    if operation == 0 {
+        return Line::Malformed;
+    }
+    let Number::Found { value, length } = read_field(text) else {
+        return Line::Malformed;
+    };
+    read_begin_object(operation, value, &text[length..])
+}
+
+// Behind the thread: the object.
+fn read_begin_object(operation: u8, thread: u16, text: &[u8]) -> Line
+    ensures { λ r. ⌜ r ≡ beginObjectOf operation thread (now (text .entry)) ⌝ }
+{
+    let Number::Found { value, length } = read_field(text) else {
+        return Line::Malformed;
+    };
+    end_line(
+        &text[length..],
+        Line::Begin {
+            operation: operation,
+            thread: thread,
+            object: value,
+        },
+    )
+}
+
+// Behind L: how many threads.
+fn read_header(text: &[u8]) -> Line
+    ensures { λ r. ⌜ r ≡ headerOf (now (text .entry)) ⌝ }
+{
+    let Number::Found { value, length } = read_field(text) else {
+        return Line::Malformed;
+    };
+    read_header_objects(value, &text[length..])
+}
+
+// Behind the threads: how many objects.
+fn read_header_objects(threads: u16, text: &[u8]) -> Line
+    ensures { λ r. ⌜ r ≡ headerObjectsOf threads (now (text .entry)) ⌝ }
+{
+    let Number::Found { value, length } = read_field(text) else {
+        return Line::Malformed;
+    };
+    read_header_reserved(threads, value, &text[length..])
+}
+
+// Behind the objects: 1 for reserved words, 0 for free ones.
+fn read_header_reserved(threads: u16, objects: u16, text: &[u8]) -> Line
+    ensures { λ r. ⌜ r ≡ headerReservedOf threads objects (now (text .entry)) ⌝ }
+{
+    let Number::Found { value, length } = read_field(text) else {
+        return Line::Malformed;
+    };
+    if 1 < value {
+        return Line::Malformed;
+    }
+    end_line(
+        &text[length..],
+        Line::Header {
+            threads: threads,
+            objects: objects,
+            reserved: value == 1,
+        },
+    )
+}
+
+// The number of the operation with this letter, 0 if there is none.
+fn operation_of(letter: u8) -> u8
+    ensures { λ r. ⌜ r ≡ operationOf letter ⌝ }
+{
+    if letter == LETTER_E {
+        return 1;
+    }
+    if letter == LETTER_X {
+        return 2;
+    }
+    if letter == LETTER_W {
+        return 3;
+    }
+    if letter == LETTER_N {
+        return 4;
+    }
+    if letter == LETTER_A {
+        return 5;
+    }
+    0
+}
+
+// What a whole line says, its newline with it.
+pub fn read_line(line: &[u8]) -> Line
+    ensures { λ r. ⌜ r ≡ lineOf (now (line .entry)) ⌝ }
+{
+    if line.len() == 0 {
+        return Line::Malformed;
+    }
+    let letter = line[0];
+    let text = &line[1..];
+    if letter == LETTER_L {
+        return read_header(text);
+    }
+    if letter == LETTER_S {
+        return read_step(text);
+    }
+    read_begin(operation_of(letter), text)
+}

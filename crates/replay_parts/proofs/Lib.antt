@@ -1,0 +1,4 @@
+-- The laws of the definitions in specs/.
+pub mod Turn
+pub mod Taken
+pub mod Whole

@@ -1,0 +1,26 @@
+-- `replay_session::reacting::run_by` meets its contract: each way through the code is that of the definition.
+use borrow.Author.Needs.{needs}
+use Rattle.replay_session.specs.Session.{runOf}
+use Rattle.replay_session.proofs.reacting.run_by.Statement.{statement}
+use Rattle.replay_session.proofs.reacting.run_by.Tie as tie
+
+pub run-by-spec : {M : Type 1} → statement M
+unfolding runOf
+run-by-spec =
+    tie.close
+    (tie.spec
+    (λ c. search needs)
+    (λ c κs. tt)
+    (λ c. search needs)
+    (λ c κs. tt)
+    (λ c κs. tt)
+    (λ c κs. tt)
+    (λ c. search needs)
+    (λ c κs. tt)
+    (λ c κs. tt)
+    (λ c. search needs)
+    (λ c κs. tt)
+    (λ c. simp (c .stay .ensures, c .before .enum-told .given .1))
+    (λ c. simp (c .begun-by .ensures, c .before .thread-number2 .ensures, c .before .before .thread-number .ensures, c .before .before .before .before .line .given .1))
+    (λ c. simp (c .stepped-by .ensures, c .before .thread-number3 .ensures, c .before .before .before .line2 .given .1))
+    (λ c. simp (c .stay2 .ensures, c .before .enum-told2 .given .1)))

@@ -1,0 +1,2 @@
+-- What each line of a replay does and prints.
+pub mod Session

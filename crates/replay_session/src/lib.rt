@@ -1,0 +1,10 @@
+// The session of a replay: no header yet, a table, or ended; and what each line does to it (document 01, "The replay program").
+mod reacting;
+mod session;
+
+pub use reacting::Reaction;
+pub use reacting::closing;
+pub use reacting::react;
+pub use session::Session;
+pub use session::Stage;
+pub use session::fresh_session;

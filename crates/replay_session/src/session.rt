@@ -1,0 +1,35 @@
+// The state between two lines.
+use lock_table::Table;
+ghost use mathlib.Core.Path.{_≡_};
+ghost use Rattle.replay_session.specs.Session.{noTable, freshSession};
+
+pub enum Stage {
+    // the header is to come
+    Opening,
+    Running,
+    // a bad header has ended the run: nothing more is printed
+    Over,
+}
+
+pub struct Session {
+    pub stage: Stage,
+    // all zero unless the stage is Running
+    pub table: Table,
+}
+
+// The table of no threads and no objects, which `fresh` gives where it refuses.
+fn no_table() -> Table
+    ensures { λ r. ⌜ r ≡ noTable ⌝ }
+{
+    let refused = lock_table::fresh(0, 0, false);
+    refused.table
+}
+
+pub fn fresh_session() -> Session
+    ensures { λ r. ⌜ r ≡ freshSession ⌝ }
+{
+    Session {
+        stage: Stage::Opening,
+        table: no_table(),
+    }
+}

@@ -1,0 +1,22 @@
+-- `replay_stream::turn::take_line` meets its contract: the line is read, the session moves on, and the answer is put.
+use borrow.Author.Needs.{needs}
+use Rattle.replay_stream.proofs.Turned.{turned}
+use Rattle.replay_stream.proofs.turn.take_line.Statement.{statement}
+use Rattle.replay_stream.proofs.turn.take_line.Tie as tie
+
+returns : tie.Need-returns
+returns c =
+    let put = c .before .before in
+    let react = put .before .before .before in
+    let start = react .before .before .before .before in
+    turned (start .args .session) (start .pre) (start .args .line .now) (rw (react .before .read-line .ensures) at (react .react .ensures)) (put .put-answer .ensures)
+
+pub take-line-spec : {M : Type 1} → statement M
+take-line-spec =
+    tie.close
+    (tie.spec
+    (λ c κs. tt)
+    (λ c κs. tt)
+    (λ c κs. tt)
+    (λ c. search needs)
+    returns)

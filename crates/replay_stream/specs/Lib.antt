@@ -1,0 +1,3 @@
+-- What the stream's functions promise.
+pub mod Stream
+pub mod Keeping

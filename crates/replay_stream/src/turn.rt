@@ -1,0 +1,33 @@
+// One line, read, run and printed; and what the end of the input prints.
+ghost use Prim.Native.Nat.{_+_, _≤_};
+ghost use lib.ListN.{length};
+ghost use Rattle.replay_text.specs.Text.{line-room};
+ghost use Rattle.replay_stream.specs.Stream.{Turned, Closed};
+use replay_session::Session;
+
+// A session after a line, and the place behind what the line prints.
+pub struct Turn {
+    pub session: Session,
+    pub wrote: usize,
+}
+
+pub fn take_line(session: Session, line: &[u8], out: &mut [u8], at: usize) -> Turn
+    requires { ⌜ at + line-room ≤ length (now out) ⌝ }
+    ensures { λ r. ⌜ Turned session (now (line .entry)) (now (out .entry)) (now (out .exit)) at r ⌝ }
+{
+    let reaction = replay_session::react(session, replay_lines::read_line(line));
+    let answer = reaction.answer;
+    let next = reaction.session;
+    let wrote = replay_text::put_answer(out, at, answer);
+    Turn {
+        session: next,
+        wrote: wrote,
+    }
+}
+
+pub fn close(session: Session, out: &mut [u8], at: usize) -> usize
+    requires { ⌜ at + line-room ≤ length (now out) ⌝ }
+    ensures { λ r. ⌜ Closed session (now (out .entry)) (now (out .exit)) at r ⌝ }
+{
+    replay_text::put_answer(out, at, replay_session::closing(session))
+}

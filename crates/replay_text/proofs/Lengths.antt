@@ -1,0 +1,61 @@
+-- Every line fits the room for one, and none is empty.
+use Prim.Native.Nat.{ℕ, _+_, _≤_, _<_}
+use mathlib.Core.Bool.{Bool, true, false}
+use mathlib.Core.List.{List, [], _∷_, _++_}
+use native.Mathlib.Omega.{arith}
+use lib.Dec.{ltb}
+use lib.ListN.{length, length-append}
+use Rattle.laws.specs.Choice.{pick}
+use Rattle.replay_text.specs.Digits.{digits, placesOf, decimal, decimal-limit}
+use Rattle.replay_text.specs.Text.{fieldText, wordText, numberLine, answerLine, answerText, field-limit, word-limit, line-room}
+use Rattle.replay_text.specs.declared.answer.Answer.{Answer}
+use Rattle.replay_text.specs.declared.answer.Answer.the-variants.{Silent, Refused, Accepted}
+use Rattle.replay_text.proofs.Stores.{digits-length}
+
+pick-most : (test : Bool) (a b n : ℕ) → a ≤ n → b ≤ n → pick test a b ≤ n
+pick-most true a b n first second = first
+pick-most false a b n first second = second
+
+pub places-fit : (number : ℕ) → placesOf number ≤ decimal-limit
+unfolding placesOf
+places-fit number =
+    pick-most (ltb number 10) 1 _ 5 (omega arith)
+    (pick-most (ltb number 100) 2 _ 5 (omega arith)
+    (pick-most (ltb number 1000) 3 _ 5 (omega arith) (pick-most (ltb number 10000) 4 5 5 (omega arith) (omega arith))))
+
+pub decimal-fits : (number : ℕ) → length (decimal number) ≤ decimal-limit
+unfolding decimal
+decimal-fits number = rw (digits-length 10 (placesOf number) number) (places-fit number)
+
+pub field-fits : (number end : ℕ) → length (fieldText number end) ≤ field-limit
+unfolding fieldText
+field-fits number end = omega (arith, length-append (decimal number) (end ∷ []), decimal-fits number)
+
+pub word-fits : (word : ℕ) → length (wordText word) ≤ word-limit
+unfolding wordText
+word-fits word = omega (arith, length-append (digits 16 6 word) (10 ∷ []), digits-length 16 6 word)
+
+field-some : (number end : ℕ) → 0 < length (fieldText number end)
+unfolding fieldText
+field-some number end = omega (arith, length-append (decimal number) (end ∷ []))
+
+pub number-line-fits : (number : ℕ) → length (numberLine number) ≤ line-room
+number-line-fits number = omega (arith, field-fits number 10)
+
+pub answer-line-fits : (returned phase woken word : ℕ) → length (answerLine returned phase woken word) ≤ line-room
+unfolding answerLine
+answer-line-fits returned phase woken word =
+    simp (length-append) (omega (arith, field-fits returned 32, field-fits phase 32, field-fits woken 32, word-fits word))
+
+pub answer-fits : (answer : Answer) → length (answerText answer) ≤ line-room
+unfolding answerText
+answer-fits Silent = omega arith
+answer-fits (Refused number) = number-line-fits number
+answer-fits (Accepted returned phase woken word) = answer-line-fits returned phase woken word
+
+pub number-line-some : (number : ℕ) → 0 < length (numberLine number)
+number-line-some number = field-some number 10
+
+pub answer-line-some : (returned phase woken word : ℕ) → 0 < length (answerLine returned phase woken word)
+unfolding answerLine
+answer-line-some returned phase woken word = simp (length-append) (omega (arith, field-some returned 32))

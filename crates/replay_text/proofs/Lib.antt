@@ -1,0 +1,4 @@
+-- The laws of the definitions in specs/.
+pub mod Stores
+pub mod Lengths
+pub mod Room

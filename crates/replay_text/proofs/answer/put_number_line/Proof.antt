@@ -1,0 +1,33 @@
+-- `replay_text::answer::put_number_line` meets its contract: the line is written where it has room.
+use Prim.Native.Nat.{_+_}
+use mathlib.Core.Path.{sym, _∙_}
+use native.Mathlib.Omega.{arith}
+use lib.ListN.{length}
+use borrow.Author.Needs.{needs}
+use borrow.Author.Tests.{leb-true}
+use Rattle.replay_text.specs.Text.{line-room}
+use Rattle.replay_text.proofs.Room.{put-written, put-refused}
+use Rattle.replay_text.proofs.answer.put_number_line.Statement.{statement}
+use Rattle.replay_text.proofs.answer.put_number_line.Tie as tie
+
+room : tie.Need-put-field-requires
+room c κs =
+    let test = c .before in
+    let args = test .before .before .before .args in
+    omega (arith, leb-true (args .at + line-room) (length (args .out .now)) (sym (test .before .has-room .ensures) ∙ test .if1 .taken))
+
+returns : tie.Need-returns
+returns c =
+    let line = c .before .before in
+    let test = line .before .before in
+    put-written (sym (test .before .has-room .ensures) ∙ test .if1 .taken) (line .put-field .ensures .0)
+
+pub put-number-line-spec : {M : Type 1} → statement M
+put-number-line-spec =
+    tie.close
+    (tie.spec
+    (λ c κs. tt)
+    room
+    (λ c. search needs)
+    returns
+    (λ c. put-refused _ _ _ (sym (c .before .has-room .ensures) ∙ c .if1 .left)))

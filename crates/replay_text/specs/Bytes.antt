@@ -1,0 +1,16 @@
+-- The bytes that a line is made of, in ASCII.
+use Prim.Native.Nat.{ℕ}
+
+abbrev pub newline : ℕ
+newline = 10
+
+abbrev pub space : ℕ
+space = 32
+
+-- the digits 0 to 9 follow each other
+abbrev pub digit-zero : ℕ
+digit-zero = 48
+
+-- so do the letters a to f
+abbrev pub letter-a : ℕ
+letter-a = 97

@@ -1,0 +1,16 @@
+// The printer of the replay program's lines (document 01, "The replay program").
+//
+//   a refused event      its number alone
+//   an accepted one      returned, phase, woken, word; the word in six lower-case hexadecimal digits
+//
+// A line is written into bytes that the caller lends, from a place on; the place behind it comes back. Where less than
+// `LINE_ROOM` bytes are left nothing is written and the place itself comes back: no line is empty, so the two can be told apart.
+mod answer;
+mod bytes;
+mod digits;
+
+pub use answer::Answer;
+pub use answer::LINE_ROOM;
+pub use answer::put_answer;
+pub use answer::put_answer_line;
+pub use answer::put_number_line;
