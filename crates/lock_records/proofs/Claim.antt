@@ -1,0 +1,288 @@
+-- Demand 3 over tables of records: from any fresh table, every schedule's last table agrees with the plain monitors that were fed with it.
+use Prim.Native.Nat.{ℕ, _≤_}
+use mathlib.Core.Path.{_≡_, refl, sym, ap, _∙_}
+use mathlib.Core.Logic.{_≢_, _⊎_, inl, inr}
+use mathlib.Core.Bool.{Bool, true, false}
+use mathlib.Core.List.{List}
+use native.Mathlib.Omega.{arith}
+use lib.Dec.{T, eqb}
+use Rattle.laws.specs.Choice.{pick, both, either}
+use Rattle.laws.proofs.Choice.{by-test, pick-same, false≢true, Equal, equal}
+use Rattle.chains.specs.Chain.{members}
+use Rattle.chains.proofs.Links.{Links}
+use Rattle.lock_word.specs.Meaning.{unowned, ownershipOf}
+use Rattle.lock_word.specs.declared.reading.Decoded.the-variants.{Valid}
+use Rattle.lock_word.specs.declared.meaning.Ownership.{Ownership}
+use Rattle.lock_rules.specs.Numbers.{phase-of-doing, phase-of}
+use Rattle.lock_rules.specs.Ownership.{owner-of, depth-of}
+use Rattle.lock_rules.specs.Status.{is-woken, parked-for-entry, unparked, unfinished}
+use Rattle.lock_rules.specs.Events.{Event}
+use Rattle.lock_rules.specs.Feed.{Plain, feed-all, blank}
+use Rattle.lock_rules.specs.declared.Doing.{Doing}
+use Rattle.lock_rules.specs.declared.Doing.the-variants.{EnterLook, EnterStore, EnterCancel, EnterGoIn, EnterCheck, EnterTry, ExitLook}
+use Rattle.lock_rules.specs.declared.Doing.the-variants.{ExitStore, ExitGoIn, ExitTest, ExitTell, ExitLeave, WaitLook, WaitCancel, WaitGoIn}
+use Rattle.lock_rules.specs.declared.Doing.the-variants.{WaitInflate, WaitGiveUp, WaitResume, NotifyLook, NotifyAllLook}
+use Rattle.lock_rules.specs.declared.ThreadState.{ThreadState}
+use Rattle.lock_rules.specs.declared.ThreadState.the-variants.{Idle, Running, Queued, Contending, Waiting}
+use Rattle.lock_rules.specs.declared.WordSeen.{WordSeen}
+use Rattle.lock_rules.specs.declared.WordSeen.the-variants.{Free, Anonymous, Fat, Flat, Reserved}
+use Rattle.lock_rules.proofs.Objects.{object-owner, owned-depth}
+use Rattle.lock_rules.proofs.Tables.{ListTable, seen-from, final, shown, fresh}
+use Rattle.lock_rules.proofs.Turns.{final-on, shown-on}
+use Rattle.lock_rules.proofs.Lift.{World, world-fresh, world-run}
+use Rattle.lock_rules.proofs.Claim.{Claim, world-claim, OwnedByOther as ListOwned, BusyOther as ListBusy}
+use Rattle.lock_rules.proofs.ListSound.{WordFine, SoundTable}
+use Rattle.lock_rules.proofs.ListChains.{waiting-chain}
+use Rattle.lock_rules.proofs.SoundKept.{sound-turn, sound-fresh}
+use Rattle.lock_rules.proofs.Standing.{stands-run}
+use Rattle.lock_table.specs.Limits.{thread-limit, object-limit}
+use Rattle.lock_table.specs.Phase.{phaseNumberOf, carriedNumberOf}
+use Rattle.lock_table.specs.Access.{threadAt, objectAt, nextOf}
+use Rattle.lock_table.specs.Fresh.{freshOf}
+use Rattle.lock_table.specs.declared.record.ThreadRecord.{ThreadRecord}
+use Rattle.lock_table.specs.declared.record.ObjectRecord.{ObjectRecord}
+use Rattle.lock_table.specs.declared.record.Table.{Table}
+use Rattle.lock_perform.specs.State.{recordOf}
+use Rattle.lock_records.proofs.Written.{lock-word, written-doing, written-carried, idle-or-written, phase-written}
+use Rattle.lock_records.proofs.Represents.{monitor-record, Represents}
+use Rattle.lock_records.proofs.Readings.{busy-in, thread-is, home-is, members-are, word-is}
+use Rattle.lock_records.proofs.RecordKind.{record-kind, records-stand}
+use Rattle.lock_records.proofs.FreshRecords.{fresh-represents}
+use Rattle.lock_records.specs.Agrees.{ownership-in, ownership-at, phase-at, woken-at}
+use Rattle.lock_records.specs.Agrees.{OwnedByOther, BusyOther, Agrees}
+
+-- nobody owns at depth 0
+owned-deep : (thread depth : ℕ)
+    → pick (eqb depth 0) unowned (record { thread = thread; depth = depth }) ≡ record { thread = pick (eqb depth 0) 0 thread; depth = depth }
+owned-deep thread depth = at (eqb depth 0) (equal depth 0)
+  where
+    at : (none : Bool) → Equal none depth 0
+        → pick none unowned (record { thread = thread; depth = depth }) ≡ record { thread = pick none 0 thread; depth = depth }
+    at true e = λ j. record { thread = 0; depth = sym e j }
+    at false e = refl
+
+-- owner and depth by the lock word are those that the rules see
+ownership-seen : (o : ℕ) (links : Links) (seen : WordSeen) (holder depth : ℕ)
+    → ownership-in (Valid (lock-word o seen)) (monitor-record o links holder depth)
+    ≡ record { thread = owner-of seen holder depth; depth = depth-of seen depth }
+unfolding ownershipOf
+ownership-seen o links Free holder depth = refl
+ownership-seen o links Anonymous holder depth = refl
+ownership-seen o links Fat holder depth = owned-deep holder depth
+ownership-seen o links (Flat thread count) holder depth = refl
+ownership-seen o links (Reserved thread count) holder depth = owned-deep thread count
+
+-- an owner is a thread of the table
+owner-small : (threads : ℕ) (seen : WordSeen) (holder depth : ℕ) → WordFine threads seen → holder ≤ threads → owner-of seen holder depth ≤ threads
+owner-small threads Free holder depth fine small = omega arith
+owner-small threads Anonymous holder depth fine small = omega arith
+owner-small threads Fat holder depth fine small = by-test (λ (n : ℕ). n ≤ threads) (eqb depth 0) (λ e. omega arith) (λ e. small)
+owner-small threads (Flat thread count) holder depth fine small = fine .1
+owner-small threads (Reserved thread count) holder depth fine small = by-test (λ (n : ℕ). n ≤ threads) (eqb count 0) (λ e. omega arith) (λ e. fine .1)
+
+-- a thread that can take a step is neither idle nor parked
+still : ℕ → Bool
+still phase = either (eqb phase 0) (either (eqb phase 5) (either (eqb phase 8) (eqb phase 14)))
+
+not-still : (doing : Doing) → still (phase-of-doing doing) ≡ false
+unfolding still
+not-still EnterLook = refl
+not-still (EnterStore count) = refl
+not-still EnterCancel = refl
+not-still EnterGoIn = refl
+not-still EnterCheck = refl
+not-still EnterTry = refl
+not-still ExitLook = refl
+not-still (ExitStore count) = refl
+not-still ExitGoIn = refl
+not-still ExitTest = refl
+not-still ExitTell = refl
+not-still ExitLeave = refl
+not-still WaitLook = refl
+not-still WaitCancel = refl
+not-still WaitGoIn = refl
+not-still WaitInflate = refl
+not-still WaitGiveUp = refl
+not-still (WaitResume suspension) = refl
+not-still NotifyLook = refl
+not-still NotifyAllLook = refl
+
+abbrev Steps : ℕ → Type 0
+Steps phase = ((phase ≢ 5) × (phase ≢ 8) × (phase ≢ 14)) × (phase ≢ 0)
+
+steps-by : (phase : ℕ) → still phase ≡ false → Steps phase
+unfolding still
+steps-by phase = at (eqb phase 0) (eqb phase 5) (eqb phase 8) (eqb phase 14) (equal phase 0) (equal phase 5) (equal phase 8) (equal phase 14)
+  where
+    at : (a b c d : Bool) → Equal a phase 0 → Equal b phase 5 → Equal c phase 8 → Equal d phase 14
+        → either a (either b (either c d)) ≡ false → Steps phase
+    at false false false false p q r s e = ((q, r, s), p)
+    at false false false true p q r s e = false≢true (sym e)
+    at false false true d p q r s e = false≢true (sym e)
+    at false true c d p q r s e = false≢true (sym e)
+    at true b c d p q r s e = false≢true (sym e)
+
+-- what a phase's number says of the state
+neither : (phase : ℕ) → phase ≢ 5 → phase ≢ 8 → (phase ≡ 5) ⊎ (phase ≡ 8) → ⊥
+neither phase a b (inl e) = a e
+neither phase a b (inr e) = b e
+
+parked-by : (state : ThreadState) → (phase-of state ≡ 5) ⊎ (phase-of state ≡ 8) → T (parked-for-entry state)
+parked-by Idle e = neither 0 (λ q. omega (arith, q)) (λ q. omega (arith, q)) e
+parked-by (Running doing) e = let steps = steps-by (phase-of-doing doing) (not-still doing) in neither (phase-of-doing doing) (steps .0 .0) (steps .0 .1) e
+parked-by (Queued carried) e = tt
+parked-by Contending e = tt
+parked-by (Waiting suspension) e = neither 14 (λ q. omega (arith, q)) (λ q. omega (arith, q)) e
+
+busy-parked : (state : ThreadState) → T (parked-for-entry state) → T (unfinished state)
+busy-parked Idle parked = parked
+busy-parked (Running doing) parked = tt
+busy-parked (Queued carried) parked = tt
+busy-parked Contending parked = tt
+busy-parked (Waiting suspension) parked = tt
+
+steps-unparked : (state : ThreadState) → T (unparked state) → T (unfinished state) → Steps (phase-of state)
+steps-unparked Idle free busy = absurd busy
+steps-unparked (Running doing) free busy = steps-by (phase-of-doing doing) (not-still doing)
+steps-unparked (Queued carried) free busy = absurd free
+steps-unparked Contending free busy = absurd free
+steps-unparked (Waiting suspension) free busy = absurd free
+
+-- woken by the numbers in a record
+woken-written : (n o : ℕ) (state : ThreadState) (next : ℕ)
+    → let phase = recordOf n o state next .phase in either (eqb (phaseNumberOf phase) 15) (eqb (carriedNumberOf phase) 15) ≡ is-woken state
+unfolding recordOf phaseNumberOf carriedNumberOf
+woken-written n o Idle next = refl
+woken-written n o (Running doing) next =
+    rw (written-doing n o doing next .phase, written-doing n o doing next .carried) (at (eqb (phase-of-doing doing) 15))
+  where
+    at : (b : Bool) → either b false ≡ b
+    at true = refl
+    at false = refl
+woken-written n o (Queued carried) next = rw (written-carried n o carried next .phase, written-carried n o carried next .carries)
+woken-written n o Contending next = refl
+woken-written n o (Waiting suspension) next = refl
+
+-- and by its object, as the object sees it
+woken-seen : (n home o : ℕ) (state : ThreadState) (next : ℕ)
+    → let thread = recordOf n home state next in
+    both (eqb (thread .object) o) (either (eqb (phaseNumberOf (thread .phase)) 15) (eqb (carriedNumberOf (thread .phase)) 15))
+    ≡ is-woken (pick (eqb home o) state Idle)
+woken-seen n home o state next =
+    ap (both (eqb (recordOf n home state next .object) o)) (woken-written n home state next) ∙ at (idle-or-written n home state next)
+  where
+    here : (there : Bool) → both there (is-woken state) ≡ is-woken (pick there state Idle)
+    here true = refl
+    here false = refl
+
+    none : (a : Bool) → both a false ≡ false
+    none true = refl
+    none false = refl
+
+    at : (state ≡ Idle) ⊎ (recordOf n home state next .object ≡ home)
+        → both (eqb (recordOf n home state next .object) o) (is-woken state) ≡ is-woken (pick (eqb home o) state Idle)
+    at (inl idle) = rw idle (none (eqb (recordOf n home Idle next .object) o) ∙ sym (ap is-woken (pick-same (eqb home o) Idle)))
+    at (inr same) = ap (λ (b : ℕ). both (eqb b o) (is-woken state)) same ∙ here (eqb home o)
+
+module _ (threads objects : ℕ) (t : Table) (lists : ListTable) (represents : Represents threads objects t lists) (sound : SoundTable threads objects lists)
+  where
+    ownership-is : (o : ℕ) → 1 ≤ o → o ≤ objects
+        → ownership-at t o ≡ record { thread = object-owner (lists .objects o); depth = owned-depth (lists .objects o) }
+    ownership-is o real small =
+        (λ j. ownership-in (word-is threads objects t lists represents sound o real small j) (represents .object-at o real small j .monitor))
+        ∙ ownership-seen o (represents .links) (lists .objects o .word) (lists .objects o .holder) (lists .objects o .depth)
+
+    phase-is : (n : ℕ) → phase-at t n ≡ phase-of (lists .threads n .state)
+    phase-is n =
+        ap (λ (thread : ThreadRecord). phaseNumberOf (thread .phase)) (thread-is threads objects t lists represents sound n)
+        ∙ phase-written n (lists .threads n .object) (lists .threads n .state) (represents .links .next n)
+
+    woken-is : (o n : ℕ) → woken-at t o n ≡ is-woken (seen-from o (lists .threads n))
+    woken-is o n =
+        ap
+        (λ (thread : ThreadRecord). both (eqb (thread .object) o)
+        (either (eqb (phaseNumberOf (thread .phase)) 15) (eqb (carriedNumberOf (thread .phase)) 15)))
+        (thread-is threads objects t lists represents sound n)
+        ∙ woken-seen n (lists .threads n .object) o (lists .threads n .state) (represents .links .next n)
+
+    waiting-is : (o : ℕ) → 1 ≤ o → o ≤ objects → members thread-limit (nextOf t) (objectAt t o .monitor .waiting) ≡ lists .objects o .waiting
+    waiting-is o real small =
+        ap (λ (object : ObjectRecord). members thread-limit (nextOf t) (object .monitor .waiting)) (represents .object-at o real small)
+        ∙ members-are threads objects t lists represents sound o waiting-chain
+
+    stranded : (n : ℕ) → T (parked-for-entry (lists .threads n .state))
+        → ListOwned (lists .objects (lists .threads n .object)) n ⊎ ListBusy lists n
+        → OwnedByOther t (threadAt t n .object) n ⊎ BusyOther t (threadAt t n .object) n
+    stranded n parked found =
+        let busy : T (unfinished (lists .threads n .state)) = busy-parked (lists .threads n .state) parked in
+        let (thread, real, small) = busy-in threads objects lists sound n busy in
+        rw (home-is threads objects t lists represents sound n busy) (at real small found)
+      where
+        home : ℕ
+        home = lists .threads n .object
+
+        at : 1 ≤ home → home ≤ objects → ListOwned (lists .objects home) n ⊎ ListBusy lists n
+            → OwnedByOther t home n ⊎ BusyOther t home n
+        at real small (inl (some, other)) =
+            inl
+            (rw (ownership-is home real small, represents .threadcount) (
+              (
+                omega (arith, some),
+                owner-small threads (lists .objects home .word) (lists .objects home .holder) (lists .objects home .depth) (sound .sound home .word)
+                    (sound .sound home .holder),
+              ),
+              other,
+            ))
+        at real small (inr (other, away, free, busy, same)) =
+            let steps : Steps (phase-at t other) =
+            rw (phase-is other) (steps-unparked (lists .threads other .state) free busy) in
+            inr (
+              other,
+              rw (represents .threadcount) (busy-in threads objects lists sound other busy .0),
+              away,
+              steps .0,
+              steps .1,
+              home-is threads objects t lists represents sound other busy ∙ same,
+            )
+
+    pub represents-agrees : (plain : Plain) → World lists plain → Agrees t plain
+    represents-agrees plain world =
+        record {
+          owners = λ o real small. let is = ownership-is o real (rw (represents .objectcount) at small) in
+              (claim .owners o .0 ∙ sym (ap (λ (x : Ownership). x .thread) is), claim .owners o .1 ∙ sym (ap (λ (x : Ownership). x .depth) is));
+          waiting = λ o real small. claim .waiting o ∙ sym (waiting-is o real (rw (represents .objectcount) at small));
+          woken = λ o real small n. claim .woken o n ∙ sym (woken-is o n);
+          ended = claim .ended;
+          unstranded = λ n parked.
+              let state : T (parked-for-entry (lists .threads n .state)) = parked-by (lists .threads n .state) (rw (phase-is n) at parked) in
+              stranded n state (claim .unstranded n state);
+        }
+      where
+        claim : Claim lists plain
+        claim = world-claim lists plain world
+
+module _ (threads objects : ℕ) (some-threads : 1 ≤ threads) (thread-room : threads ≤ thread-limit) (some-objects : 1 ≤ objects)
+    (object-room : objects ≤ object-limit) (reserved : Bool) (events : List Event) where
+  abbrev fresh-records : Table
+  fresh-records = freshOf threads objects reserved .table
+
+  -- a schedule on records goes on representing the same schedule on lists, which stays sound, and the same is shown
+  pub schedule-represents :
+      Represents threads objects (final-on record-kind threads objects fresh-records events) (final threads objects (fresh reserved) events)
+      × SoundTable threads objects (final threads objects (fresh reserved) events)
+      × (shown-on record-kind threads objects fresh-records events ≡ shown threads objects (fresh reserved) events)
+  schedule-represents =
+      stands-run record-kind threads objects (Represents threads objects) (SoundTable threads objects)
+      (records-stand threads objects (SoundTable threads objects) (λ lists sound. sound) (λ lists event sound. sound-turn threads objects lists sound event))
+      events fresh-records (fresh reserved) (fresh-represents threads objects reserved some-threads thread-room some-objects object-room)
+      (sound-fresh threads objects reserved)
+
+  -- demand 3 for every schedule from any fresh table; 11, which no sound table gives, is not asked here
+  pub schedule-agrees :
+      Agrees (final-on record-kind threads objects fresh-records events) (feed-all blank (shown-on record-kind threads objects fresh-records events))
+  schedule-agrees =
+      let (represents, sound, same) = schedule-represents in
+      rw same
+      (represents-agrees threads objects (final-on record-kind threads objects fresh-records events) (final threads objects (fresh reserved) events)
+      represents sound (feed-all blank (shown threads objects (fresh reserved) events))
+      (world-run threads objects events (fresh reserved) blank (world-fresh reserved)))

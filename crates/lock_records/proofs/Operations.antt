@@ -1,0 +1,68 @@
+-- The engine's operations, of which one stands for none, against those that a begin asks for.
+use Prim.Native.Nat.{ℕ}
+use mathlib.Core.Path.{_≡_, refl, sym, _∙_}
+use mathlib.Core.Bool.{Bool, true, false}
+use lib.Dec.{eqb}
+use Rattle.laws.specs.Choice.{pick}
+use Rattle.lock_rules.specs.Numbers.{asked-for}
+use Rattle.lock_rules.specs.Rules.{begun}
+use Rattle.lock_rules.specs.Operations.{Operation as AskedOperation}
+use Rattle.lock_rules.specs.Operations.{Enter as AskEnter, Exit as AskExit, Wait as AskWait, Notify as AskNotify, NotifyAll as AskNotifyAll}
+use Rattle.lock_rules.specs.Operations.{Asked, Unknown, Known}
+use Rattle.lock_rules.specs.declared.ThreadState.the-variants.{Running}
+use Rattle.lock_table.specs.Operation.{operationFromOf}
+use Rattle.lock_table.specs.declared.operation.Operation.{Operation}
+use Rattle.lock_table.specs.declared.operation.Operation.the-variants.{Idle, Enter, Exit, Wait, Notify, NotifyAll}
+use Rattle.lock_table.specs.declared.phase.Phase.the-variants.{Look}
+use Rattle.lock_perform.specs.State.{threadWith, doingRecordOf, recordOf}
+
+abbrev pub operation-of : AskedOperation → Operation
+operation-of AskEnter = Enter
+operation-of AskExit = Exit
+operation-of AskWait = Wait
+operation-of AskNotify = Notify
+operation-of AskNotifyAll = NotifyAll
+
+abbrev pub asked-of : Operation → Asked
+asked-of Idle = Unknown
+asked-of Enter = Known AskEnter
+asked-of Exit = Known AskExit
+asked-of Wait = Known AskWait
+asked-of Notify = Known AskNotify
+asked-of NotifyAll = Known AskNotifyAll
+
+-- both read a number alike
+pub asked-from : (number : ℕ) → asked-for number ≡ asked-of (operationFromOf number)
+unfolding asked-for operationFromOf
+asked-from number = at (eqb number 1) (eqb number 2) (eqb number 3) (eqb number 4) (eqb number 5)
+  where
+    at : (a b c d e : Bool)
+        → pick a (Known AskEnter) (pick b (Known AskExit) (pick c (Known AskWait) (pick d (Known AskNotify) (pick e (Known AskNotifyAll) Unknown))))
+        ≡ asked-of (pick a Enter (pick b Exit (pick c Wait (pick d Notify (pick e NotifyAll Idle)))))
+    at true b c d e = refl
+    at false true c d e = refl
+    at false false true d e = refl
+    at false false false true e = refl
+    at false false false false true = refl
+    at false false false false false = refl
+
+-- so a number that asks for an operation is the engine's number of it
+pub operation-asked : (number : ℕ) (operation : AskedOperation) → asked-for number ≡ Known operation → operationFromOf number ≡ operation-of operation
+operation-asked number operation asked = at (operationFromOf number) (sym (asked-from number) ∙ asked)
+  where
+    at : (found : Operation) → asked-of found ≡ Known operation → found ≡ operation-of operation
+    at Idle e = cc
+    at Enter e = let same : AskEnter ≡ operation = cc in rw (← same)
+    at Exit e = let same : AskExit ≡ operation = cc in rw (← same)
+    at Wait e = let same : AskWait ≡ operation = cc in rw (← same)
+    at Notify e = let same : AskNotify ≡ operation = cc in rw (← same)
+    at NotifyAll e = let same : AskNotifyAll ≡ operation = cc in rw (← same)
+
+-- begin sets phase 1
+pub begun-written : (n o : ℕ) (operation : AskedOperation) → recordOf n o (Running (begun operation)) 0 ≡ threadWith (operation-of operation) o Look 0 0 0
+unfolding recordOf doingRecordOf
+begun-written n o AskEnter = refl
+begun-written n o AskExit = refl
+begun-written n o AskWait = refl
+begun-written n o AskNotify = refl
+begun-written n o AskNotifyAll = refl

@@ -1,0 +1,226 @@
+-- An effect carried out on the records, and a begin, represent the table with lists on which the same was done.
+use Prim.Native.Nat.{ℕ, _≤_}
+use mathlib.Core.Path.{_≡_, refl, sym, ap, _∙_, subst, fun-ext}
+use mathlib.Core.Logic.{_≢_, _⊎_, inl, inr}
+use mathlib.Core.List.{List}
+use native.Mathlib.Omega.{arith}
+use lib.ListN.{length}
+use Rattle.laws.specs.Update.{update}
+use Rattle.laws.specs.Count.{count}
+use Rattle.laws.proofs.Choice.{equal?}
+use Rattle.laws.proofs.Update.{update-same, update-other, update-id}
+use Rattle.chains.proofs.Chain.{head}
+use Rattle.chains.proofs.Links.{Links, Stands, first-head}
+use Rattle.lock_rules.specs.Changes.{word-after}
+use Rattle.lock_rules.specs.declared.Doing.{Doing}
+use Rattle.lock_rules.specs.declared.ThreadState.{ThreadState}
+use Rattle.lock_rules.specs.declared.ThreadState.the-variants.{Idle, Running}
+use Rattle.lock_rules.specs.declared.Effect.{Effect}
+use Rattle.lock_rules.specs.declared.Action.the-variants.{Unruled, Do}
+use Rattle.lock_rules.proofs.Objects.{ListObject}
+use Rattle.lock_rules.proofs.Perform.{perform, states-after, object-after, effected}
+use Rattle.lock_rules.proofs.Tables.{ListThread, ListTable, states-at, put-back}
+use Rattle.lock_rules.proofs.ListSound.{SoundTable}
+use Rattle.lock_rules.proofs.ListChains.{Chain, entry-chain, contention-chain, waiting-chain, chain-of, times-in, short, out-of-chain}
+use Rattle.lock_table.specs.Limits.{thread-limit, object-limit}
+use Rattle.lock_table.specs.Record.{noThread, noObject}
+use Rattle.lock_table.specs.Access.{threadAt, setThread, objectAt, setObject, nextOf}
+use Rattle.lock_table.proofs.Records.{read-at, BesideObjects, object-set, object-beside}
+use Rattle.lock_table.specs.declared.record.ThreadRecord.{ThreadRecord}
+use Rattle.lock_table.specs.declared.record.ObjectRecord.{ObjectRecord}
+use Rattle.lock_table.specs.declared.record.Table.{Table}
+use Rattle.lock_perform.specs.State.{recordOf}
+use Rattle.lock_perform.specs.Moving.{actionOf}
+use Rattle.lock_perform.specs.Perform.{performOf}
+use Rattle.lock_perform.specs.declared.moving.Moved.{Moved}
+use Rattle.lock_records.proofs.Numbering.{number, lists-of, list-at, by-number, action-links, Room, stands-action, lists-action}
+use Rattle.lock_records.proofs.Written.{word-written, word-changed}
+use Rattle.lock_records.proofs.Represents.{thread-record, monitor-record, object-record, Represents, next-is}
+use Rattle.lock_records.proofs.Moves.{Moves, moves-set}
+use Rattle.lock_records.proofs.Placing.{placed, placed-none, placed-own}
+use Rattle.lock_records.proofs.Actions.{Acted, acted, word-kept}
+
+-- a table with the same list of records has the same records
+threads-of : (t u : Table) → u .threads ≡ t .threads → threadAt u ≡ threadAt t
+unfolding threadAt
+threads-of t u same = fun-ext (λ n. ap (λ (records : List ThreadRecord). read-at ThreadRecord noThread thread-limit records n) same)
+
+objects-of : (t u : Table) → u .objects ≡ t .objects → objectAt u ≡ objectAt t
+unfolding objectAt
+objects-of t u same = fun-ext (λ n. ap (λ (records : List ObjectRecord). read-at ObjectRecord noObject object-limit records n) same)
+
+-- a thread in no chain names none
+abbrev Unchained : ThreadState → Type 0
+Unchained state = (chain : Chain) → times-in chain state ≡ 0
+
+pub running-unchained : (doing : Doing) → Unchained (Running doing)
+running-unchained doing entry-chain = refl
+running-unchained doing contention-chain = refl
+running-unchained doing waiting-chain = refl
+
+pub idle-unchained : Unchained Idle
+idle-unchained entry-chain = refl
+idle-unchained contention-chain = refl
+idle-unchained waiting-chain = refl
+
+module _ (threads objects : ℕ) (t : Table) (lists : ListTable) (represents : Represents threads objects t lists) (sound : SoundTable threads objects lists)
+    (i : ℕ) (low : 1 ≤ i) (high : i ≤ threads) where
+  -- thread i is in no chain, and every chain is short enough to walk to its end
+  room : Unchained (lists .threads i .state) → Room i (lists-of (lists .objects))
+  room unchained =
+      record {
+        real = λ e. omega (arith, low, e);
+        out = by-number (λ c. count i (lists-of (lists .objects) c) ≡ 0)
+            (λ o chain. rw (list-at (lists .objects) o chain) (out-of-chain threads objects lists sound chain o i (unchained chain)));
+        short = by-number (λ c. length (lists-of (lists .objects) c) ≤ thread-limit)
+            (λ o chain. rw (list-at (lists .objects) o chain) (omega (arith, short threads objects lists sound chain o, represents .thread-room)));
+      }
+
+  -- a begin writes one thread's record
+  pub begin-represents : (thread : ListThread) → lists .threads i .state ≡ Idle
+      → Represents threads objects (setThread t i (thread-record i thread 0))
+      (record { threads = update (lists .threads) i thread; objects = lists .objects })
+  begin-represents thread idle =
+      record {
+        threadcount = moves .beside .threadcount ∙ represents .threadcount;
+        objectcount = moves .beside .objectcount ∙ represents .objectcount;
+        thread-room = represents .thread-room;
+        object-room = represents .object-room;
+        links = represents .links;
+        chains = represents .chains;
+        written = moves .written;
+        objects-full = ap length (moves .beside .objects) ∙ represents .objects-full;
+        object-at = λ o real small. ap (λ (f : ℕ → ObjectRecord). f o) same ∙ represents .object-at o real small;
+        object-past = λ o past. ap (λ (f : ℕ → ObjectRecord). f o) same ∙ represents .object-past o past;
+      }
+    where
+      unlinked : represents .links .next i ≡ 0
+      unlinked = represents .chains .loose i (room (subst Unchained (sym idle) idle-unchained) .out)
+
+      moves : Moves t (setThread t i (thread-record i thread 0)) (update (lists .threads) i thread) (represents .links .next)
+      moves =
+          rw (update-id (represents .links .next) i 0 unlinked) at
+          (moves-set t t (lists .threads) (represents .links .next)
+          (record { written = represents .written; beside = record { threadcount = refl; objectcount = refl; objects = refl; length-kept = refl } })
+          i low (omega (arith, represents .thread-room)) thread 0)
+
+      same : objectAt (setThread t i (thread-record i thread 0)) ≡ objectAt t
+      same = objects-of t (setThread t i (thread-record i thread 0)) (moves .beside .objects)
+
+  -- a step at object o
+  module _ (o : ℕ) (home : lists .threads i .object ≡ o) (real : 1 ≤ o) (small : o ≤ objects) (unchained : Unchained (lists .threads i .state)) where
+    -- no rule fits: nothing changes
+    pub unruled-represents : Represents threads objects t (put-back lists o (perform i (states-at lists o) (lists .objects o) Unruled) .table)
+    unruled-represents =
+        subst (Represents threads objects t)
+        (λ j. record { threads = placed-none o (lists .threads) j; objects = sym (update-id (lists .objects) o (lists .objects o) refl) j }) represents
+
+    module _ (effect : Effect) where
+      abbrev now : ListObject
+      now = effected i effect (lists .objects o)
+
+      abbrev new : ListObject
+      new = object-after (effect .chains) i now
+
+      abbrev links : Links
+      links = action-links i o (effect .chains) (represents .links)
+
+      abbrev moved : Moved
+      moved = actionOf (effect .chains) i o (record { table = t; monitor = monitor-record o (represents .links) (effect .holder) (effect .depth) })
+
+      abbrev written-word : ℕ
+      written-word = word-written o (word-after i (effect .word) (lists .objects o .word))
+
+      abbrev states : ℕ → ThreadState
+      states = update (states-after (effect .chains) (states-at lists o) now) i (effect .state)
+
+      abbrev own-written : Table
+      own-written = setThread (moved .table) i (recordOf i o (effect .state) (nextOf (moved .table) i))
+
+      abbrev object-written : ObjectRecord
+      object-written = record { word = written-word; monitor = moved .monitor; flag = effect .flag }
+
+      stands : Stands links (lists-of (update (lists .objects) o new))
+      stands =
+          subst (Stands links) (lists-action (lists .objects) i o effect (effect .chains))
+          (stands-action i o (represents .links) (lists-of (lists .objects)) (represents .chains) (room unchained) (effect .chains))
+
+      action : Acted t lists o links moved (states-after (effect .chains) (states-at lists o) now) (new .holder) (new .depth)
+      action = acted threads objects t lists represents sound o i effect (effect .chains)
+
+      threads-after : Moves t own-written (placed o (lists .threads) states) (links .next)
+      threads-after =
+          let link : nextOf (moved .table) i ≡ links .next i =
+          ap (λ (next : ℕ → ℕ). next i) (next-is (moved .table) _ (links .next) (action .moves .written)) in
+          subst
+          (λ (n : ℕ). Moves t (setThread (moved .table) i (recordOf i o (effect .state) n)) (placed o (lists .threads) states) (links .next)) (sym link)
+          (rw (← (placed-own o (lists .threads) (states-after (effect .chains) (states-at lists o) now) i (effect .state) home))
+          (rw (update-id (links .next) i (links .next i) refl) at
+          (moves-set t (moved .table) (placed o (lists .threads) (states-after (effect .chains) (states-at lists o) now)) (links .next) (action .moves) i low
+          (omega (arith, high, represents .thread-room)) (record { object = o; state = effect .state }) (links .next i))))
+
+      written-is : object-written ≡ object-record o new links
+      written-is =
+          let (same-word, same-flag) = word-kept (effect .chains) i now in
+          λ j. record { word = word-written o (sym same-word j); monitor = action .monitor j; flag = sym same-flag j }
+
+      objects-after : objectAt (setObject own-written o object-written) ≡ update (objectAt t) o object-written
+      objects-after =
+          let same : own-written .objects ≡ t .objects = threads-after .beside .objects in
+          object-set own-written o object-written (ap length same ∙ represents .objects-full) real (omega (arith, small, represents .object-room))
+          ∙ ap (λ (f : ℕ → ObjectRecord). update f o object-written) (objects-of t own-written same)
+
+      -- the chains of another object begin as before
+      other-first : (p : ℕ) → p ≢ o → (chain : Chain) → links .first (number p chain) ≡ represents .links .first (number p chain)
+      other-first p away chain =
+          first-head links (lists-of (update (lists .objects) o new)) stands (number p chain)
+          ∙ (ap head
+          (list-at (update (lists .objects) o new) p chain
+          ∙ (ap (chain-of chain) (update-other (lists .objects) o new p away) ∙ sym (list-at (lists .objects) p chain)))
+          ∙ sym (first-head (represents .links) (lists-of (lists .objects)) (represents .chains) (number p chain)))
+
+      object-after-at : (p : ℕ) → 1 ≤ p → p ≤ objects → (p ≡ o) ⊎ (p ≢ o)
+          → update (objectAt t) o object-written p ≡ object-record p (update (lists .objects) o new p) links
+      object-after-at p first last (inl e) = rw (e, update-same (objectAt t) o object-written, update-same (lists .objects) o new) written-is
+      object-after-at p first last (inr away) =
+          rw (
+            update-other (objectAt t) o object-written p away,
+            update-other (lists .objects) o new p away,
+            other-first p away entry-chain,
+            other-first p away contention-chain,
+            other-first p away waiting-chain,
+          ) (represents .object-at p first last)
+
+      effect-represents : Represents threads objects (setObject own-written o object-written)
+          (put-back lists o (perform i (states-at lists o) (lists .objects o) (Do effect)) .table)
+      effect-represents =
+          record {
+            threadcount = beside .threadcount ∙ (threads-after .beside .threadcount ∙ represents .threadcount);
+            objectcount = beside .objectcount ∙ (threads-after .beside .objectcount ∙ represents .objectcount);
+            thread-room = represents .thread-room;
+            object-room = represents .object-room;
+            links = links;
+            chains = stands;
+            written = record {
+              records = threads-of own-written (setObject own-written o object-written) (beside .threads) ∙ threads-after .written .records;
+              full = ap length (beside .threads) ∙ threads-after .written .full;
+            };
+            objects-full = beside .length-kept ∙ (ap length (threads-after .beside .objects) ∙ represents .objects-full);
+            object-at = λ p first last. ap (λ (f : ℕ → ObjectRecord). f p) objects-after ∙ object-after-at p first last (equal? p o);
+            object-past = λ p past. ap (λ (f : ℕ → ObjectRecord). f p) objects-after
+                ∙ (update-other (objectAt t) o object-written p (λ e. omega (arith, e, past, small)) ∙ represents .object-past p past);
+          }
+        where
+          beside : BesideObjects own-written (setObject own-written o object-written)
+          beside = object-beside own-written o object-written
+
+      -- the effect on the records as they are: the word is changed by its bits
+      pub perform-represents : Represents threads objects (performOf t i o (objectAt t o) effect)
+          (put-back lists o (perform i (states-at lists o) (lists .objects o) (Do effect)) .table)
+      perform-represents =
+          rw (
+            represents .object-at o real small,
+            word-changed threads o (represents .thread-room) real (omega (arith, small, represents .object-room)) i (lists .objects o .word)
+                (sound .sound o .word) (effect .word),
+          )
+          effect-represents

@@ -1,0 +1,124 @@
+-- Threads changed one at a time or along a chain, against the states that an object sees put back into all of its threads at once.
+use Prim.Native.Nat.{ℕ, zero, suc, _≤_, _<_}
+use mathlib.Core.Path.{_≡_, refl, sym, ap, _∙_, fun-ext}
+use mathlib.Core.Logic.{_≢_, _⊎_, inl, inr}
+use mathlib.Core.Bool.{Bool, true, false}
+use mathlib.Core.List.{List, [], _∷_}
+use native.Mathlib.Omega.{arith}
+use lib.Dec.{eqb}
+use lib.ListN.{length}
+use borrow.Author.Tests.{eq-eqb, ne-eqb}
+use Rattle.laws.specs.Choice.{pick}
+use Rattle.laws.specs.Update.{update}
+use Rattle.laws.specs.Count.{count}
+use Rattle.laws.proofs.Choice.{equal?, Equal, equal}
+use Rattle.laws.proofs.Update.{update-same, update-other, update-id}
+use Rattle.laws.proofs.Count.{count-same}
+use Rattle.chains.proofs.Chain.{Chain, head}
+use Rattle.chains.proofs.Walk.{walk, if-counted, walk-changes}
+use Rattle.lock_rules.specs.Changes.{sent-back}
+use Rattle.lock_rules.specs.PlainMonitor.{above-zero}
+use Rattle.lock_rules.specs.declared.ThreadState.{ThreadState}
+use Rattle.lock_rules.specs.declared.ThreadState.the-variants.{Idle}
+use Rattle.lock_rules.proofs.Tables.{ListThread, seen-from, seen-here, seen-elsewhere}
+use Rattle.lock_records.proofs.Moves.{change, sent-from}
+
+-- the first of a list, if there is one, in another state
+abbrev pub first-states : (ThreadState → ThreadState) → (ℕ → ThreadState) → List ℕ → ℕ → ThreadState
+first-states f states [] = states
+first-states f states (first ∷ rest) = update states first (f (states first))
+
+-- each of a list in another state
+abbrev pub all-states : (ThreadState → ThreadState) → (ℕ → ThreadState) → List ℕ → ℕ → ThreadState
+all-states f states list n = pick (above-zero (count n list)) (f (states n)) (states n)
+
+module _ (o : ℕ) (threads : ℕ → ListThread) where
+  -- the threads as o sees them
+  abbrev pub sees : ℕ → ThreadState
+  sees n = seen-from o (threads n)
+
+  -- these states put back into the threads at o
+  abbrev pub placed : (ℕ → ThreadState) → ℕ → ListThread
+  placed states n = pick (eqb (threads n .object) o) (record { object = o; state = states n }) (threads n)
+
+  placed-by : (changed : ℕ → ListThread) (states : ℕ → ThreadState)
+      → ((n : ℕ) → threads n .object ≡ o → changed n ≡ record { object = o; state = states n })
+      → ((n : ℕ) → threads n .object ≢ o → changed n ≡ threads n) → changed ≡ placed states
+  placed-by changed states here away = fun-ext (λ n. at n (eqb (threads n .object) o) (equal (threads n .object) o))
+    where
+      at : (n : ℕ) (there : Bool) → Equal there (threads n .object) o
+          → changed n ≡ pick there (record { object = o; state = states n }) (threads n)
+      at n true e = here n e
+      at n false e = away n e
+
+  as-seen : (n : ℕ) → threads n .object ≡ o → threads n ≡ record { object = o; state = sees n }
+  as-seen n e = λ j. record { object = e j; state = sym (seen-here o (threads n) e) j }
+
+  -- nothing changed
+  pub placed-none : threads ≡ placed sees
+  placed-none = placed-by threads sees as-seen (λ n away. refl)
+
+  -- one thread at o changed
+  pub placed-one : (f : ThreadState → ThreadState) (x : ℕ) → threads x .object ≡ o
+      → update threads x (change f (threads x)) ≡ placed (update sees x (f (sees x)))
+  placed-one f x home =
+      placed-by (update threads x (change f (threads x))) (update sees x (f (sees x))) (λ n e. here n e (equal? n x))
+      (λ n away. update-other threads x (change f (threads x)) n (λ e. away (ap (λ (m : ℕ). threads m .object) e ∙ home)))
+    where
+      here : (n : ℕ) → threads n .object ≡ o → (n ≡ x) ⊎ (n ≢ x)
+          → update threads x (change f (threads x)) n ≡ record { object = o; state = update sees x (f (sees x)) n }
+      here n e (inl q) = rw (q, update-same threads x (change f (threads x)), update-same sees x (f (sees x))) (ap (change f) (as-seen x home))
+      here n e (inr away) = rw (update-other threads x (change f (threads x)) n away, update-other sees x (f (sees x)) n away) (as-seen n e)
+
+  -- the first of a list changed; of an empty one that is thread 0, which is idle and stays so
+  pub placed-first : (f : ThreadState → ThreadState) (list : List ℕ) (first : ℕ) → first ≡ head list → threads 0 .state ≡ Idle → f Idle ≡ Idle
+      → ((n : ℕ) → 0 < count n list → threads n .object ≡ o)
+      → update threads first (change f (threads first)) ≡ placed (first-states f sees list)
+  placed-first f [] first e nobody fixed home =
+      let idle : threads first .state ≡ Idle = ap (λ (n : ℕ). threads n .state) e ∙ nobody in
+      let same : threads first ≡ change f (threads first) = λ j. record { object = threads first .object; state = (idle ∙ sym (ap f idle ∙ fixed)) j } in
+      update-id threads first (change f (threads first)) same ∙ placed-none
+  placed-first f (x ∷ rest) first e nobody fixed home = rw e (placed-one f x (home x (omega (arith, count-same x rest))))
+
+  -- each of a list changed
+  pub placed-all : (f : ThreadState → ThreadState) (next : ℕ → ℕ) (list : List ℕ) (fuel first : ℕ) → Chain next first list → length list ≤ fuel
+      → ((n : ℕ) → 0 < count n list → threads n .object ≡ o) → walk fuel next (change f) threads first ≡ placed (all-states f sees list)
+  placed-all f next list fuel first chain short home =
+      placed-by (walk fuel next (change f) threads first) (all-states f sees list)
+      (λ n e. walk-changes fuel next (change f) threads first list chain short n ∙ here n (count n list) e)
+      (λ n away. walk-changes fuel next (change f) threads first list chain short n ∙ elsewhere n (count n list) refl away)
+    where
+      here : (n k : ℕ) → threads n .object ≡ o
+          → if-counted k (change f) (threads n) ≡ record { object = o; state = pick (above-zero k) (f (sees n)) (sees n) }
+      here n zero e = as-seen n e
+      here n (suc k) e = ap (change f) (as-seen n e)
+
+      elsewhere : (n k : ℕ) → count n list ≡ k → threads n .object ≢ o → if-counted k (change f) (threads n) ≡ threads n
+      elsewhere n zero e away = refl
+      elsewhere n (suc k) e away = absurd (away (home n (omega (arith, e))))
+
+  -- one thread sent back, if it is at o
+  pub placed-sent : (x : ℕ) → update threads x (sent-from o (threads x)) ≡ placed (update sees x (sent-back (sees x)))
+  placed-sent x = at (eqb (threads x .object) o) (equal (threads x .object) o)
+    where
+      at : (there : Bool) → Equal there (threads x .object) o
+          → update threads x (record { object = threads x .object; state = pick there (sent-back (threads x .state)) (threads x .state) })
+          ≡ placed (update sees x (sent-back (sees x)))
+      at true home = placed-one sent-back x home
+      at false away =
+          let idle : sees x ≡ Idle = seen-elsewhere o (threads x) away in
+          rw (idle, update-id threads x (threads x) refl, update-id sees x Idle idle) placed-none
+
+  -- and with the state of thread i, which is at o
+  pub placed-own : (states : ℕ → ThreadState) (i : ℕ) (state : ThreadState) → threads i .object ≡ o
+      → update (placed states) i (record { object = o; state = state }) ≡ placed (update states i state)
+  placed-own states i state home =
+      placed-by (update (placed states) i (record { object = o; state = state })) (update states i state) (λ n e. here n e (equal? n i))
+      (λ n away. update-other (placed states) i (record { object = o; state = state }) n (λ e. away (ap (λ (m : ℕ). threads m .object) e ∙ home))
+      ∙ rw (ne-eqb (threads n .object) o away))
+    where
+      here : (n : ℕ) → threads n .object ≡ o → (n ≡ i) ⊎ (n ≢ i)
+          → update (placed states) i (record { object = o; state = state }) n ≡ record { object = o; state = update states i state n }
+      here n e (inl q) = rw (q, update-same (placed states) i (record { object = o; state = state }), update-same states i state)
+      here n e (inr away) =
+          rw (update-other (placed states) i (record { object = o; state = state }) n away, update-other states i state n away, eq-eqb (threads n .object) o e)

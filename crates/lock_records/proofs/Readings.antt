@@ -1,0 +1,115 @@
+-- What is read from a table of records that represents a sound table with lists: a thread's state and object, the members of a chain, an object's word, and
+-- what a rule sees of it.
+use Prim.Native.Nat.{ℕ, _≤_, _<_}
+use mathlib.Core.Path.{_≡_, refl, sym, ap, _∙_}
+use mathlib.Core.Logic.{_≢_, _⊎_, inl, inr}
+use mathlib.Core.List.{List, [], _∷_}
+use native.Mathlib.Omega.{arith}
+use lib.Dec.{T, eqb}
+use lib.ListN.{length}
+use borrow.Author.Tests.{eq-eqb, ne-eqb}
+use Rattle.laws.proofs.Choice.{equal?}
+use Rattle.chains.specs.Chain.{members}
+use Rattle.chains.proofs.Chain.{head, chain-members}
+use Rattle.chains.proofs.Links.{first-head, head-real}
+use Rattle.lock_word.specs.Read.{decodeOf}
+use Rattle.lock_word.specs.declared.reading.Decoded.the-variants.{Valid}
+use Rattle.lock_rules.specs.Status.{unfinished}
+use Rattle.lock_rules.specs.declared.ThreadState.the-variants.{Idle}
+use Rattle.lock_rules.proofs.Objects.{empty, sight-of}
+use Rattle.lock_rules.proofs.Tables.{ListTable, seen-here}
+use Rattle.lock_rules.proofs.ListSound.{InTable, SoundTable}
+use Rattle.lock_rules.proofs.ListChains.{Chain, entry-chain, contention-chain, waiting-chain, chain-of, short}
+use Rattle.lock_table.specs.Limits.{thread-limit}
+use Rattle.lock_table.specs.Access.{threadAt, objectAt, nextOf}
+use Rattle.lock_table.specs.declared.record.ThreadRecord.{ThreadRecord}
+use Rattle.lock_table.specs.declared.record.ObjectRecord.{ObjectRecord}
+use Rattle.lock_table.specs.declared.record.Table.{Table}
+use Rattle.lock_perform.specs.State.{stateOf}
+use Rattle.lock_perform.specs.Sight.{sightOf}
+use Rattle.lock_records.proofs.Numbering.{number, lists-of, list-at}
+use Rattle.lock_records.proofs.Written.{lock-word, word-read, seen-written, state-read, object-written}
+use Rattle.lock_records.proofs.Represents.{thread-record, Represents, record-is, next-is}
+
+-- a chain is empty where its first thread is 0
+head-empty : (first : ℕ) (list : List ℕ) → first ≡ head list → ((x : ℕ) (rest : List ℕ) → list ≡ x ∷ rest → x ≢ 0) → eqb first 0 ≡ empty list
+head-empty first [] e real = eq-eqb first 0 e
+head-empty first (x ∷ rest) e real = ne-eqb first 0 (λ q. real x rest refl (sym e ∙ q))
+
+-- in a sound table the numbers that are no thread's are idle, and a thread that is not idle is at an object of the table
+module _ (threads objects : ℕ) (lists : ListTable) (sound : SoundTable threads objects lists) where
+  pub nobody : lists .threads 0 .state ≡ Idle
+  nobody = sym (seen-here (lists .threads 0 .object) (lists .threads 0) refl) ∙ sound .sound (lists .threads 0 .object) .nobody
+
+  pub past-idle : (n : ℕ) → threads < n → lists .threads n .state ≡ Idle
+  past-idle n past = at (sound .range n)
+    where
+      at : InTable threads objects n (lists .threads n) → lists .threads n .state ≡ Idle
+      at (inl idle) = idle
+      at (inr bounds) = absurd (omega (arith, past, bounds .0))
+
+  pub busy-in : (n : ℕ) → T (unfinished (lists .threads n .state))
+      → ((1 ≤ n) × (n ≤ threads)) × (1 ≤ lists .threads n .object) × (lists .threads n .object ≤ objects)
+  busy-in n busy = at (equal? n 0) (sound .range n)
+    where
+      at : (n ≡ 0) ⊎ (n ≢ 0) → InTable threads objects n (lists .threads n)
+          → ((1 ≤ n) × (n ≤ threads)) × (1 ≤ lists .threads n .object) × (lists .threads n .object ≤ objects)
+      at zero? (inl idle) = absurd (rw idle at busy)
+      at (inl e) (inr bounds) = absurd (rw (ap (λ (m : ℕ). lists .threads m .state) e ∙ nobody) at busy)
+      at (inr away) (inr (high, real, small)) = ((omega (arith, away), high), real, small)
+
+module _ (threads objects : ℕ) (t : Table) (lists : ListTable) (represents : Represents threads objects t lists) (sound : SoundTable threads objects lists)
+  where
+    -- a thread's record
+    pub thread-is : (n : ℕ) → threadAt t n ≡ thread-record n (lists .threads n) (represents .links .next n)
+    thread-is = record-is t (lists .threads) (represents .links .next) (represents .written)
+
+    pub state-is : (n : ℕ) → stateOf (threadAt t n) ≡ lists .threads n .state
+    state-is n =
+        ap stateOf (thread-is n) ∙ state-read n (lists .threads n .object) (lists .threads n .state) (represents .links .next n) (sound .fine n)
+
+    pub home-is : (n : ℕ) → T (unfinished (lists .threads n .state)) → threadAt t n .object ≡ lists .threads n .object
+    home-is n busy =
+        ap (λ (thread : ThreadRecord). thread .object) (thread-is n)
+        ∙ object-written n (lists .threads n .object) (lists .threads n .state) (represents .links .next n) busy
+
+    -- a chain, by its first thread and the next indexes
+    pub first-is : (o : ℕ) (chain : Chain) → represents .links .first (number o chain) ≡ head (chain-of chain (lists .objects o))
+    first-is o chain =
+        first-head (represents .links) (lists-of (lists .objects)) (represents .chains) (number o chain) ∙ ap head (list-at (lists .objects) o chain)
+
+    pub members-are : (o : ℕ) (chain : Chain)
+        → members thread-limit (nextOf t) (represents .links .first (number o chain)) ≡ chain-of chain (lists .objects o)
+    members-are o chain =
+        ap (λ (next : ℕ → ℕ). members thread-limit next (represents .links .first (number o chain)))
+        (next-is t (lists .threads) (represents .links .next) (represents .written))
+        ∙ chain-members thread-limit (represents .links .next) (represents .links .first (number o chain)) (chain-of chain (lists .objects o))
+        (rw (list-at (lists .objects) o chain) at (represents .chains .chain (number o chain)))
+        (omega (arith, short threads objects lists sound chain o, represents .thread-room))
+
+    chain-empty : (o : ℕ) (chain : Chain) → eqb (represents .links .first (number o chain)) 0 ≡ empty (chain-of chain (lists .objects o))
+    chain-empty o chain =
+        head-empty (represents .links .first (number o chain)) (chain-of chain (lists .objects o)) (first-is o chain)
+        (λ x rest e. head-real (represents .links) (lists-of (lists .objects)) (represents .chains) (number o chain) x rest
+        (list-at (lists .objects) o chain ∙ e))
+
+    -- an object's word and what a rule sees
+    module _ (o : ℕ) (real : 1 ≤ o) (low : o ≤ objects) where
+      pub word-is : decodeOf (objectAt t o .word) ≡ Valid (lock-word o (lists .objects o .word))
+      word-is =
+          ap (λ (object : ObjectRecord). decodeOf (object .word)) (represents .object-at o real low)
+          ∙ word-read threads o (represents .thread-room) real (omega (arith, represents .object-room)) (lists .objects o .word) (sound .sound o .word)
+
+      pub sight-is : sightOf t (objectAt t o) (lock-word o (lists .objects o .word)) ≡ sight-of (lists .objects o)
+      sight-is =
+          ap (λ (object : ObjectRecord). sightOf t object (lock-word o (lists .objects o .word))) (represents .object-at o real low)
+          ∙ (λ j.
+          record {
+            word = seen-written o (lists .objects o .word) j;
+            flag = lists .objects o .flag;
+            holder = lists .objects o .holder;
+            depth = lists .objects o .depth;
+            entryempty = chain-empty o entry-chain j;
+            contentionempty = chain-empty o contention-chain j;
+            waiters = length (members-are o waiting-chain j);
+          })

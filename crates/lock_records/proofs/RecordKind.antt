@@ -1,0 +1,105 @@
+-- Tables of records as a kind of table: the begin and the step as the engine does them. They stand for tables with lists, event by event.
+use Prim.Native.Nat.{ℕ, _≤_}
+use mathlib.Core.Path.{_≡_, refl, subst}
+use mathlib.Core.Bool.{false}
+use lib.Dec.{T}
+use Rattle.lock_word.specs.Read.{decodeOf}
+use Rattle.lock_word.specs.declared.reading.Decoded.{Decoded}
+use Rattle.lock_word.specs.declared.reading.Decoded.the-variants.{Valid, Invalid}
+use Rattle.lock_rules.specs.Rules.{begun, decide}
+use Rattle.lock_rules.specs.Status.{unfinished}
+use Rattle.lock_rules.specs.Events.{Event, Refused, Answered}
+use Rattle.lock_rules.specs.Operations.{Operation}
+use Rattle.lock_rules.specs.declared.Doing.{Doing}
+use Rattle.lock_rules.specs.declared.ThreadState.the-variants.{Idle, Running}
+use Rattle.lock_rules.specs.declared.Answer.the-variants.{NoRule}
+use Rattle.lock_rules.specs.declared.Action.{Action}
+use Rattle.lock_rules.specs.declared.Action.the-variants.{Unruled, Do}
+use Rattle.lock_rules.proofs.Objects.{sight-of}
+use Rattle.lock_rules.proofs.Perform.{perform}
+use Rattle.lock_rules.proofs.Turns.{TurnOf, Kind}
+use Rattle.lock_rules.proofs.Tables.{ListTable, states-at, put-back, begin-at, step-at, turn}
+use Rattle.lock_rules.proofs.ListSound.{SoundTable}
+use Rattle.lock_rules.proofs.Standing.{Standing}
+use Rattle.lock_table.specs.Access.{threadAt, setThread, objectAt}
+use Rattle.lock_table.specs.declared.phase.Phase.the-variants.{Look}
+use Rattle.lock_table.specs.declared.record.ThreadRecord.{ThreadRecord}
+use Rattle.lock_table.specs.declared.record.ObjectRecord.{ObjectRecord}
+use Rattle.lock_table.specs.declared.record.Table.{Table}
+use Rattle.lock_perform.specs.State.{stateOf, threadWith}
+use Rattle.lock_perform.specs.Sight.{sightOf}
+use Rattle.lock_perform.specs.Perform.{performOf}
+use Rattle.lock_records.proofs.Represents.{Represents}
+use Rattle.lock_records.proofs.Readings.{busy-in, state-is, home-is, word-is, sight-is}
+use Rattle.lock_records.proofs.Performs.{running-unchained, begin-represents, unruled-represents, perform-represents}
+use Rattle.lock_records.proofs.Operations.{operation-of, begun-written}
+
+-- what a rule decided, carried out by thread n on the object of this number
+abbrev pub step-acts : Table → ℕ → ℕ → ObjectRecord → Action → TurnOf Table
+step-acts t n number object Unruled = record { table = t; reply = Answered NoRule false }
+step-acts t n number object (Do effect) =
+    record { table = performOf t n number object effect; reply = Answered (effect .answer) (effect .commits) }
+
+-- 11 for a word that is none, which no sound table has
+abbrev pub step-reads : Table → ℕ → ℕ → ObjectRecord → Doing → Decoded → TurnOf Table
+step-reads t n number object doing Invalid = record { table = t; reply = Refused 11 }
+step-reads t n number object doing (Valid word) = step-acts t n number object (decide n (sightOf t object word) doing)
+
+abbrev pub step-records : Table → ℕ → Doing → TurnOf Table
+step-records t n doing =
+    let number = threadAt t n .object in
+    let object = objectAt t number in
+    step-reads t n number object doing (decodeOf (object .word))
+
+abbrev pub begin-records : Table → Operation → ℕ → ℕ → Table
+begin-records t operation n o = setThread t n (threadWith (operation-of operation) o Look 0 0 0)
+
+abbrev pub record-kind : Kind
+record-kind = record { Table = Table; state = λ t n. stateOf (threadAt t n); begins = begin-records; steps = step-records }
+
+module _ (threads objects : ℕ) (t : Table) (lists : ListTable) (represents : Represents threads objects t lists) (sound : SoundTable threads objects lists)
+    (n : ℕ) (low : 1 ≤ n) (high : n ≤ threads) where
+  begins-alike : (operation : Operation) (o : ℕ) → lists .threads n .state ≡ Idle
+      → Represents threads objects (begin-records t operation n o) (begin-at lists operation n o)
+  begins-alike operation o idle =
+      subst (λ (thread : ThreadRecord). Represents threads objects (setThread t n thread) (begin-at lists operation n o)) (begun-written n o operation)
+      (begin-represents threads objects t lists represents sound n low high (record { object = o; state = Running (begun operation) }) idle)
+
+  -- the same table and the same reply
+  abbrev Alike : TurnOf Table → TurnOf ListTable → Type 0
+  Alike a b = Represents threads objects (a .table) (b .table) × (a .reply ≡ b .reply)
+
+  module _ (doing : Doing) (running : lists .threads n .state ≡ Running doing) where
+    abbrev home : ℕ
+    home = lists .threads n .object
+
+    acts-alike : 1 ≤ home → home ≤ objects → (action : Action)
+        → Alike (step-acts t n home (objectAt t home) action) (put-back lists home (perform n (states-at lists home) (lists .objects home) action))
+    acts-alike real small Unruled =
+        (unruled-represents threads objects t lists represents sound n low high home refl real small (rw running (running-unchained doing)), refl)
+    acts-alike real small (Do effect) =
+        (perform-represents threads objects t lists represents sound n low high home refl real small (rw running (running-unchained doing)) effect, refl)
+
+    steps-alike : Alike (step-records t n doing) (step-at lists n doing)
+    steps-alike =
+        let busy : T (unfinished (lists .threads n .state)) = rw running tt in
+        let (thread, real, small) = busy-in threads objects lists sound n busy in
+        rw (
+          home-is threads objects t lists represents sound n busy,
+          word-is threads objects t lists represents sound home real small,
+          sight-is threads objects t lists represents sound home real small,
+        )
+        (acts-alike real small (decide n (sight-of (lists .objects home)) doing))
+
+-- W is any predicate that makes tables with lists sound and that every event keeps
+pub records-stand : (threads objects : ℕ) (W : ListTable → Type 0) → ((lists : ListTable) → W lists → SoundTable threads objects lists)
+    → ((lists : ListTable) (event : Event) → W lists → W (turn threads objects lists event .table))
+    → Standing record-kind threads objects (Represents threads objects) W
+records-stand threads objects W sound keeps =
+    record {
+      state = λ t lists represents w n low high. state-is threads objects t lists represents (sound lists w) n;
+      begins = λ t lists represents w operation n o low high real small idle.
+          begins-alike threads objects t lists represents (sound lists w) n low high operation o idle;
+      steps = λ t lists represents w n doing low high running. steps-alike threads objects t lists represents (sound lists w) n low high doing running;
+      keeps = keeps;
+    }

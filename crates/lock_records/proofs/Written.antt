@@ -1,0 +1,296 @@
+-- What a rule's view of a word and a thread's state are written as, how they are read back, and what the changes of words and records make of them.
+use Prim.Native.Nat.{ℕ, _-_, _%_, _≤_, _<_}
+use mathlib.Core.Path.{_≡_, refl, sym, ap, _∙_}
+use mathlib.Core.Logic.{_⊎_, inl, inr}
+use mathlib.Core.Bool.{Bool, true, false}
+use native.Mathlib.Omega.{arith}
+use native.Mathlib.Nat.{mod-eq-of-lt}
+use lib.Dec.{T, eqb}
+use Rattle.laws.specs.Choice.{pick}
+use Rattle.laws.proofs.Choice.{pick-same}
+use Rattle.lock_word.specs.Layout.{count-field, counts, count-limit}
+use Rattle.lock_word.specs.Read.{decodeOf, threadNumber, monitorNumber}
+use Rattle.lock_word.specs.Write.{encodeOf, InRange, reservedWord}
+use Rattle.lock_word.specs.Meaning.{cancelOf, cancelReadOf}
+use Rattle.lock_word.proofs.RoundTrip.{meaning-of-word}
+use Rattle.lock_word.specs.declared.reading.LockWord.{LockWord}
+use Rattle.lock_word.specs.declared.reading.LockWord.the-variants.{Free, Flat, Anonymous, Reserved, Fat}
+use Rattle.lock_word.specs.declared.reading.Decoded.the-variants.{Valid}
+use Rattle.lock_rules.specs.Numbers.{phase-of-doing, phase-of}
+use Rattle.lock_rules.specs.Rules.{onward}
+use Rattle.lock_rules.specs.Changes.{cancelled, word-after, handed, look-again, sent-back}
+use Rattle.lock_rules.specs.Status.{unfinished}
+use Rattle.lock_rules.specs.declared.Suspension.{Suspension}
+use Rattle.lock_rules.specs.declared.Carried.{Carried}
+use Rattle.lock_rules.specs.declared.Carried.the-variants.{ToCheck, ToTell, ToInflate, ToResume}
+use Rattle.lock_rules.specs.declared.Doing.{Doing}
+use Rattle.lock_rules.specs.declared.Doing.the-variants.{EnterLook, EnterStore, EnterCancel, EnterGoIn, EnterCheck, EnterTry, ExitLook}
+use Rattle.lock_rules.specs.declared.Doing.the-variants.{ExitStore, ExitGoIn, ExitTest, ExitTell, ExitLeave, WaitLook, WaitCancel, WaitGoIn}
+use Rattle.lock_rules.specs.declared.Doing.the-variants.{WaitInflate, WaitGiveUp, WaitResume, NotifyLook, NotifyAllLook}
+use Rattle.lock_rules.specs.declared.ThreadState.{ThreadState}
+use Rattle.lock_rules.specs.declared.ThreadState.the-variants.{Idle, Running, Queued, Contending, Waiting}
+use Rattle.lock_rules.specs.declared.WordSeen.{WordSeen}
+use Rattle.lock_rules.specs.declared.WordSeen.the-variants.{
+  Free as SeenFree,
+  Flat as SeenFlat,
+  Anonymous as SeenAnonymous,
+  Reserved as SeenReserved,
+  Fat as SeenFat,
+}
+use Rattle.lock_rules.specs.declared.WordChange.{WordChange}
+use Rattle.lock_rules.specs.declared.WordChange.the-variants.{Unchanged, Freed, OwnFlat, OwnReserved, Cancelled, Inflated}
+use Rattle.lock_rules.proofs.ListSound.{WordFine, DoingFine, StateFine}
+use Rattle.lock_table.specs.Limits.{thread-limit, object-limit}
+use Rattle.lock_table.specs.Phase.{onwardNumberOf, onwardPhaseOf, phaseNumberOf, carriedNumberOf}
+use Rattle.lock_table.specs.Record.{withNext}
+use Rattle.lock_table.specs.Chain.{carriedOf, handedOf, queuedOf}
+use Rattle.lock_table.specs.declared.phase.Onward.the-variants.{ToCheck as OnToCheck, ToResume as OnToResume}
+use Rattle.lock_table.specs.declared.record.ThreadRecord.{ThreadRecord}
+use Rattle.lock_perform.specs.State.{lookOf, storeOf, cancelOf as cancelStateOf, goInOf, carriedOf as carriedStateOf, stateBy, stateOf}
+use Rattle.lock_perform.specs.State.{doingRecordOf, carriedRecordOf, recordOf}
+use Rattle.lock_perform.specs.Sight.{seenOf}
+use Rattle.lock_perform.specs.Moving.{backFrom, sentBackOf}
+use Rattle.lock_perform.specs.Perform.{wordAfter}
+
+-- the lock word of what a rule sees at object o, and its bits
+abbrev pub lock-word : ℕ → WordSeen → LockWord
+lock-word o SeenFree = Free
+lock-word o SeenAnonymous = Anonymous
+lock-word o SeenFat = Fat (monitorNumber o)
+lock-word o (SeenFlat thread count) = Flat (threadNumber thread) count
+lock-word o (SeenReserved thread count) = Reserved (threadNumber thread) count
+
+abbrev pub word-written : ℕ → WordSeen → ℕ
+word-written o seen = encodeOf (lock-word o seen)
+
+-- a rule sees what was written
+pub seen-written : (o : ℕ) (seen : WordSeen) → seenOf (lock-word o seen) ≡ seen
+unfolding seenOf
+seen-written o SeenFree = refl
+seen-written o SeenAnonymous = refl
+seen-written o SeenFat = refl
+seen-written o (SeenFlat thread count) = refl
+seen-written o (SeenReserved thread count) = refl
+
+module _ (threads o : ℕ) (thread-room : threads ≤ thread-limit) (real : 1 ≤ o) (object-room : o ≤ object-limit) where
+  word-in-range : (seen : WordSeen) → WordFine threads seen → InRange (lock-word o seen)
+  unfolding InRange
+  word-in-range SeenFree fine = tt
+  word-in-range SeenAnonymous fine = tt
+  word-in-range SeenFat fine = (real, omega arith)
+  word-in-range (SeenFlat thread count) (low, high, small) = ((low, omega arith), omega arith)
+  word-in-range (SeenReserved thread count) (low, high, small) = ((low, omega arith), omega arith)
+
+  -- a written word is valid, and is read as what was written
+  pub word-read : (seen : WordSeen) → WordFine threads seen → decodeOf (word-written o seen) ≡ Valid (lock-word o seen)
+  word-read seen fine = meaning-of-word (lock-word o seen) (word-in-range seen fine)
+
+  -- cancelling the bits writes the cancelled word
+  cancel-written : (seen : WordSeen) → WordFine threads seen → cancelOf (word-written o seen) ≡ word-written o (cancelled seen)
+  unfolding cancelOf cancelReadOf encodeOf
+  cancel-written seen fine = rw (word-read seen fine) (at seen)
+    where
+      at : (seen : WordSeen) → cancelReadOf (word-written o seen) (Valid (lock-word o seen)) ≡ word-written o (cancelled seen)
+      at SeenFree = refl
+      at SeenAnonymous = refl
+      at SeenFat = refl
+      at (SeenFlat thread count) = refl
+      at (SeenReserved thread count) = by (eqb count 0)
+        where
+          by : (none : Bool)
+              → pick none 0 (encodeOf (Flat (threadNumber thread) (count - 1)))
+              ≡ encodeOf (lock-word o (pick none SeenFree (SeenFlat thread (count - 1))))
+          by true = refl
+          by false = refl
+
+  -- a change of the bits by thread n writes the word that the change makes
+  pub word-changed : (n : ℕ) (seen : WordSeen) → WordFine threads seen → (change : WordChange)
+      → wordAfter n o (word-written o seen) change ≡ word-written o (word-after n change seen)
+  unfolding wordAfter encodeOf
+  word-changed n seen fine Unchanged = refl
+  word-changed n seen fine Freed = refl
+  word-changed n seen fine (OwnFlat count) = refl
+  word-changed n seen fine (OwnReserved count) = refl
+  word-changed n seen fine Cancelled = cancel-written seen fine
+  word-changed n seen fine Inflated = refl
+
+-- the count of a kept word
+count-kept : (n count : ℕ) → count ≤ count-limit → count-field (reservedWord n count) ≡ count
+count-kept n count small =
+    let below : count < counts = omega arith in
+    let remainder : count % counts ≡ count = mod-eq-of-lt below in
+    rw remainder (omega arith)
+
+-- a fine state is read back
+doing-read : (n o : ℕ) (doing : Doing) (next : ℕ) → DoingFine doing → stateOf (doingRecordOf n o doing next) ≡ Running doing
+unfolding doingRecordOf stateBy lookOf storeOf cancelStateOf goInOf
+doing-read n o EnterLook next fine = refl
+doing-read n o (EnterStore count) next fine = ap (λ (c : ℕ). Running (EnterStore c)) (count-kept n count (omega arith))
+doing-read n o EnterCancel next fine = refl
+doing-read n o EnterGoIn next fine = refl
+doing-read n o EnterCheck next fine = refl
+doing-read n o EnterTry next fine = refl
+doing-read n o ExitLook next fine = refl
+doing-read n o (ExitStore count) next fine = ap (λ (c : ℕ). Running (ExitStore c)) (count-kept n count (fine .1))
+doing-read n o ExitGoIn next fine = refl
+doing-read n o ExitTest next fine = refl
+doing-read n o ExitTell next fine = refl
+doing-read n o ExitLeave next fine = refl
+doing-read n o WaitLook next fine = refl
+doing-read n o WaitCancel next fine = refl
+doing-read n o WaitGoIn next fine = refl
+doing-read n o WaitInflate next fine = refl
+doing-read n o WaitGiveUp next fine = refl
+doing-read n o (WaitResume suspension) next fine = refl
+doing-read n o NotifyLook next fine = refl
+doing-read n o NotifyAllLook next fine = refl
+
+pub state-read : (n o : ℕ) (state : ThreadState) (next : ℕ) → StateFine state → stateOf (recordOf n o state next) ≡ state
+unfolding recordOf carriedRecordOf stateBy carriedStateOf
+state-read n o Idle next fine = refl
+state-read n o (Running doing) next fine = doing-read n o doing next fine
+state-read n o (Queued ToCheck) next fine = refl
+state-read n o (Queued ToTell) next fine = refl
+state-read n o (Queued ToInflate) next fine = refl
+state-read n o (Queued (ToResume suspension)) next fine = refl
+state-read n o Contending next fine = refl
+state-read n o (Waiting suspension) next fine = refl
+
+-- The record of a thread that can take a step, field by field and after each change of another thread's record.
+pub record WrittenDoing (n o : ℕ) (doing : Doing) (next : ℕ) : Type 0 where
+  pub object : doingRecordOf n o doing next .object ≡ o
+  pub phase : phaseNumberOf (doingRecordOf n o doing next .phase) ≡ phase-of-doing doing
+  pub carried : carriedNumberOf (doingRecordOf n o doing next .phase) ≡ 0
+  -- with another next index
+  pub relinked : (next′ : ℕ) → withNext (doingRecordOf n o doing next) next′ ≡ doingRecordOf n o doing next′
+  -- it carries no phase to take when it is handed the monitor
+  pub handed-on : handedOf (doingRecordOf n o doing next) ≡ doingRecordOf n o doing 0
+  -- from its store it goes back to its look
+  pub back : backFrom (doingRecordOf n o doing next) (doingRecordOf n o doing next .phase) ≡ doingRecordOf n o (look-again doing) next
+
+pub written-doing : (n o : ℕ) (doing : Doing) (next : ℕ) → WrittenDoing n o doing next
+unfolding doingRecordOf carriedOf backFrom phaseNumberOf carriedNumberOf
+written-doing n o EnterLook next = record { object = refl; phase = refl; carried = refl; relinked = λ x. refl; handed-on = refl; back = refl }
+written-doing n o (EnterStore count) next = record { object = refl; phase = refl; carried = refl; relinked = λ x. refl; handed-on = refl; back = refl }
+written-doing n o EnterCancel next = record { object = refl; phase = refl; carried = refl; relinked = λ x. refl; handed-on = refl; back = refl }
+written-doing n o EnterGoIn next = record { object = refl; phase = refl; carried = refl; relinked = λ x. refl; handed-on = refl; back = refl }
+written-doing n o EnterCheck next = record { object = refl; phase = refl; carried = refl; relinked = λ x. refl; handed-on = refl; back = refl }
+written-doing n o EnterTry next = record { object = refl; phase = refl; carried = refl; relinked = λ x. refl; handed-on = refl; back = refl }
+written-doing n o ExitLook next = record { object = refl; phase = refl; carried = refl; relinked = λ x. refl; handed-on = refl; back = refl }
+written-doing n o (ExitStore count) next = record { object = refl; phase = refl; carried = refl; relinked = λ x. refl; handed-on = refl; back = refl }
+written-doing n o ExitGoIn next = record { object = refl; phase = refl; carried = refl; relinked = λ x. refl; handed-on = refl; back = refl }
+written-doing n o ExitTest next = record { object = refl; phase = refl; carried = refl; relinked = λ x. refl; handed-on = refl; back = refl }
+written-doing n o ExitTell next = record { object = refl; phase = refl; carried = refl; relinked = λ x. refl; handed-on = refl; back = refl }
+written-doing n o ExitLeave next = record { object = refl; phase = refl; carried = refl; relinked = λ x. refl; handed-on = refl; back = refl }
+written-doing n o WaitLook next = record { object = refl; phase = refl; carried = refl; relinked = λ x. refl; handed-on = refl; back = refl }
+written-doing n o WaitCancel next = record { object = refl; phase = refl; carried = refl; relinked = λ x. refl; handed-on = refl; back = refl }
+written-doing n o WaitGoIn next = record { object = refl; phase = refl; carried = refl; relinked = λ x. refl; handed-on = refl; back = refl }
+written-doing n o WaitInflate next = record { object = refl; phase = refl; carried = refl; relinked = λ x. refl; handed-on = refl; back = refl }
+written-doing n o WaitGiveUp next = record { object = refl; phase = refl; carried = refl; relinked = λ x. refl; handed-on = refl; back = refl }
+written-doing n o (WaitResume suspension) next = record { object = refl; phase = refl; carried = refl; relinked = λ x. refl; handed-on = refl; back = refl }
+written-doing n o NotifyLook next = record { object = refl; phase = refl; carried = refl; relinked = λ x. refl; handed-on = refl; back = refl }
+written-doing n o NotifyAllLook next = record { object = refl; phase = refl; carried = refl; relinked = λ x. refl; handed-on = refl; back = refl }
+
+-- the same for a queued thread, which carries the phase that it takes
+pub record WrittenCarried (n o : ℕ) (carried : Carried) (next : ℕ) : Type 0 where
+  pub object : carriedRecordOf o carried next .object ≡ o
+  pub phase : phaseNumberOf (carriedRecordOf o carried next .phase) ≡ 5
+  pub carries : carriedNumberOf (carriedRecordOf o carried next .phase) ≡ phase-of-doing (onward carried)
+  pub relinked : (next′ : ℕ) → withNext (carriedRecordOf o carried next) next′ ≡ carriedRecordOf o carried next′
+  pub handed-on : handedOf (carriedRecordOf o carried next) ≡ doingRecordOf n o (onward carried) 0
+  pub back : backFrom (carriedRecordOf o carried next) (carriedRecordOf o carried next .phase) ≡ carriedRecordOf o carried next
+
+pub written-carried : (n o : ℕ) (carried : Carried) (next : ℕ) → WrittenCarried n o carried next
+unfolding carriedRecordOf doingRecordOf carriedOf onwardPhaseOf backFrom phaseNumberOf carriedNumberOf onwardNumberOf
+written-carried n o ToCheck next = record { object = refl; phase = refl; carries = refl; relinked = λ x. refl; handed-on = refl; back = refl }
+written-carried n o ToTell next = record { object = refl; phase = refl; carries = refl; relinked = λ x. refl; handed-on = refl; back = refl }
+written-carried n o ToInflate next = record { object = refl; phase = refl; carries = refl; relinked = λ x. refl; handed-on = refl; back = refl }
+written-carried n o (ToResume suspension) next = record { object = refl; phase = refl; carries = refl; relinked = λ x. refl; handed-on = refl; back = refl }
+
+-- and for any thread: a next index is written as it is
+pub relinked-written : (n o : ℕ) (state : ThreadState) (next next′ : ℕ) → withNext (recordOf n o state next) next′ ≡ recordOf n o state next′
+unfolding recordOf
+relinked-written n o Idle next next′ = refl
+relinked-written n o (Running doing) next next′ = written-doing n o doing next .relinked next′
+relinked-written n o (Queued carried) next next′ = written-carried n o carried next .relinked next′
+relinked-written n o Contending next next′ = refl
+relinked-written n o (Waiting suspension) next next′ = refl
+
+pub next-written : (n o : ℕ) (state : ThreadState) (next : ℕ) → recordOf n o state next .next ≡ next
+next-written n o state next = sym (ap (λ (thread : ThreadRecord). thread .next) (relinked-written n o state next next))
+
+-- so is the object of a thread that is not idle
+pub idle-or-written : (n o : ℕ) (state : ThreadState) (next : ℕ) → (state ≡ Idle) ⊎ (recordOf n o state next .object ≡ o)
+unfolding recordOf
+idle-or-written n o Idle next = inl refl
+idle-or-written n o (Running doing) next = inr (written-doing n o doing next .object)
+idle-or-written n o (Queued carried) next = inr (written-carried n o carried next .object)
+idle-or-written n o Contending next = inr refl
+idle-or-written n o (Waiting suspension) next = inr refl
+
+pub object-written : (n o : ℕ) (state : ThreadState) (next : ℕ) → T (unfinished state) → recordOf n o state next .object ≡ o
+object-written n o state next busy = at (idle-or-written n o state next)
+  where
+    at : (state ≡ Idle) ⊎ (recordOf n o state next .object ≡ o) → recordOf n o state next .object ≡ o
+    at (inl idle) = absurd (rw idle at busy)
+    at (inr same) = same
+
+-- and the phase, by its number
+pub phase-written : (n o : ℕ) (state : ThreadState) (next : ℕ) → phaseNumberOf (recordOf n o state next .phase) ≡ phase-of state
+unfolding recordOf phaseNumberOf
+phase-written n o Idle next = refl
+phase-written n o (Running doing) next = written-doing n o doing next .phase
+phase-written n o (Queued carried) next = written-carried n o carried next .phase
+phase-written n o Contending next = refl
+phase-written n o (Waiting suspension) next = refl
+
+-- a thread that is handed the monitor, having left the entry chain, takes the phase that it carries
+pub handed-written : (n o : ℕ) (state : ThreadState) (next : ℕ) → handedOf (recordOf n o state next) ≡ recordOf n o (handed state) 0
+unfolding recordOf carriedOf
+handed-written n o Idle next = refl
+handed-written n o (Running doing) next = written-doing n o doing next .handed-on
+handed-written n o (Queued carried) next = written-carried n o carried next .handed-on
+handed-written n o Contending next = refl
+handed-written n o (Waiting suspension) next = refl
+
+-- a contender that is told or moved; a waiter that is woken
+pub told-written : (n o next : ℕ) → queuedOf (recordOf n o Contending next) OnToCheck ≡ recordOf n o (Queued ToCheck) next
+unfolding recordOf carriedRecordOf
+told-written n o next = refl
+
+pub notified-written : (n o : ℕ) (suspension : Suspension) (next : ℕ)
+    → queuedOf (recordOf n o (Waiting suspension) next) OnToResume ≡ recordOf n o (Queued (ToResume suspension)) next
+unfolding recordOf carriedRecordOf
+notified-written n o suspension next = refl
+
+back-written : (n o : ℕ) (state : ThreadState) (next : ℕ)
+    → backFrom (recordOf n o state next) (recordOf n o state next .phase) ≡ recordOf n o (sent-back state) next
+unfolding recordOf backFrom
+back-written n o Idle next = refl
+back-written n o (Running doing) next = written-doing n o doing next .back
+back-written n o (Queued carried) next = written-carried n o carried next .back
+back-written n o Contending next = refl
+back-written n o (Waiting suspension) next = refl
+
+-- a thread at `home` is sent back by a cancel at object o if it is there
+pub sent-back-written : (o n home : ℕ) (state : ThreadState) (next : ℕ)
+    → sentBackOf o (recordOf n home state next) ≡ recordOf n home (pick (eqb home o) (sent-back state) state) next
+unfolding sentBackOf
+sent-back-written o n home state next =
+    ap (λ (back : ThreadRecord). pick (eqb (recordOf n home state next .object) o) back (recordOf n home state next)) (back-written n home state next)
+    ∙ at (idle-or-written n home state next)
+  where
+    here : (there : Bool) → pick there (recordOf n home (sent-back state) next) (recordOf n home state next)
+        ≡ recordOf n home (pick there (sent-back state) state) next
+    here true = refl
+    here false = refl
+
+    at : (state ≡ Idle) ⊎ (recordOf n home state next .object ≡ home)
+        → pick (eqb (recordOf n home state next .object) o) (recordOf n home (sent-back state) next) (recordOf n home state next)
+        ≡ recordOf n home (pick (eqb home o) (sent-back state) state) next
+    at (inl idle) =
+        rw idle
+        (pick-same (eqb (recordOf n home Idle next .object) o) (recordOf n home Idle next)
+        ∙ ap (λ (s : ThreadState). recordOf n home s next) (sym (pick-same (eqb home o) Idle)))
+    at (inr same) =
+        ap (λ (b : ℕ). pick (eqb b o) (recordOf n home (sent-back state) next) (recordOf n home state next)) same ∙ here (eqb home o)

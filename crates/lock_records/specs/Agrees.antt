@@ -1,0 +1,81 @@
+-- What demand 3 says of a table of records and the plain monitors, in terms of the records alone (document 01, "Plain monitors").
+use Prim.Native.Nat.{ℕ, _≤_}
+use mathlib.Core.Path.{_≡_}
+use mathlib.Core.Logic.{_≢_, _⊎_}
+use mathlib.Core.Bool.{Bool}
+use lib.Dec.{eqb}
+use Rattle.laws.specs.Choice.{pick, both, either}
+use Rattle.chains.specs.Chain.{members}
+use Rattle.lock_word.specs.Read.{decodeOf}
+use Rattle.lock_word.specs.Meaning.{unowned, ownershipOf}
+use Rattle.lock_word.specs.declared.reading.LockWord.the-variants.{Free, Flat, Anonymous, Reserved, Fat}
+use Rattle.lock_word.specs.declared.reading.Decoded.{Decoded}
+use Rattle.lock_word.specs.declared.reading.Decoded.the-variants.{Valid, Invalid}
+use Rattle.lock_word.specs.declared.meaning.Ownership.{Ownership}
+use Rattle.lock_rules.specs.Feed.{Plain, AllEndRight}
+use Rattle.lock_table.specs.Limits.{thread-limit}
+use Rattle.lock_table.specs.Phase.{phaseNumberOf, carriedNumberOf}
+use Rattle.lock_table.specs.Access.{threadAt, objectAt, nextOf}
+use Rattle.lock_table.specs.declared.record.Monitor.{Monitor}
+use Rattle.lock_table.specs.declared.record.Table.{Table}
+
+-- "The holder owns it if the monitor's depth is above 0."
+abbrev pub held-by : Monitor → Ownership
+held-by monitor = pick (eqb (monitor .depth) 0) unowned (record { thread = monitor .holder; depth = monitor .depth })
+
+-- owner and depth by the word, 0 and 0 with no owner; a fat word leaves it to the monitor, and what is no lock word names nobody
+abbrev pub ownership-in : Decoded → Monitor → Ownership
+ownership-in Invalid monitor = unowned
+ownership-in (Valid Free) monitor = ownershipOf Free
+ownership-in (Valid (Flat thread count)) monitor = ownershipOf (Flat thread count)
+ownership-in (Valid Anonymous) monitor = ownershipOf Anonymous
+ownership-in (Valid (Reserved thread count)) monitor = ownershipOf (Reserved thread count)
+ownership-in (Valid (Fat number)) monitor = held-by monitor
+
+abbrev pub ownership-at : Table → ℕ → Ownership
+ownership-at table o = ownership-in (decodeOf (objectAt table o .word)) (objectAt table o .monitor)
+
+-- thread n's phase, and the phase that it carries if it is queued, by their numbers
+abbrev pub phase-at : Table → ℕ → ℕ
+phase-at table n = phaseNumberOf (threadAt table n .phase)
+
+abbrev pub carried-at : Table → ℕ → ℕ
+carried-at table n = carriedNumberOf (threadAt table n .phase)
+
+-- "Woken means carrying 15 or in 15."
+abbrev pub woken-at : Table → ℕ → ℕ → Bool
+woken-at table o n = both (eqb (threadAt table n .object) o) (either (eqb (phase-at table n) 15) (eqb (carried-at table n) 15))
+
+-- "Parked for entry means phase 5 or 8."
+abbrev pub ParkedForEntry : Table → ℕ → Type 0
+ParkedForEntry table n = (phase-at table n ≡ 5) ⊎ (phase-at table n ≡ 8)
+
+-- "Unparked means any phase but 5, 8 and 14."
+abbrev pub Unparked : Table → ℕ → Type 0
+Unparked table n = (phase-at table n ≢ 5) × (phase-at table n ≢ 8) × (phase-at table n ≢ 14)
+
+abbrev pub IsThread : Table → ℕ → Type 0
+IsThread table n = (1 ≤ n) × (n ≤ table .threadcount)
+
+-- another thread than n owns object o
+abbrev pub OwnedByOther : Table → ℕ → ℕ → Type 0
+OwnedByOther table o n = let owner = ownership-at table o .thread in IsThread table owner × (owner ≢ n)
+
+-- another unparked thread than n has an unfinished operation on object o
+abbrev pub BusyOther : Table → ℕ → ℕ → Type 0
+BusyOther table o n =
+    (other : ℕ) × IsThread table other × (other ≢ n) × Unparked table other × (phase-at table other ≢ 0) × (threadAt table other .object ≡ o)
+
+-- the table after a schedule, and the plain monitors fed with the same schedule
+pub record Agrees (table : Table) (plain : Plain) : Type 0 where
+  -- each object's owner and depth, its waiting threads in order and its woken threads
+  pub owners : (o : ℕ) → 1 ≤ o → o ≤ table .objectcount
+      → (plain .monitors o .owner ≡ ownership-at table o .thread) × (plain .monitors o .depth ≡ ownership-at table o .depth)
+  pub waiting : (o : ℕ) → 1 ≤ o → o ≤ table .objectcount
+      → plain .monitors o .waiting ≡ members thread-limit (nextOf table) (objectAt table o .monitor .waiting)
+  pub woken : (o : ℕ) → 1 ≤ o → o ≤ table .objectcount → (n : ℕ) → plain .monitors o .woken n ≡ woken-at table o n
+  -- every operation that ended has the plain monitors' answer
+  pub ended : AllEndRight (plain .steps)
+  -- no thread is parked for entry while no other thread owns its object and no other unparked thread has an unfinished operation on it
+  pub unstranded : (n : ℕ) → ParkedForEntry table n
+      → let o = threadAt table n .object in OwnedByOther table o n ⊎ BusyOther table o n

@@ -1,0 +1,2 @@
+-- What demand 3 says of a table of records and the plain monitors.
+pub mod Agrees

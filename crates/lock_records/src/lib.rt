@@ -1,0 +1,2 @@
+// Tables of records and the tables with lists that they stand for: every event does the same on both, so demand 3 holds of the records.
+// All of it is proof devices, in proofs/; there is no code.

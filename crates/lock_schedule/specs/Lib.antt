@@ -1,0 +1,3 @@
+-- What is claimed of every schedule.
+pub mod Schedule
+pub mod Demand
