@@ -33,7 +33,7 @@ use Rattle.lock_rules.proofs.Lift.{World, world-fresh, world-run}
 use Rattle.lock_rules.proofs.Claim.{Claim, world-claim, OwnedByOther as ListOwned, BusyOther as ListBusy}
 use Rattle.lock_rules.proofs.ListSound.{WordFine, SoundTable}
 use Rattle.lock_rules.proofs.ListChains.{waiting-chain}
-use Rattle.lock_rules.proofs.SoundKept.{sound-turn, sound-fresh}
+use Rattle.lock_rules.proofs.SoundKept.{sound-fresh}
 use Rattle.lock_rules.proofs.Standing.{stands-run}
 use Rattle.lock_table.specs.Limits.{thread-limit, object-limit}
 use Rattle.lock_table.specs.Phase.{phaseNumberOf, carriedNumberOf}
@@ -46,7 +46,7 @@ use Rattle.lock_perform.specs.State.{recordOf}
 use Rattle.lock_records.proofs.Written.{lock-word, written-doing, written-carried, idle-or-written, phase-written}
 use Rattle.lock_records.proofs.Represents.{monitor-record, Represents}
 use Rattle.lock_records.proofs.Readings.{busy-in, thread-is, home-is, members-are, word-is}
-use Rattle.lock_records.proofs.RecordKind.{record-kind, records-stand}
+use Rattle.lock_records.proofs.RecordKind.{record-kind, sound-stands}
 use Rattle.lock_records.proofs.FreshRecords.{fresh-represents}
 use Rattle.lock_records.specs.Agrees.{ownership-in, ownership-at, phase-at, woken-at}
 use Rattle.lock_records.specs.Agrees.{OwnedByOther, BusyOther, Agrees}
@@ -273,9 +273,8 @@ module _ (threads objects : ℕ) (some-threads : 1 ≤ threads) (thread-room : t
       × (shown-on record-kind threads objects fresh-records events ≡ shown threads objects (fresh reserved) events)
   schedule-represents =
       stands-run record-kind threads objects (Represents threads objects) (SoundTable threads objects)
-      (records-stand threads objects (SoundTable threads objects) (λ lists sound. sound) (λ lists event sound. sound-turn threads objects lists sound event))
-      events fresh-records (fresh reserved) (fresh-represents threads objects reserved some-threads thread-room some-objects object-room)
-      (sound-fresh threads objects reserved)
+      (sound-stands threads objects) events fresh-records (fresh reserved)
+      (fresh-represents threads objects reserved some-threads thread-room some-objects object-room) (sound-fresh threads objects reserved)
 
   -- demand 3 for every schedule from any fresh table; 11, which no sound table gives, is not asked here
   pub schedule-agrees :

@@ -17,10 +17,11 @@ use Rattle.lock_rules.specs.declared.Action.{Action}
 use Rattle.lock_rules.specs.declared.Action.the-variants.{Unruled, Do}
 use Rattle.lock_rules.proofs.Objects.{sight-of}
 use Rattle.lock_rules.proofs.Perform.{perform}
-use Rattle.lock_rules.proofs.Turns.{TurnOf, Kind}
+use Rattle.lock_rules.proofs.Turns.{TurnOf, Kind, turn-on}
 use Rattle.lock_rules.proofs.Tables.{ListTable, states-at, put-back, begin-at, step-at, turn}
 use Rattle.lock_rules.proofs.ListSound.{SoundTable}
-use Rattle.lock_rules.proofs.Standing.{Standing}
+use Rattle.lock_rules.proofs.SoundKept.{sound-turn}
+use Rattle.lock_rules.proofs.Standing.{Standing, stands-turn}
 use Rattle.lock_table.specs.Access.{threadAt, setThread, objectAt}
 use Rattle.lock_table.specs.declared.phase.Phase.the-variants.{Look}
 use Rattle.lock_table.specs.declared.record.ThreadRecord.{ThreadRecord}
@@ -103,3 +104,19 @@ records-stand threads objects W sound keeps =
       steps = λ t lists represents w n doing low high running. steps-alike threads objects t lists represents (sound lists w) n low high doing running;
       keeps = keeps;
     }
+
+-- soundness itself is one
+pub sound-stands : (threads objects : ℕ) → Standing record-kind threads objects (Represents threads objects) (SoundTable threads objects)
+sound-stands threads objects =
+    records-stand threads objects (SoundTable threads objects) (λ lists sound. sound) (λ lists event sound. sound-turn threads objects lists sound event)
+
+-- so an event on a represented sound table represents the same event, gives the same reply, and keeps both
+pub turn-represents : (threads objects : ℕ) (t : Table) (lists : ListTable) → Represents threads objects t lists → SoundTable threads objects lists
+    → (event : Event)
+    → Represents threads objects (turn-on record-kind threads objects t event .table) (turn threads objects lists event .table)
+    × SoundTable threads objects (turn threads objects lists event .table)
+    × (turn-on record-kind threads objects t event .reply ≡ turn threads objects lists event .reply)
+turn-represents threads objects t lists represents sound event =
+    let (after, same) = stands-turn record-kind threads objects (Represents threads objects) (SoundTable threads objects) (sound-stands threads objects)
+    t lists represents sound event in
+    (after, sound-turn threads objects lists sound event, same)

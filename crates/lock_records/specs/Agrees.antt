@@ -3,6 +3,7 @@ use Prim.Native.Nat.{ℕ, _≤_}
 use mathlib.Core.Path.{_≡_}
 use mathlib.Core.Logic.{_≢_, _⊎_}
 use mathlib.Core.Bool.{Bool}
+use mathlib.Core.List.{List, [], _∷_}
 use lib.Dec.{eqb}
 use Rattle.laws.specs.Choice.{pick, both, either}
 use Rattle.chains.specs.Chain.{members}
@@ -12,6 +13,7 @@ use Rattle.lock_word.specs.declared.reading.LockWord.the-variants.{Free, Flat, 
 use Rattle.lock_word.specs.declared.reading.Decoded.{Decoded}
 use Rattle.lock_word.specs.declared.reading.Decoded.the-variants.{Valid, Invalid}
 use Rattle.lock_word.specs.declared.meaning.Ownership.{Ownership}
+use Rattle.lock_rules.specs.Events.{Reply, Shown, returned}
 use Rattle.lock_rules.specs.Feed.{Plain, AllEndRight}
 use Rattle.lock_table.specs.Limits.{thread-limit}
 use Rattle.lock_table.specs.Phase.{phaseNumberOf, carriedNumberOf}
@@ -79,3 +81,11 @@ pub record Agrees (table : Table) (plain : Plain) : Type 0 where
   -- no thread is parked for entry while no other thread owns its object and no other unparked thread has an unfinished operation on it
   pub unstranded : (n : ℕ) → ParkedForEntry table n
       → let o = threadAt table n .object in OwnedByOther table o n ⊎ BusyOther table o n
+
+-- "From a fresh table 11 and 20 never occur."
+abbrev pub RuledReply : Reply → Type 0
+RuledReply reply = (returned reply ≢ 11) × (returned reply ≢ 20)
+
+abbrev pub Ruled : List Shown → Type 0
+Ruled [] = Unit {0}
+Ruled (shown ∷ rest) = RuledReply (shown .reply) × Ruled rest

@@ -1,35 +1,32 @@
 -- Demand 3 as one type, and two more promises about schedules and events.
 use Prim.Native.Nat.{ℕ, _≤_}
 use mathlib.Core.Path.{_≡_}
-use mathlib.Core.Logic.{_≢_}
 use mathlib.Core.Bool.{Bool, true}
-use mathlib.Core.List.{List, [], _∷_}
+use mathlib.Core.List.{List}
 use lib.ListN.{length}
-use Rattle.lock_rules.specs.Events.{Event, Shown, returned}
+use Rattle.lock_rules.specs.Events.{Event}
 use Rattle.lock_rules.specs.Feed.{feed-all, blank}
-use Rattle.lock_table.specs.Limits.{thread-limit, object-limit}
+use Rattle.lock_table.specs.Limits.{thread-limit, object-limit, depth-limit}
+use Rattle.lock_table.specs.Access.{objectAt}
 use Rattle.lock_table.specs.Fresh.{freshOf}
 use Rattle.lock_table.specs.declared.record.Table.{Table}
 use Rattle.lock_soundness.specs.Sound.{soundOf}
-use Rattle.lock_records.specs.Agrees.{Agrees}
+use Rattle.lock_records.specs.Agrees.{Agrees, Ruled}
 use Rattle.lock_schedule.specs.Schedule.{eventOf, finalOf, shownOf}
 
--- "From a fresh table 11 and 20 never occur."
-abbrev pub NeverUnsound : List Shown → Type 0
-NeverUnsound [] = Unit {0}
-NeverUnsound (shown ∷ rest) = (returned (shown .reply) ≢ 11) × (returned (shown .reply) ≢ 20) × NeverUnsound rest
-
--- For every schedule from any fresh table: the plain monitors, fed what the schedule showed, agree with the table it came to.
+-- For every schedule from any fresh table: the plain monitors, fed what the schedule showed, agree with the table it came to, and every event had
+-- a rule.
 abbrev pub DemandThree : Type 0
 DemandThree =
     (threads objects : ℕ) → 1 ≤ threads → threads ≤ thread-limit → 1 ≤ objects → objects ≤ object-limit → (reserved : Bool) (events : List Event)
     → let table = freshOf threads objects reserved .table in
-    Agrees (finalOf table events) (feed-all blank (shownOf table events)) × NeverUnsound (shownOf table events)
+    Agrees (finalOf table events) (feed-all blank (shownOf table events)) × Ruled (shownOf table events)
 
--- the records that a table of the code has: its arrays are of these lengths
+-- what the types of the code give every table: its arrays have these lengths, and depths have 16 bits
 pub record Whole (table : Table) : Type 0 where
   pub threads : length (table .threads) ≡ thread-limit
   pub objects : length (table .objects) ≡ object-limit
+  pub depths : (o : ℕ) → objectAt table o .monitor .depth ≤ depth-limit
 
 -- Every event on any sound table, reached by a schedule or not, gives a sound table.
 abbrev pub SoundKept : Type 0

@@ -1,7 +1,6 @@
 -- Soundness as the list of its clauses, each of which passes.
 use mathlib.Core.Path.{_≡_}
-use mathlib.Core.Bool.{Bool, true}
-use Rattle.laws.specs.Choice.{both}
+use mathlib.Core.Bool.{true}
 use Rattle.lock_table.specs.declared.record.Table.{Table}
 use Rattle.lock_soundness.specs.Sound.{
   sizesInRange,

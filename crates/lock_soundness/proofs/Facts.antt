@@ -8,7 +8,7 @@ use lib.Dec.{eqb, ltb, leb}
 use borrow.Author.Tests.{eqb-true, ltb-true, leb-true, eq-eqb, lt-ltb, le-leb}
 use Rattle.laws.specs.Choice.{pick, both, either, within}
 use Rattle.laws.specs.Every.{all-up-to}
-use Rattle.laws.proofs.Choice.{false≢true, both-first, both-second, both-of, Below, below}
+use Rattle.laws.proofs.Choice.{false≢true, both-first, both-second, both-of, Below, below, AtMost, at-most}
 use Rattle.laws.proofs.Every.{all-at, all-of}
 
 pub record Reads (test : Bool) (Fact : Type 0) : Type 0 where
@@ -123,3 +123,20 @@ reads-all last test known =
       read = λ e n low high. known n .read (all-at last test e n low high);
       make = λ f. all-of last test (λ n low high. known n .make (f n low high));
     }
+
+-- a test of each of a table's records asks one thing of those in use and another of those past the last
+pub reads-used-and-past : (limit last : ℕ) {test : ℕ → Bool} {P Q : ℕ → Type 0} → last ≤ limit
+    → ((n : ℕ) → n ≤ last → Reads (test n) (P n)) → ((n : ℕ) → last < n → Reads (test n) (Q n))
+    → Reads (all-up-to limit test) (((n : ℕ) → 1 ≤ n → n ≤ last → P n) × ((n : ℕ) → 1 ≤ n → n ≤ limit → last < n → Q n))
+reads-used-and-past limit last {test} {P} {Q} few used past =
+    record {
+      read = λ e. (
+        λ n low high. used n high .read (all-at limit test e n low (omega (arith, high, few))),
+        λ n low high beyond. past n beyond .read (all-at limit test e n low high),
+      );
+      make = λ (inside, beyond). all-of limit test (λ n low high. at n (inside n low) (beyond n low high) (leb n last) (at-most n last));
+    }
+  where
+    at : (n : ℕ) → (n ≤ last → P n) → (last < n → Q n) → (in-use : Bool) → AtMost in-use n last → test n ≡ true
+    at n inside beyond true few = used n few .make (inside few)
+    at n inside beyond false many = past n many .make (beyond many)

@@ -1,14 +1,14 @@
 -- A fresh table is sound, of any sizes in range and with either kind of word.
-use Prim.Native.Nat.{ℕ, zero, suc, _+_, _-_, _≤_, _<_}
-use mathlib.Core.Path.{_≡_, refl, sym, ap, _∙_}
-use mathlib.Core.Logic.{_≢_, inl, inr}
+use Prim.Native.Nat.{ℕ, _+_, _-_, _≤_, _<_}
+use mathlib.Core.Path.{_≡_, refl, ap, _∙_}
+use mathlib.Core.Logic.{inl, inr}
 use mathlib.Core.Bool.{Bool, true, false}
-use mathlib.Core.List.{List, [], _++_}
+use mathlib.Core.List.{List}
 use native.Mathlib.Omega.{arith}
 use lib.Dec.{eqb, ltb}
 use lib.ListN.{length, getD, replicate, getD-replicate, length-replicate, List·getD-append}
 use lib.Seq.{getD-append-add}
-use borrow.Author.Tests.{ne-eqb, lt-ltb, le-ltb}
+use borrow.Author.Tests.{ne-eqb, le-ltb}
 use Rattle.laws.specs.Choice.{pick}
 use Rattle.laws.specs.Count.{count}
 use Rattle.laws.proofs.Choice.{Equal, equal, Below, below}
@@ -28,7 +28,7 @@ use Rattle.lock_table.proofs.Records.{object-in}
 use Rattle.lock_table.proofs.Walks.{next-none}
 use Rattle.lock_soundness.specs.Fields.{chainNamed, threadChain, firstIn}
 use Rattle.lock_soundness.specs.Sound.{soundOf, phaseAt, carriedAt, firstAt}
-use Rattle.lock_soundness.specs.Meaning.{follow, chainAt, WordFits, SavesDepth, UnusedFits, Sound}
+use Rattle.lock_soundness.specs.Meaning.{chainAt, WordFits, SavesDepth, Sound}
 use Rattle.lock_soundness.proofs.Chained.{follow-none}
 use Rattle.lock_soundness.proofs.Reading.{sound-of}
 
@@ -63,7 +63,8 @@ module _ (threads objects word : ℕ) where
 
   fresh-past : (o : ℕ) → objects < o → o ≤ object-limit → objectAt fresh o ≡ noObject
   fresh-past o past high =
-      let place : o - 1 ≡ length (replicate objects (withWord noObject word)) + (o - 1 - objects) = rw (length-replicate objects (withWord noObject word)) (omega (arith, past)) in
+      let place : o - 1 ≡ length (replicate objects (withWord noObject word)) + (o - 1 - objects)
+      = rw (length-replicate objects (withWord noObject word)) (omega (arith, past)) in
       object-in fresh o (λ e. omega (arith, e, past)) high
       ∙ (ap (λ (k : ℕ). getD (freshObjectsOf objects word) k noObject) place
       ∙ (getD-append-add (replicate objects (withWord noObject word)) (replicate (object-limit - objects) noObject) (o - 1 - objects) noObject
@@ -101,7 +102,8 @@ module _ (threads objects word : ℕ) where
       ap (λ (first : ℕ). count n (members threads (nextOf fresh) first)) (fresh-first o chain low high fewer)
       ∙ (ap (count n) (members-none threads (nextOf fresh)) ∙ count-none n)
 
-  fresh-meaning : 1 ≤ threads → threads ≤ thread-limit → 1 ≤ objects → objects ≤ object-limit → ((o : ℕ) → WordFits threads o (decodeOf word)) → Sound fresh
+  fresh-meaning : 1 ≤ threads → threads ≤ thread-limit → 1 ≤ objects → objects ≤ object-limit
+      → ((o : ℕ) → WordFits threads o (decodeOf word)) → Sound fresh
   fresh-meaning one few some fewer fits =
       record {
         sizes = ((one, few), (some, fewer));
@@ -124,6 +126,7 @@ pub fresh-sound : (threads objects : ℕ) (reserved : Bool) → 1 ≤ threads �
     → soundOf (freshOf threads objects reserved .table) ≡ true
 unfolding freshOf
 fresh-sound threads objects reserved one few some fewer =
-    rw (ne-eqb threads 0 (λ e. omega (arith, e, one)), le-ltb thread-limit threads few, ne-eqb objects 0 (λ e. omega (arith, e, some)), le-ltb object-limit objects fewer)
+    rw (ne-eqb threads 0 (λ e. omega (arith, e, one)), le-ltb thread-limit threads few)
+    (rw (ne-eqb objects 0 (λ e. omega (arith, e, some)), le-ltb object-limit objects fewer)
     (sound-of (tableOf threads objects (firstWordOf reserved))
-    (fresh-meaning threads objects (firstWordOf reserved) one few some fewer (λ o. first-word-fits threads o reserved)))
+    (fresh-meaning threads objects (firstWordOf reserved) one few some fewer (λ o. first-word-fits threads o reserved))))

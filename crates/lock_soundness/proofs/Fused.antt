@@ -1,23 +1,22 @@
 -- The order in which the code finds soundness out is of no account: `fused-is`.
 use Prim.Native.Nat.{ℕ, _-_, _≤_, _<_}
-use mathlib.Core.Path.{_≡_, refl, sym, ap, _∙_}
+use mathlib.Core.Path.{_≡_, refl, sym, ap}
 use mathlib.Core.Logic.{_≢_, _⊎_, inl, inr}
 use mathlib.Core.Bool.{Bool, true, false}
 use native.Mathlib.Omega.{arith}
-use lib.Dec.{eqb, ltb, leb}
+use lib.Dec.{leb}
 use lib.ListN.{getD}
-use borrow.Author.Tests.{eq-eqb, ne-eqb, lt-ltb, le-ltb, le-leb, lt-leb}
-use Rattle.laws.specs.Choice.{pick, both, either, within}
+use borrow.Author.Tests.{eq-eqb, ne-eqb, lt-ltb, le-ltb}
+use Rattle.laws.specs.Choice.{pick, both, within}
 use Rattle.laws.specs.Every.{all-up-to}
-use Rattle.laws.proofs.Choice.{both-first, both-second, both-of, equal?, AtMost, at-most}
+use Rattle.laws.proofs.Choice.{equal?}
 use Rattle.laws.proofs.Every.{all-at, all-of}
 use Rattle.chains.specs.Chain.{chain-test}
 use Rattle.lock_word.specs.Read.{decodeOf}
 use Rattle.lock_table.specs.Limits.{thread-limit, object-limit}
-use Rattle.lock_table.specs.Phase.{phaseNumberOf, carriedNumberOf}
-use Rattle.lock_table.specs.Record.{noThread, noObject}
+use Rattle.lock_table.specs.Phase.{phaseNumberOf}
+use Rattle.lock_table.specs.Record.{noObject}
 use Rattle.lock_table.specs.Access.{threadAt, objectAt, nextOf}
-use Rattle.lock_table.specs.declared.record.ThreadRecord.{ThreadRecord}
 use Rattle.lock_table.specs.declared.record.Monitor.{Monitor}
 use Rattle.lock_table.specs.declared.record.ObjectRecord.{ObjectRecord}
 use Rattle.lock_table.specs.declared.record.Table.{Table}
@@ -43,7 +42,6 @@ use Rattle.lock_soundness.specs.Sound.{
   carriedAt,
   homeAt,
   firstAt,
-  every-chain,
   wordsValid,
   operationsFit,
   keptWordsFit,
@@ -74,36 +72,24 @@ use Rattle.lock_soundness.specs.Fused.{
   objectPasses,
   fusedOf,
 }
-use Rattle.lock_soundness.proofs.Facts.{Reads, reads-map, reads-as, reads-self, reads-then, reads-first, reads-both, reads-within, reads-guard, reads-same}
+use Rattle.lock_soundness.proofs.Facts.{
+  Reads,
+  reads-map,
+  reads-as,
+  reads-self,
+  reads-then,
+  reads-first,
+  reads-both,
+  reads-within,
+  reads-guard,
+  reads-used-and-past,
+  reads-same,
+}
 use Rattle.lock_soundness.proofs.Clauses.{Clauses, clauses}
 use Rattle.lock_soundness.proofs.Chained.{test-joined}
 use Rattle.lock_soundness.proofs.RecordReading.{reads-sizes, reads-operation, reads-empty-thread, reads-empty-object, reads-past}
 use Rattle.lock_soundness.proofs.Walks.{empty-passes}
-
--- the thread records alone give the same next indexes
-next-is : (t : Table) → nextIn (t .threads) ≡ nextOf t
-unfolding threadIn threadAt
-next-is t = refl
-
--- a test of all records asks one thing of those in use and another of those past the last
-used-and-past : (limit last : ℕ) {test : ℕ → Bool} {P Q : ℕ → Type 0} → last ≤ limit → ((n : ℕ) → n ≤ last → Reads (test n) (P n))
-    → ((n : ℕ) → last < n → Reads (test n) (Q n)) → Reads (all-up-to limit test) (Each last P × Each limit (λ n. last < n → Q n))
-used-and-past limit last {test} {P} {Q} few used past =
-    record {
-      read = λ e. (
-        λ n low high. used n high .read (all-at limit test e n low (omega (arith, high, few))),
-        λ n low high beyond. past n beyond .read (all-at limit test e n low high),
-      );
-      make = λ (inside, beyond). all-of limit test (λ n low high. at n low high (inside n) (beyond n low high) (leb n last) (at-most n last));
-    }
-  where
-    at : (n : ℕ) → 1 ≤ n → n ≤ limit → (1 ≤ n → n ≤ last → P n) → (last < n → Q n) → (in-use : Bool) → AtMost in-use n last → test n ≡ true
-    at n low high inside beyond true a = used n a .make (inside low a)
-    at n low high inside beyond false a = past n a .make (beyond a)
-
-chain-of-idle : chainNamed 0 ≡ 0
-unfolding chainNamed
-chain-of-idle = refl
+use Rattle.lock_soundness.proofs.Exactly.{parked-busy}
 
 -- what the clauses ask of one thread, of one object, and of a chain
 module _ (t : Table) where
@@ -133,7 +119,9 @@ module _ (t : Table) where
 -- each is what the code asks of the record
 module _ (t : Table) (few : t .threadcount ≤ thread-limit) (fewer : t .objectcount ≤ object-limit) where
   -- one walk finds out what two clauses ask of a chain
-  member : (o chain n : ℕ) → Reads (memberFits (t .threads) (t .threadcount) o chain n) ((n ≤ t .threadcount) × ((n ≤ thread-limit) × (namesChain o chain (threadAt t n) ≡ true)))
+  member : (o chain n : ℕ)
+      → Reads (memberFits (t .threads) (t .threadcount) o chain n)
+      ((n ≤ t .threadcount) × ((n ≤ thread-limit) × (namesChain o chain (threadAt t n) ≡ true)))
   unfolding memberFits threadIn threadAt
   member o chain n = reads-guard (t .threadcount) n (reads-guard thread-limit n (reads-self _))
 
@@ -141,24 +129,26 @@ module _ (t : Table) (few : t .threadcount ≤ thread-limit) (fewer : t .objectc
       → Reads (chainPasses (t .threads) (t .threadcount) o chain first) ((ends t first ≡ true) × (named t o chain first ≡ true))
   unfolding chainPasses threadIn threadAt
   walked o chain first =
+      let inside : ℕ → Bool = within 1 (t .threadcount) in
+      let names : ℕ → Bool = λ n. namesChain o chain (threadAt t n) in
+      let fits : ℕ → Bool = memberFits (t .threads) (t .threadcount) o chain in
       record {
         read = λ e. (
-          join (memberFits (t .threads) (t .threadcount) o chain) (memberFits (t .threads) (t .threadcount) o chain) (within 1 (t .threadcount))
-              (λ n real m again. reads-within 1 (t .threadcount) n .make (omega (arith, real), member o chain n .read m .0)) e e,
-          join (memberFits (t .threads) (t .threadcount) o chain) (memberFits (t .threads) (t .threadcount) o chain) (λ n. namesChain o chain (threadAt t n))
-              (λ n real m again. member o chain n .read m .1 .1) e e,
+          join fits fits inside (λ n real m again. reads-within 1 (t .threadcount) n .make (omega (arith, real), member o chain n .read m .0)) e e,
+          join fits fits names (λ n real m again. member o chain n .read m .1 .1) e e,
         );
-        make = λ (inside, names).
-            join (within 1 (t .threadcount)) (λ n. namesChain o chain (threadAt t n)) (memberFits (t .threads) (t .threadcount) o chain)
-            (λ n real w names.
-            let (low, high) = reads-within 1 (t .threadcount) n .read w in
-            member o chain n .make (high, (omega (arith, high, few), names))) inside names;
+        make = λ (all-inside, all-named).
+            join inside names fits (λ n real low-high m. whole n (reads-within 1 (t .threadcount) n .read low-high) m) all-inside all-named;
       }
     where
       join : (a b c : ℕ → Bool) → ((n : ℕ) → n ≢ 0 → a n ≡ true → b n ≡ true → c n ≡ true)
           → chain-test (t .threadcount) (nextOf t) a first ≡ true → chain-test (t .threadcount) (nextOf t) b first ≡ true
           → chain-test (t .threadcount) (nextOf t) c first ≡ true
       join = test-joined (t .threadcount) (nextOf t) first
+
+      whole : (n : ℕ) → (1 ≤ n) × (n ≤ t .threadcount) → namesChain o chain (threadAt t n) ≡ true
+          → memberFits (t .threads) (t .threadcount) o chain n ≡ true
+      whole n (low, high) m = member o chain n .make (high, (omega (arith, high, few), m))
 
   -- an object's three chains, by number
   chains-by-number : (o : ℕ) (monitor : Monitor)
@@ -206,16 +196,13 @@ module _ (t : Table) (few : t .threadcount ≤ thread-limit) (fewer : t .objectc
   unfolding foundIn threadIn threadAt
   found-same n fits = at (equal? (threadChain (threadAt t n)) 0)
     where
-      busy : threadChain (threadAt t n) ≢ 0 → phaseAt t n ≢ 0
-      busy parked idle = parked (ap chainNamed idle ∙ chain-of-idle)
-
       at : (threadChain (threadAt t n) ≡ 0) ⊎ (threadChain (threadAt t n) ≢ 0)
           → foundIn (t .threadcount) (nextIn (t .threads)) n (threadChain (threadAt t n))
           (getD (t .objects) (objectPlace (threadAt t n .object)) noObject .monitor)
           ≡ foundIn (t .threadcount) (nextOf t) n (threadChain (threadAt t n)) (homeAt t n .monitor)
       at (inl none) = rw (eq-eqb (threadChain (threadAt t n)) 0 none)
       at (inr parked) =
-          let (low, high) = reads-operation (t .objectcount) (phaseAt t n) (carriedAt t n) (threadAt t n) .read fits (busy parked) .0 in
+          let (low, high) = reads-operation (t .objectcount) (phaseAt t n) (carriedAt t n) (threadAt t n) .read fits (parked-busy (phaseAt t n) parked) .0 in
           ap (λ (home : ObjectRecord). foundIn (t .threadcount) (nextOf t) n (threadChain (threadAt t n)) (home .monitor))
           (home-same (threadAt t n .object) low (omega (arith, high, fewer)))
 
@@ -227,14 +214,13 @@ module _ (t : Table) (few : t .threadcount ≤ thread-limit) (fewer : t .objectc
       (λ asked. reads-as (found-same n (asked .0)) (reads-self _)))
 
   thread-past : (n : ℕ) → t .threadcount < n → Reads (threadPasses t n) (emptyThread (threadAt t n) ≡ true)
-  unfolding threadPasses threadFits foundIn phaseNumberOf
+  unfolding threadPasses threadFits foundIn chainNamed phaseNumberOf
   thread-past n past =
       rw (lt-ltb (t .threadcount) n past)
       (reads-first (reads-self (emptyThread (threadAt t n)))
-      (λ e. rw (eq-eqb (threadChain (threadAt t n)) 0 (ap threadChain (reads-empty-thread (threadAt t n) .read e) ∙ chain-of-idle))))
+      (λ e. rw (eq-eqb (threadChain (threadAt t n)) 0 (ap threadChain (reads-empty-thread (threadAt t n) .read e)))))
 
-  object-used : (o : ℕ) → o ≤ t .objectcount
-      → Reads (objectPasses t o) (ObjectClauses t o × Walked t o)
+  object-used : (o : ℕ) → o ≤ t .objectcount → Reads (objectPasses t o) (ObjectClauses t o × Walked t o)
   unfolding objectPasses objectFits usedObjectFits
   object-used o inside =
       rw (le-ltb (t .objectcount) o inside) (reads-both (reads-both (reads-self _) (reads-both (reads-self _) (reads-self _))) (walks o))
@@ -252,15 +238,16 @@ module _ (t : Table) (few : t .threadcount ≤ thread-limit) (fewer : t .objectc
   -- each record is in use or past the last, so that the two loops ask what the clauses ask
   threads-read : Reads (all-up-to thread-limit (threadPasses t))
       (Each (t .threadcount) (λ n. ThreadClauses t n × Found t n) × Each thread-limit (λ n. t .threadcount < n → emptyThread (threadAt t n) ≡ true))
-  threads-read = used-and-past thread-limit (t .threadcount) few thread-used thread-past
+  threads-read = reads-used-and-past thread-limit (t .threadcount) few thread-used thread-past
 
   objects-read : Reads (all-up-to object-limit (objectPasses t))
       (Each (t .objectcount) (λ o. ObjectClauses t o × Walked t o) × Each object-limit (λ o. t .objectcount < o → emptyObject (objectAt t o) ≡ true))
-  objects-read = used-and-past object-limit (t .objectcount) fewer object-used object-past
+  objects-read = reads-used-and-past object-limit (t .objectcount) fewer object-used object-past
 
 -- all of them
 fused-reads : (t : Table) → Reads (fusedOf t) (Clauses t)
-unfolding fusedOf wordsValid operationsFit keptWordsFit savedDepthsFit holdersFit unheldMonitorsFit chainsEnd parkedFound chainsNamed pastThreadsEmpty pastObjectsEmpty unusedFieldsEmpty
+unfolding fusedOf wordsValid operationsFit keptWordsFit savedDepthsFit holdersFit unheldMonitorsFit
+    chainsEnd parkedFound chainsNamed pastThreadsEmpty pastObjectsEmpty unusedFieldsEmpty
 fused-reads t =
     reads-map
     (reads-then (reads-self (sizesFit (t .threadcount) (t .objectcount)))

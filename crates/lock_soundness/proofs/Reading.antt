@@ -17,7 +17,6 @@ use Rattle.lock_soundness.specs.Sound.{
   firstAt,
   homeAt,
   every-chain,
-  sizesInRange,
   wordsValid,
   operationsFit,
   keptWordsFit,

@@ -23,7 +23,7 @@ thread-here threads n some high = simp (ne-eqb n 0 some, le-ltb thread-limit n h
 pub next-here : (threads : List ThreadRecord) (n : ℕ) → n ≢ 0 → n ≤ thread-limit → nextIn threads n ≡ getD threads (n - 1) noThread .next
 next-here threads n some high = ap (λ (thread : ThreadRecord). thread .next) (thread-here threads n some high)
 
-pub thread-beyond : (threads : List ThreadRecord) (n : ℕ) → thread-limit < n → threadIn threads n ≡ noThread
+thread-beyond : (threads : List ThreadRecord) (n : ℕ) → thread-limit < n → threadIn threads n ≡ noThread
 unfolding threadIn
 thread-beyond threads n past = simp (ne-eqb n 0 (λ e. omega (arith, e, past)), lt-ltb thread-limit n past)
 

@@ -1,5 +1,5 @@
-// Walks along chains. They take the thread records and nothing else of the table, since what is passed on is copied, and at most as many links as
-// the table has threads.
+// Walks along chains, of at most as many links as the table has threads. They take the thread records and nothing else of the table, since what
+// is passed on is copied.
 use crate::thread::thread_chain;
 use lock_table::Monitor;
 use lock_table::THREADS;

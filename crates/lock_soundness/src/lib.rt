@@ -1,5 +1,5 @@
 // Soundness of a table (document 01, "Lock words", the sentence "Sound means"): one loop over the thread records and one over the object
-// records, each record read once and in place, since a table that is passed on is copied. Only a walk along a chain takes the table.
+// records. Each record is read once and in place, since a table that is passed on is copied.
 mod chain;
 mod choice;
 mod object;
@@ -16,6 +16,7 @@ use thread::thread_chain;
 use thread::thread_fits;
 ghost use mathlib.Core.Path.{_≡_};
 ghost use Rattle.laws.specs.Every.{all-up-to};
+ghost use Rattle.lock_table.specs.Limits.{thread-limit, object-limit};
 ghost use Rattle.lock_soundness.specs.Fields.{sizesFit};
 ghost use Rattle.lock_soundness.specs.Sound.{soundOf};
 ghost use Rattle.lock_soundness.specs.Fused.{objectPlace, threadPasses, objectPasses};
@@ -26,7 +27,7 @@ fn sizes_fit(threads: u8, objects: u8) -> bool
     within(1, THREADS, threads) & within(1, OBJECTS, objects)
 }
 
-// Where the record of an object is. A thread that is parked at none has no chain, so that any record will do.
+// Where the record of an object is. A number out of range, at which no thread of a sound table is parked, gets the first place.
 fn object_place(object: u8) -> usize
     ensures { λ r. ⌜ r ≡ objectPlace object ⌝ }
 {
@@ -39,8 +40,9 @@ fn object_place(object: u8) -> usize
     (object as usize) - 1
 }
 
+// Each thread's record is as its phase asks, and a parked thread is in the chain that its phase names.
 fn threads_pass(table: Table) -> bool
-    ensures { λ r. ⌜ r ≡ all-up-to 32 (threadPasses table) ⌝ }
+    ensures { λ r. ⌜ r ≡ all-up-to thread-limit (threadPasses table) ⌝ }
 {
     let threads = table.threads;
     let mut left = THREADS;
@@ -68,8 +70,9 @@ fn threads_pass(table: Table) -> bool
     true
 }
 
+// Each object's record is in order, and so are its chains.
 fn objects_pass(table: Table) -> bool
-    ensures { λ r. ⌜ r ≡ all-up-to 64 (objectPasses table) ⌝ }
+    ensures { λ r. ⌜ r ≡ all-up-to object-limit (objectPasses table) ⌝ }
 {
     let threads = table.threads;
     let mut left = OBJECTS;
@@ -89,6 +92,7 @@ fn objects_pass(table: Table) -> bool
     true
 }
 
+// Whether the table is sound.
 pub fn sound(table: Table) -> bool
     ensures { λ r. ⌜ r ≡ soundOf table ⌝ }
 {

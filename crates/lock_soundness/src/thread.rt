@@ -9,7 +9,8 @@ use lock_table::phase_number;
 use lock_word::Decoded;
 use lock_word::LockWord;
 ghost use mathlib.Core.Path.{_≡_};
-ghost use Rattle.lock_soundness.specs.Fields.{usesPhase, carriesPhase, operationFits, keptCountFits, reservedFor, keptFits, savesDepth, savedFits, chainNamed, threadChain, emptyThread, unusedFits};
+ghost use Rattle.lock_soundness.specs.Fields.{usesPhase, carriesPhase, operationFits, keptCountFits, reservedFor, keptFits, savesDepth};
+ghost use Rattle.lock_soundness.specs.Fields.{savedFits, chainNamed, threadChain, emptyThread, unusedFits};
 ghost use Rattle.lock_soundness.specs.Fused.{usedThreadFits, threadFits};
 
 // The largest counts of a kept word: storing it adds one for enter and takes one off for exit.
@@ -17,6 +18,7 @@ const ENTER_COUNT_LIMIT: u8 = 62;
 
 const EXIT_COUNT_LIMIT: u8 = 63;
 
+// The deepest that a monitor can be held; no depth of this type is past it.
 const DEPTH_LIMIT: u16 = 65535;
 
 // The phases that each operation uses.

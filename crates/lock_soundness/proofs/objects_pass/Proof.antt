@@ -6,13 +6,14 @@ use borrow.Author.Tests.{not-true, not-false}
 use native.Mathlib.Omega.{arith}
 use Rattle.laws.specs.Every.{all-up-to}
 use Rattle.laws.proofs.Every.{all-step, all-end}
+use Rattle.lock_table.specs.Limits.{object-limit}
 use Rattle.lock_soundness.specs.Fused.{objectPasses}
 use Rattle.lock_soundness.proofs.Turns.{object-turn}
 use Rattle.lock_soundness.proofs.objects_pass.Statement.{statement}
 use Rattle.lock_soundness.proofs.objects_pass.Tie as tie
 
 abbrev Inv-loop : tie.InvT-loop
-Inv-loop table threads left₀ left = (left ≤ 64) × (all-up-to 64 (objectPasses table) ≡ all-up-to left (objectPasses table))
+Inv-loop table threads left₀ left = (left ≤ object-limit) × (all-up-to object-limit (objectPasses table) ≡ all-up-to left (objectPasses table))
 
 abbrev μ-loop : tie.MeasureT-loop
 μ-loop table threads left₀ left = left

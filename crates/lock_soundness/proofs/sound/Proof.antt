@@ -1,5 +1,4 @@
 -- `lock_soundness::sound` meets its contract: the order in which the code asks makes no difference.
-use mathlib.Core.Path.{_∙_}
 use Rattle.lock_soundness.specs.Fused.{fusedOf}
 use Rattle.lock_soundness.proofs.Fused.{fused-is}
 use Rattle.lock_soundness.proofs.sound.Statement.{statement}

@@ -6,13 +6,14 @@ use borrow.Author.Tests.{not-true, not-false}
 use native.Mathlib.Omega.{arith}
 use Rattle.laws.specs.Every.{all-up-to}
 use Rattle.laws.proofs.Every.{all-step, all-end}
+use Rattle.lock_table.specs.Limits.{thread-limit}
 use Rattle.lock_soundness.specs.Fused.{threadPasses}
 use Rattle.lock_soundness.proofs.Turns.{thread-turn, place-inside}
 use Rattle.lock_soundness.proofs.threads_pass.Statement.{statement}
 use Rattle.lock_soundness.proofs.threads_pass.Tie as tie
 
 abbrev Inv-loop : tie.InvT-loop
-Inv-loop table threads left₀ left = (left ≤ 32) × (all-up-to 32 (threadPasses table) ≡ all-up-to left (threadPasses table))
+Inv-loop table threads left₀ left = (left ≤ thread-limit) × (all-up-to thread-limit (threadPasses table) ≡ all-up-to left (threadPasses table))
 
 abbrev μ-loop : tie.MeasureT-loop
 μ-loop table threads left₀ left = left

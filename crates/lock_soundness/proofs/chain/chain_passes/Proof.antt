@@ -1,7 +1,5 @@
 -- `lock_soundness::chain::chain_passes` meets its contract: an empty chain passes.
-use mathlib.Core.Path.{sym, ap, _∙_}
-use Prim.Native.Nat.{ℕ}
-use Rattle.lock_soundness.specs.Fused.{nextIn, memberFits, chainPasses}
+use Rattle.lock_soundness.specs.Fused.{chainPasses}
 use Rattle.lock_soundness.proofs.Walks.{empty-passes}
 use Rattle.lock_soundness.proofs.chain.chain_passes.Statement.{statement}
 use Rattle.lock_soundness.proofs.chain.chain_passes.Tie as tie

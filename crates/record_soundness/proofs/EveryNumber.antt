@@ -1,0 +1,191 @@
+-- What holds of a sound table at every number, in range or not: numbers out of range have the empty record. And what a thread's state says of its record.
+use Prim.Native.Nat.{ℕ, zero, suc, _≤_, _<_}
+use mathlib.Core.Path.{_≡_, refl, sym, ap, _∙_, subst}
+use mathlib.Core.Logic.{_≢_, _⊎_, inl, inr}
+use mathlib.Core.Bool.{Bool, true, false}
+use mathlib.Core.List.{List, []}
+use native.Mathlib.Omega.{arith}
+use lib.Dec.{T, eqb, ltb, leb}
+use borrow.Author.Tests.{eq-eqb, ne-eqb, lt-ltb}
+use Rattle.laws.specs.Choice.{pick}
+use Rattle.laws.specs.Count.{count}
+use Rattle.laws.proofs.Choice.{equal?, Below, below, AtMost, at-most}
+use Rattle.laws.proofs.Count.{count-none}
+use Rattle.chains.specs.Chain.{members}
+use Rattle.chains.proofs.Chain.{Chain as Linked, members-none, chain-once}
+use Rattle.lock_rules.specs.Numbers.{phase-of, phase-of-doing}
+use Rattle.lock_rules.specs.declared.Doing.{Doing}
+use Rattle.lock_rules.specs.declared.ThreadState.{ThreadState}
+use Rattle.lock_rules.specs.declared.ThreadState.the-variants.{Idle, Running}
+use Rattle.lock_rules.proofs.Tables.{ListThread, seen-from, seen-here}
+use Rattle.lock_rules.proofs.ListChains.{Chain, entry-chain, contention-chain, waiting-chain, times-in, seen-or-at}
+use Rattle.lock_table.specs.Limits.{thread-limit, object-limit}
+use Rattle.lock_table.specs.Phase.{phaseNumberOf, carriedNumberOf}
+use Rattle.lock_table.specs.Record.{noThread, noMonitor, noObject}
+use Rattle.lock_table.specs.Access.{threadAt, objectAt, nextOf}
+use Rattle.lock_table.specs.declared.record.ThreadRecord.{ThreadRecord}
+use Rattle.lock_table.specs.declared.record.ObjectRecord.{ObjectRecord}
+use Rattle.lock_table.specs.declared.record.Table.{Table}
+use Rattle.lock_table.proofs.Records.{thread-none, thread-past}
+use Rattle.lock_perform.specs.State.{stateOf}
+use Rattle.lock_soundness.specs.Fields.{chainNamed, threadChain, firstIn}
+use Rattle.lock_soundness.specs.Sound.{phaseAt, firstAt, soundOf}
+use Rattle.lock_soundness.specs.Meaning.{Within, chainAt, Sound}
+use Rattle.lock_soundness.proofs.Chained.{leads-chain}
+use Rattle.lock_soundness.proofs.Reading.{sound-reads}
+use Rattle.record_soundness.proofs.Naming.{
+  chain-number,
+  chain-number-low,
+  chain-number-high,
+  running-names-none,
+  idle-by-phase,
+  idle-never,
+  named-once,
+  unnamed-never,
+}
+use Rattle.record_soundness.proofs.Fits.{ThreadFits}
+use Rattle.record_soundness.proofs.ReadBack.{IsWritten, fits-written, none-written, state-back, phase-back}
+
+-- a thread's record read as a thread of a table with lists
+abbrev pub thread-read : Table → ℕ → ListThread
+thread-read t n = record { object = threadAt t n .object; state = stateOf (threadAt t n) }
+
+object-none : (t : Table) → objectAt t 0 ≡ noObject
+unfolding objectAt
+object-none t = refl
+
+object-beyond : (t : Table) (o : ℕ) → object-limit < o → objectAt t o ≡ noObject
+unfolding objectAt
+object-beyond t o past = rw (ne-eqb o 0 (λ q. omega (arith, q, past)), lt-ltb object-limit o past)
+
+-- no chain of the empty record has a thread
+no-first : (chain : Chain) → firstIn noMonitor (chain-number chain) ≡ 0
+unfolding firstIn
+no-first entry-chain = refl
+no-first contention-chain = refl
+no-first waiting-chain = refl
+
+-- records by number, of which those in use are 1 to `last`: any other is empty
+by-range : {A : Type 0} (at : ℕ → A) (none : A) (last limit : ℕ) → at 0 ≡ none → ((n : ℕ) → limit < n → at n ≡ none)
+    → ((n : ℕ) → 1 ≤ n → n ≤ limit → last < n → at n ≡ none) → (n : ℕ) → Within 1 last n ⊎ (at n ≡ none)
+by-range at none last limit first beyond past n = by (equal? n 0) (leb n last) (at-most n last) (ltb limit n) (below limit n)
+  where
+    by : (n ≡ 0) ⊎ (n ≢ 0) → (used : Bool) → AtMost used n last → (far : Bool) → Below far limit n → Within 1 last n ⊎ (at n ≡ none)
+    by (inl zero-it-is) used is-used far is-far = inr (ap at zero-it-is ∙ first)
+    by (inr some) true is-used far is-far = inl (omega (arith, some), is-used)
+    by (inr some) false unused true is-far = inr (beyond n is-far)
+    by (inr some) false unused false near = inr (past n (omega (arith, some)) near unused)
+
+module _ (t : Table) (sound : Sound t) where
+  pub thread-where : (n : ℕ) → Within 1 (t .threadcount) n ⊎ (threadAt t n ≡ noThread)
+  thread-where = by-range (threadAt t) noThread (t .threadcount) thread-limit (thread-none t) (thread-past t) (sound .threads-past)
+
+  pub object-where : (o : ℕ) → Within 1 (t .objectcount) o ⊎ (objectAt t o ≡ noObject)
+  object-where = by-range (objectAt t) noObject (t .objectcount) object-limit (object-none t) (object-beyond t) (sound .objects-past)
+
+  -- every thread record is a fine state, written
+  pub written-at : (n : ℕ) → IsWritten (t .objectcount) n (threadAt t n)
+  written-at n = at (thread-where n)
+    where
+      at : Within 1 (t .threadcount) n ⊎ (threadAt t n ≡ noThread) → IsWritten (t .objectcount) n (threadAt t n)
+      at (inl (low, high)) =
+          fits-written (t .objectcount) n (threadAt t n)
+          (record {
+            operation = sound .operations n low high;
+            kept = sound .kept-words n low high;
+            saved = sound .saved-depths n low high;
+            unused = sound .unused n low high;
+          })
+      at (inr empty) = subst (IsWritten (t .objectcount) n) (sym empty) (none-written (t .objectcount) n)
+
+  -- the state that it is read as has its phase
+  pub phase-at : (n : ℕ) → phaseAt t n ≡ phase-of (stateOf (threadAt t n))
+  phase-at n =
+      phase-back (t .objectcount) n (threadAt t n) (written-at n)
+      ∙ ap phase-of (sym (state-back (t .objectcount) n (threadAt t n) (written-at n)))
+
+  pub named-at : (n : ℕ) → threadChain (threadAt t n) ≡ chainNamed (phase-of (stateOf (threadAt t n)))
+  named-at n = ap chainNamed (phase-at n)
+
+  -- a thread whose phase names no chain has no next index
+  pub no-next-at : (n : ℕ) → threadChain (threadAt t n) ≡ 0 → nextOf t n ≡ 0
+  no-next-at n none = at (thread-where n)
+    where
+      at : Within 1 (t .threadcount) n ⊎ (threadAt t n ≡ noThread) → nextOf t n ≡ 0
+      at (inl (low, high)) = sound .unused n low high .next none
+      at (inr empty) = ap (λ (thread : ThreadRecord). thread .next) empty
+
+  -- each chain ends; its members are threads of the table, at its object in a phase that names it
+  pub chain-at : (o : ℕ) (chain : Chain) → Linked (nextOf t) (firstAt t o (chain-number chain)) (chainAt t o (chain-number chain))
+  chain-at o chain = at (object-where o)
+    where
+      at : Within 1 (t .objectcount) o ⊎ (objectAt t o ≡ noObject)
+          → Linked (nextOf t) (firstAt t o (chain-number chain)) (chainAt t o (chain-number chain))
+      at (inl (low, high)) =
+          leads-chain (t .threadcount) (nextOf t) (firstAt t o (chain-number chain))
+          (sound .chains-end o low high (chain-number chain) (chain-number-low chain) (chain-number-high chain))
+      at (inr empty) = rw (empty, no-first chain, members-none (t .threadcount) (nextOf t)) refl
+
+  pub members-at : (o : ℕ) (chain : Chain) (n : ℕ) → 0 < count n (chainAt t o (chain-number chain))
+      → (threadAt t n .object ≡ o) × (threadChain (threadAt t n) ≡ chain-number chain)
+  members-at o chain n inside = at (object-where o)
+    where
+      at : Within 1 (t .objectcount) o ⊎ (objectAt t o ≡ noObject) → (threadAt t n .object ≡ o) × (threadChain (threadAt t n) ≡ chain-number chain)
+      at (inl (low, high)) = sound .no-others o low high (chain-number chain) (chain-number-low chain) (chain-number-high chain) n inside
+      at (inr empty) = absurd (omega (arith, count-none n, rw (empty, no-first chain, members-none (t .threadcount) (nextOf t)) at inside))
+
+  -- a thread whose phase names a chain is in that chain of its object
+  pub parked-at : (chain : Chain) (n : ℕ) → threadChain (threadAt t n) ≡ chain-number chain
+      → 0 < count n (chainAt t (threadAt t n .object) (chain-number chain))
+  parked-at chain n names = at (thread-where n)
+    where
+      some : threadChain (threadAt t n) ≢ 0
+      some none = omega (arith, none, names, chain-number-low chain)
+
+      at : Within 1 (t .threadcount) n ⊎ (threadAt t n ≡ noThread) → 0 < count n (chainAt t (threadAt t n .object) (chain-number chain))
+      at (inl (low, high)) =
+          subst (λ (k : ℕ). 0 < count n (chainAt t (threadAt t n .object) k)) names (sound .parked n low high some)
+      at (inr empty) = absurd (some (ap threadChain empty ∙ no-chain))
+        where
+          no-chain : threadChain noThread ≡ 0
+          no-chain = unfold chainNamed phaseNumberOf in refl
+
+  -- so each thread is in each chain as often as its state, seen from there, says
+  pub counted-at : (o : ℕ) (chain : Chain) (n : ℕ)
+      → count n (chainAt t o (chain-number chain)) ≡ times-in chain (seen-from o (thread-read t n))
+  counted-at o chain n = at (count n (chainAt t o (chain-number chain))) refl (seen-or-at o (thread-read t n))
+    where
+      state : ThreadState
+      state = stateOf (threadAt t n)
+
+      once : count n (chainAt t o (chain-number chain)) ≤ 1
+      once = chain-once (nextOf t) (firstAt t o (chain-number chain)) (chainAt t o (chain-number chain)) n (chain-at o chain)
+
+      unnamed : count n (chainAt t o (chain-number chain)) ≡ 0 → threadAt t n .object ≡ o → chainNamed (phase-of state) ≢ chain-number chain
+      unnamed none here names = omega (arith, none, rw here at (parked-at chain n (named-at n ∙ names)))
+
+      at : (times : ℕ) → count n (chainAt t o (chain-number chain)) ≡ times → (seen-from o (thread-read t n) ≡ Idle) ⊎ (threadAt t n .object ≡ o)
+          → count n (chainAt t o (chain-number chain)) ≡ times-in chain (seen-from o (thread-read t n))
+      at (suc times) e seen =
+          let (here, names) = members-at o chain n (omega (arith, e)) in
+          let one : count n (chainAt t o (chain-number chain)) ≡ 1 = omega (arith, e, once) in
+          one ∙ sym (ap (times-in chain) (seen-here o (thread-read t n) here) ∙ named-once chain state (sym (named-at n) ∙ names))
+      at zero e (inl idle) = e ∙ sym (ap (times-in chain) idle ∙ idle-never chain)
+      at zero e (inr here) = e ∙ sym (ap (times-in chain) (seen-here o (thread-read t n) here) ∙ unnamed-never chain state (unnamed e here))
+
+-- What the state that a record is read as says of it, in a table that passes the test.
+module _ (t : Table) (sound : soundOf t ≡ true) (n : ℕ) where
+  pub phase-of-state : phaseAt t n ≡ phase-of (stateOf (threadAt t n))
+  phase-of-state = phase-at t (sound-reads t sound) n
+
+  pub idle-phase : stateOf (threadAt t n) ≡ Idle → phaseAt t n ≡ 0
+  idle-phase idle = phase-of-state ∙ ap phase-of idle
+
+  pub phase-idle : phaseAt t n ≡ 0 → stateOf (threadAt t n) ≡ Idle
+  phase-idle e = idle-by-phase (stateOf (threadAt t n)) (sym phase-of-state ∙ e)
+
+  -- a thread that can take a step is in no chain, so its next index is 0
+  pub running-next : (doing : Doing) → stateOf (threadAt t n) ≡ Running doing → nextOf t n ≡ 0
+  running-next doing running =
+      no-next-at t (sound-reads t sound) n
+      (named-at t (sound-reads t sound) n ∙ ap (λ (state : ThreadState). chainNamed (phase-of state)) running ∙ running-names-none doing)

@@ -1,0 +1,194 @@
+-- A table of records that represents a sound table with lists passes the engine's test: so 11 never occurs where lists are kept sound.
+use Prim.Native.Nat.{ℕ, _≤_, _<_}
+use mathlib.Core.Path.{_≡_, refl, sym, ap, _∙_, subst}
+use mathlib.Core.Logic.{_≢_, _⊎_, inl, inr}
+use mathlib.Core.Bool.{Bool, true, false}
+use mathlib.Core.List.{List, []}
+use native.Mathlib.Omega.{arith}
+use lib.Dec.{T, eqb}
+use lib.ListN.{length}
+use borrow.Author.Tests.{eqb-true, eq-eqb}
+use Rattle.laws.specs.Count.{count, one-if}
+use Rattle.laws.proofs.Choice.{equal?}
+use Rattle.chains.specs.Chain.{members}
+use Rattle.chains.proofs.Chain.{Chain as Linked, head, chain-members}
+use Rattle.chains.proofs.Links.{Links}
+use Rattle.lock_word.specs.Read.{decodeOf}
+use Rattle.lock_rules.specs.Numbers.{phase-of}
+use Rattle.lock_rules.specs.Status.{unfinished}
+use Rattle.lock_rules.specs.declared.ThreadState.{ThreadState}
+use Rattle.lock_rules.specs.declared.ThreadState.the-variants.{Idle, Running, Queued, Contending, Waiting}
+use Rattle.lock_rules.proofs.Objects.{ListObject}
+use Rattle.lock_rules.proofs.Tables.{ListThread, ListTable, states-at, seen-here}
+use Rattle.lock_rules.proofs.ListSound.{InTable, SoundTable}
+use Rattle.lock_rules.proofs.ListChains.{Chain, entry-chain, contention-chain, waiting-chain, chain-of, times-in, placed-in, member-at, member-in, short}
+use Rattle.lock_rules.proofs.ListChains.{out-of-chain}
+use Rattle.lock_table.specs.Limits.{thread-limit, object-limit}
+use Rattle.lock_table.specs.Phase.{phaseNumberOf}
+use Rattle.lock_table.specs.Record.{noThread, noObject}
+use Rattle.lock_table.specs.Access.{threadAt, objectAt, nextOf}
+use Rattle.lock_table.specs.declared.record.ThreadRecord.{ThreadRecord}
+use Rattle.lock_table.specs.declared.record.ObjectRecord.{ObjectRecord}
+use Rattle.lock_table.specs.declared.record.Table.{Table}
+use Rattle.lock_table.proofs.Walks.{next-none}
+use Rattle.lock_perform.specs.State.{recordOf}
+use Rattle.lock_records.proofs.Numbering.{number, lists-of, list-at, by-number}
+use Rattle.lock_records.proofs.Written.{phase-written}
+use Rattle.lock_records.proofs.Represents.{object-record, thread-record, Represents, next-is}
+use Rattle.lock_records.proofs.Readings.{thread-is, home-is, first-is, word-is}
+use Rattle.lock_soundness.specs.Fields.{chainNamed, threadChain, firstIn}
+use Rattle.lock_soundness.specs.Sound.{phaseAt, carriedAt, firstAt, soundOf}
+use Rattle.lock_soundness.specs.Meaning.{Within, follow, chainAt, WordFits, UnheldFits, Sound}
+use Rattle.lock_soundness.proofs.Chained.{chain-leads}
+use Rattle.lock_soundness.proofs.Reading.{sound-of}
+use Rattle.record_soundness.proofs.Naming.{chain-number, chain-number-low, by-chain, named-once, unnamed-never, in-named, named-high, named-busy}
+use Rattle.record_soundness.proofs.Fits.{ThreadFits, written-fits}
+use Rattle.record_soundness.proofs.Words.{word-fits}
+
+module _ (t : Table) (lists : ListTable) (represents : Represents (t .threadcount) (t .objectcount) t lists)
+    (sound : SoundTable (t .threadcount) (t .objectcount) lists) where
+  -- a thread that is not idle is at an object of the table
+  home-in : (n : ℕ) → T (unfinished (lists .threads n .state)) → Within 1 (t .objectcount) (lists .threads n .object)
+  home-in n busy = at (sound .range n)
+    where
+      at : InTable (t .threadcount) (t .objectcount) n (lists .threads n) → Within 1 (t .objectcount) (lists .threads n .object)
+      at (inl idle) = absurd (rw idle at busy)
+      at (inr (inside, low, high)) = (low, high)
+
+  -- the chain that its phase names
+  named-is : (n : ℕ) → threadChain (threadAt t n) ≡ chainNamed (phase-of (lists .threads n .state))
+  named-is n =
+      ap threadChain (thread-is (t .threadcount) (t .objectcount) t lists represents sound n)
+      ∙ ap chainNamed (phase-written n (lists .threads n .object) (lists .threads n .state) (represents .links .next n))
+
+  -- where that is none, it is in none and has no next index
+  no-next : (n : ℕ) → chainNamed (phase-of (lists .threads n .state)) ≡ 0 → represents .links .next n ≡ 0
+  no-next n none =
+      represents .chains .loose n
+      (by-number (λ c. count n (lists-of (lists .objects) c) ≡ 0)
+      (λ o chain. ap (count n) (list-at (lists .objects) o chain)
+      ∙ out-of-chain (t .threadcount) (t .objectcount) lists sound chain o n
+      (unnamed-never chain (lists .threads n .state) (λ e. omega (arith, none, e, chain-number-low chain)))))
+
+  thread-fits : (n : ℕ) → 1 ≤ n → n ≤ t .threadcount → ThreadFits (t .objectcount) n (threadAt t n)
+  thread-fits n low high =
+      subst (ThreadFits (t .objectcount) n) (sym (thread-is (t .threadcount) (t .objectcount) t lists represents sound n))
+      (written-fits (t .objectcount) n (lists .threads n .object) (represents .links .next n) low (omega (arith, high, represents .thread-room))
+      (lists .threads n .state) (sound .fine n) (home-in n) (no-next n))
+
+  -- a chain of an object of the table, by its first thread and the next indexes
+  module _ (o : ℕ) (low : 1 ≤ o) (high : o ≤ t .objectcount) where
+    first-at : (chain : Chain) → firstAt t o (chain-number chain) ≡ represents .links .first (number o chain)
+    unfolding firstIn
+    first-at entry-chain = ap (λ (object : ObjectRecord). object .monitor .entry) (represents .object-at o low high)
+    first-at contention-chain = ap (λ (object : ObjectRecord). object .monitor .contention) (represents .object-at o low high)
+    first-at waiting-chain = ap (λ (object : ObjectRecord). object .monitor .waiting) (represents .object-at o low high)
+
+    linked-at : (chain : Chain) → Linked (nextOf t) (firstAt t o (chain-number chain)) (chain-of chain (lists .objects o))
+    linked-at chain =
+        let links : Linked (represents .links .next) (represents .links .first (number o chain)) (chain-of chain (lists .objects o)) =
+        rw (list-at (lists .objects) o chain) at (represents .chains .chain (number o chain)) in
+        rw (next-is t (lists .threads) (represents .links .next) (represents .written), first-at chain) links
+
+    chain-is : (chain : Chain) → chainAt t o (chain-number chain) ≡ chain-of chain (lists .objects o)
+    chain-is chain =
+        chain-members (t .threadcount) (nextOf t) (firstAt t o (chain-number chain)) (chain-of chain (lists .objects o)) (linked-at chain)
+        (short (t .threadcount) (t .objectcount) lists sound chain o)
+
+    chain-ends : (chain : Chain) → follow (t .threadcount) (nextOf t) (firstAt t o (chain-number chain)) ≡ 0
+    chain-ends chain =
+        chain-leads (t .threadcount) (nextOf t) (firstAt t o (chain-number chain)) (chain-of chain (lists .objects o)) (next-none t) (linked-at chain)
+        (short (t .threadcount) (t .objectcount) lists sound chain o)
+
+    -- how often a thread at the object is in it
+    counted : (chain : Chain) (n : ℕ) → lists .threads n .object ≡ o → count n (chain-of chain (lists .objects o)) ≡ times-in chain (lists .threads n .state)
+    counted chain n here =
+        placed-in chain n (states-at lists o n) (lists .objects o) (sound .sound o .placed n)
+        ∙ ap (times-in chain) (seen-here o (lists .threads n) here)
+
+    members-named : (chain : Chain) (n : ℕ) → 0 < count n (chainAt t o (chain-number chain))
+        → (threadAt t n .object ≡ o) × (threadChain (threadAt t n) ≡ chain-number chain)
+    members-named chain n inside =
+        let member : 0 < count n (chain-of chain (lists .objects o)) = rw (chain-is chain) at inside in
+        let here = member-at (t .threadcount) (t .objectcount) lists sound chain o n member in
+        let names : chainNamed (phase-of (lists .threads n .state)) ≡ chain-number chain =
+        in-named chain (lists .threads n .state) (omega (arith, member, counted chain n here)) in
+        let busy = named-busy (lists .threads n .state) (λ none. omega (arith, none, names, chain-number-low chain)) in
+        (home-is (t .threadcount) (t .objectcount) t lists represents sound n busy ∙ here, named-is n ∙ names)
+
+  -- a parked thread is in the chain that its phase names
+  parked-in : (n : ℕ) → 1 ≤ n → n ≤ t .threadcount → threadChain (threadAt t n) ≢ 0
+      → 0 < count n (chainAt t (threadAt t n .object) (threadChain (threadAt t n)))
+  parked-in n low high parked =
+      by-chain (λ k. threadChain (threadAt t n) ≡ k → 0 < count n (chainAt t (threadAt t n .object) k)) at (threadChain (threadAt t n))
+      (omega (arith, parked)) (named-high (phaseAt t n)) refl
+    where
+      at : (chain : Chain) → threadChain (threadAt t n) ≡ chain-number chain → 0 < count n (chainAt t (threadAt t n .object) (chain-number chain))
+      at chain e =
+          let names : chainNamed (phase-of (lists .threads n .state)) ≡ chain-number chain = sym (named-is n) ∙ e in
+          let busy = named-busy (lists .threads n .state) (λ none. omega (arith, none, names, chain-number-low chain)) in
+          let (first, last) = home-in n busy in
+          rw (home-is (t .threadcount) (t .objectcount) t lists represents sound n busy, chain-is (lists .threads n .object) first last chain)
+          (omega (arith, counted (lists .threads n .object) first last chain n refl, named-once chain (lists .threads n .state) names))
+
+  -- records past the table's sizes
+  thread-past-empty : (n : ℕ) → t .threadcount < n → threadAt t n ≡ noThread
+  unfolding recordOf chainNamed
+  thread-past-empty n past = at (sound .range n)
+    where
+      at : InTable (t .threadcount) (t .objectcount) n (lists .threads n) → threadAt t n ≡ noThread
+      at (inl idle) =
+          thread-is (t .threadcount) (t .objectcount) t lists represents sound n
+          ∙ (λ j. recordOf n (lists .threads n .object) (idle j) (no-next n (ap (λ (state : ThreadState). chainNamed (phase-of state)) idle) j))
+      at (inr (inside, low, high)) = absurd (omega (arith, past, inside))
+
+  -- the fields of an object
+  word-in : (o : ℕ) → 1 ≤ o → o ≤ t .objectcount → WordFits (t .threadcount) o (decodeOf (objectAt t o .word))
+  word-in o low high =
+      subst (WordFits (t .threadcount) o) (sym (word-is (t .threadcount) (t .objectcount) t lists represents sound o low high))
+      (word-fits (t .threadcount) o (lists .objects o .word) (sound .sound o .word))
+
+  holder-in : (o : ℕ) → 1 ≤ o → o ≤ t .objectcount → objectAt t o .monitor .holder ≤ t .threadcount
+  holder-in o low high =
+      subst (λ (object : ObjectRecord). object .monitor .holder ≤ t .threadcount) (sym (represents .object-at o low high)) (sound .sound o .holder)
+
+  unheld-in : (o : ℕ) → 1 ≤ o → o ≤ t .objectcount → UnheldFits (objectAt t o .monitor)
+  unheld-in o low high =
+      subst (λ (object : ObjectRecord). UnheldFits (object .monitor)) (sym (represents .object-at o low high))
+      (λ unheld. (
+        sound .sound o .shallow unheld,
+        first-is (t .threadcount) (t .objectcount) t lists represents sound o entry-chain ∙ ap head (sound .sound o .empty unheld),
+      ))
+
+  clauses-hold : 1 ≤ t .threadcount → 1 ≤ t .objectcount → Sound t
+  clauses-hold some-thread some-object =
+      record {
+        sizes = ((some-thread, represents .thread-room), (some-object, represents .object-room));
+        words = word-in;
+        operations = λ n low high. thread-fits n low high .operation;
+        kept-words = λ n low high. thread-fits n low high .kept;
+        saved-depths = λ n low high. thread-fits n low high .saved;
+        holders = holder-in;
+        unheld = unheld-in;
+        chains-end = λ o low high. by-chain (λ k. follow (t .threadcount) (nextOf t) (firstAt t o k) ≡ 0) (chain-ends o low high);
+        chains-inside = λ o low high.
+            by-chain (λ k. (n : ℕ) → 0 < count n (chainAt t o k) → Within 1 (t .threadcount) n)
+            (λ chain n inside.
+            member-in (t .threadcount) (t .objectcount) lists sound chain o n (rw (chain-is o low high chain) at inside));
+        parked = parked-in;
+        no-others = λ o low high.
+            by-chain (λ k. (n : ℕ) → 0 < count n (chainAt t o k) → (threadAt t n .object ≡ o) × (threadChain (threadAt t n) ≡ k))
+            (members-named o low high);
+        threads-past = λ n low high. thread-past-empty n;
+        objects-past = λ o low high. represents .object-past o;
+        unused = λ n low high. thread-fits n low high .unused;
+      }
+
+pub represented-sound : (threads objects : ℕ) (t : Table) (lists : ListTable) → 1 ≤ threads → 1 ≤ objects → Represents threads objects t lists
+    → SoundTable threads objects lists → soundOf t ≡ true
+represented-sound threads objects t lists some-thread some-object represents sound =
+    -- the sizes are the table's
+    subst (λ (T : ℕ). 1 ≤ T → 1 ≤ objects → Represents T objects t lists → SoundTable T objects lists → soundOf t ≡ true) (represents .threadcount)
+    (subst (λ (N : ℕ). 1 ≤ t .threadcount → 1 ≤ N → Represents (t .threadcount) N t lists → SoundTable (t .threadcount) N lists → soundOf t ≡ true)
+    (represents .objectcount) (λ some-thread some-object represents sound. sound-of t (clauses-hold t lists represents sound some-thread some-object)))
+    some-thread some-object represents sound

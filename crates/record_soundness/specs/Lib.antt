@@ -1,0 +1,1 @@
+-- Nothing here has to be believed: all of it is in proofs/.
