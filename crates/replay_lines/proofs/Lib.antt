@@ -4,3 +4,5 @@ pub mod Grammar
 pub mod LineEnd
 pub mod LineLimit
 pub mod Lines
+pub mod Decimal
+pub mod ReadBack

@@ -1,23 +1,22 @@
 -- A line longer than the limit has no form: a number takes at most five digits, and a line has at most three.
 use Prim.Native.Nat.{ℕ, zero, suc, _+_, _-_, _*_, _≤_, _<_}
-use mathlib.Core.Path.{_≡_, refl}
+use mathlib.Core.Path.{_≡_, refl, sym}
 use mathlib.Core.Logic.{_≢_}
-use mathlib.Core.Bool.{Bool, true, false}
 use mathlib.Core.List.{List, [], _∷_}
 use native.Mathlib.Omega.{arith}
 use lib.Dec.{eqb, ltb}
 use lib.ListN.{length, drop, length-drop}
 use borrow.Author.Tests.{lt-ltb, eqb-false}
-use Rattle.laws.specs.Choice.{pick}
 use Rattle.laws.proofs.Choice.{by-test}
 use Rattle.replay_lines.specs.Bytes.{space, digit-zero, letter-L, letter-S}
 use Rattle.replay_lines.specs.Number.{number-limit, isDigit, appended, digitsFrom, numberOf, fieldOf}
-use Rattle.replay_lines.specs.Grammar.{number-then, field-then, endOf, stepOf, beginObjectOf, beginOf, headerReservedOf, headerObjectsOf, headerOf, operationOf, lineOf}
+use Rattle.replay_lines.specs.Grammar.{number-then, field-then, endOf, stepOf, beginObjectOf, beginOf, operationOf, lineOf}
+use Rattle.replay_lines.specs.Grammar.{headerReservedOf, headerObjectsOf, headerOf}
 use Rattle.replay_lines.specs.Cutting.{line-limit}
 use Rattle.replay_lines.specs.declared.number.Number.{Number}
 use Rattle.replay_lines.specs.declared.number.Number.the-variants.{Found, Absent}
 use Rattle.replay_lines.specs.declared.reading.Line.{Line}
-use Rattle.replay_lines.specs.declared.reading.Line.the-variants.{Header, Begin, Step, Malformed}
+use Rattle.replay_lines.specs.declared.reading.Line.the-variants.{Begin, Step, Malformed}
 use Rattle.replay_lines.proofs.Fields.{digit-low, size, size-pick, size-more}
 use Rattle.replay_lines.proofs.Grammar.{end-other}
 
@@ -70,7 +69,7 @@ field-long : (text : List ℕ) (next : ℕ → List ℕ → Line) (n : ℕ) → 
 field-long text next n = number-long (fieldOf text) text next n (field-short text)
 
 end-long : (text : List ℕ) (line : Line) → 1 < length text → endOf text line ≡ Malformed
-end-long text line long = mathlib.Core.Path.sym (end-other text line (λ one. omega arith))
+end-long text line long = sym (end-other text line (λ one. omega arith))
 
 step-long : (text : List ℕ) → 7 < length text → stepOf text ≡ Malformed
 unfolding stepOf

@@ -3,3 +3,4 @@ pub mod Bytes
 pub mod Number
 pub mod Grammar
 pub mod Cutting
+pub mod LineText

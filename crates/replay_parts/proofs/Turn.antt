@@ -60,7 +60,8 @@ module _ {S : Type 0} {replay : Replay S} {start : S} {input out₀ out : List �
             going .prints tail
             ∙ ap (λ (x : List ℕ). take wrote out ++ x)
             (ap (outputOf replay session)
-            (subst (λ (k : ℕ). linesOf (rest ++ tail) ≡ take k rest ∷ linesOf (drop k rest ++ tail)) (sym end) (line-split rest tail (λ none. some (end ∙ none))))
+            (subst (λ (k : ℕ). linesOf (rest ++ tail) ≡ take k rest ∷ linesOf (drop k rest ++ tail)) (sym end)
+            (line-split rest tail (λ none. some (end ∙ none))))
             ∙ ap (λ (x : S). replay .prints session line ++ outputOf replay x (after tail)) (sym moved))
             ∙ sym (append-assoc (take wrote out) (replay .prints session line) (outputOf replay session′ (after tail)))
             ∙ ap (λ (x : List ℕ). x ++ outputOf replay session′ (after tail)) (sym front);

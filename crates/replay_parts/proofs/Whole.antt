@@ -1,8 +1,8 @@
 -- The end of the input, and the parts joined: for every way of cutting, what is written is what the whole input prints.
-use Prim.Native.Nat.{ℕ, _≤_}
-use mathlib.Core.Path.{_≡_, refl, ap, sym, _∙_}
+use Prim.Native.Nat.{ℕ}
+use mathlib.Core.Path.{_≡_, ap, sym, _∙_}
 use mathlib.Core.Bool.{Bool, true, false}
-use mathlib.Core.List.{List, [], _∷_, _++_, append-nil}
+use mathlib.Core.List.{List, [], _++_, append-nil}
 use lib.ListN.{length, take, drop}
 use Rattle.replay_lines.specs.Cutting.{lineEnd, linesOf, later-lines}
 use Rattle.replay_lines.specs.Grammar.{lineOf}

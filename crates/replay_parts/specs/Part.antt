@@ -12,13 +12,14 @@ use Rattle.replay_parts.specs.Replay.{Replay, restOf}
 
 -- `used` bytes of the part were taken and `wrote` bytes written, and the session went on to `session′`, `inside′`.
 -- A part that has a whole line, or is longer than any line, is not left untouched if there is room for an answer.
-pub record Fed {S : Type 0} (replay : Replay S) (session : S) (inside : Bool) (input out : List ℕ) (session′ : S) (inside′ : Bool) (used wrote : ℕ) : Type 0 where
+pub record Fed {S : Type 0} (replay : Replay S) (session : S) (inside : Bool) (input out : List ℕ)
+    (session′ : S) (inside′ : Bool) (used wrote : ℕ) : Type 0 where
   pub used-within : used ≤ length input
   pub wrote-within : wrote ≤ length out
   pub prints : (tail : List ℕ) → restOf replay session inside (input ++ tail) ≡ take wrote out ++ restOf replay session′ inside′ (drop used input ++ tail)
   pub moves : line-room ≤ length out → (0 < lineEnd input) ⊎ (line-limit < length input) → 0 < used
 
--- unless there is no room for an answer, a part that is longer than any line has a whole line: its first line is not too long, or it is known to end
+-- a part that is longer than any line has a newline, unless there is no room for an answer anyway
 abbrev pub HasLine : List ℕ → List ℕ → Type 0
 HasLine input out = line-room ≤ length out → line-limit < length input → 0 < lineEnd input
 

@@ -8,7 +8,6 @@ use lib.ListN.{length, take}
 use Rattle.replay_lines.specs.Cutting.{lineEnd}
 use Rattle.replay_lines.specs.Grammar.{lineOf}
 use Rattle.replay_text.specs.Text.{line-room}
-use Rattle.replay_parts.specs.Replay.{Replay}
 use Rattle.replay_parts.specs.Part.{Fed, Ended}
 use Rattle.replay_session.specs.declared.session.Session.{Session}
 use Rattle.replay_session.specs.Session.{freshSession, session-replay}

@@ -62,6 +62,7 @@ fn put_word(out: &mut [u8], at: usize, word: u32) -> usize
     put_byte(out, behind, NEWLINE)
 }
 
+// All of an accepted event's line, where there is room for it.
 fn put_fields(out: &mut [u8], at: usize, returned: u8, phase: u8, woken: u8, word: u32) -> usize
     requires { ⌜ at + line-room ≤ length (now out) ⌝ }
     ensures { λ r. ⌜ Wrote (now (out .entry)) (now (out .exit)) at r (answerLine returned phase woken word) ⌝ }

@@ -1,6 +1,6 @@
 -- `replay_lines::number::read_digits` meets its contract: what is still to be read gives what the whole gives.
 use Prim.Native.Nat.{_≤_, _-_}
-use mathlib.Core.Path.{_≡_, sym, _∙_, refl}
+use mathlib.Core.Path.{_≡_, sym, _∙_}
 use native.Mathlib.Omega.{arith}
 use lib.ListN.{length, drop, getD}
 use borrow.Author.Needs.{needs}
@@ -19,51 +19,52 @@ abbrev μ-loop : tie.MeasureT-loop
 sub-widen : tie.Need-sub-widen Inv-loop μ-loop
 sub-widen c =
     let loop = c .before .before .before .before in
-    omega (arith, digit-low (getD (loop .before .before .args .text .now) (loop .loop .length) 0) (sym (c .before .is-digit .ensures) ∙ c .if1 .taken))
+    let byte = getD (loop .before .before .args .text .now) (loop .loop .length) 0 in
+    omega (arith, digit-low byte (sym (c .before .is-digit .ensures) ∙ c .if1 .taken))
 
 add-next : tie.Need-add-next Inv-loop μ-loop
 add-next c =
-    let tests = c .before in
-    let loop = tests .before .before .before .before in
-    omega (
-      arith,
-      digit-high (getD (loop .before .before .args .text .now) (loop .loop .length) 0) (sym (tests .before .is-digit .ensures) ∙ tests .if1 .taken),
-      c .widen .ensures,
-      loop .loop .inv .0,
-    )
+    let test = c .before in
+    let loop = test .before .before .before .before in
+    let byte = getD (loop .before .before .args .text .now) (loop .loop .length) 0 in
+    omega (arith, digit-high byte (sym (test .before .is-digit .ensures) ∙ test .if1 .taken), c .widen .ensures, loop .loop .inv .0)
 
 returns : tie.Need-returns Inv-loop μ-loop
 returns c =
-    let tests = c .before .before in
-    let loop = tests .before .before .before .before in
-    let digit = sym (tests .before .is-digit .ensures) ∙ tests .if1 .taken in
+    let test = c .before .before in
+    let inside = test .before .before .before in
+    let loop = inside .before in
+    let text = loop .before .before .args .text .now in
+    let digit = sym (test .before .is-digit .ensures) ∙ test .if1 .taken in
     let over = rw (c .before .widen .ensures) at (c .if2 .taken) in
-    sym (digits-over (loop .loop .value) (loop .loop .length) (loop .before .before .args .text .now) (tests .before .before .before .loop-test .taken) digit over)
-    ∙ loop .loop .inv .1
+    sym (digits-over (loop .loop .value) (loop .loop .length) text (inside .loop-test .taken) digit over) ∙ loop .loop .inv .1
 
 loop-again : tie.Need-loop-again Inv-loop μ-loop
 loop-again c =
-    let tests = c .before .before in
-    let loop = tests .before .before .before .before in
-    let digit = sym (tests .before .is-digit .ensures) ∙ tests .if1 .taken in
+    let test = c .before .before in
+    let inside = test .before .before .before in
+    let loop = inside .before in
+    let text = loop .before .before .args .text .now in
+    let digit = sym (test .before .is-digit .ensures) ∙ test .if1 .taken in
     let fits = rw (c .before .widen .ensures) at (c .if2 .left) in (
       c .if2 .left,
       rw (c .before .widen .ensures)
-          (sym (digits-more (loop .loop .value) (loop .loop .length) (loop .before .before .args .text .now) (tests .before .before .before .loop-test .taken) digit fits)
-          ∙ loop .loop .inv .1),
+          (sym (digits-more (loop .loop .value) (loop .loop .length) text (inside .loop-test .taken) digit fits) ∙ loop .loop .inv .1),
     )
 
 returns-2 : tie.Need-returns-2 Inv-loop μ-loop
 returns-2 c =
-    let loop = c .before .before .before .before in
+    let inside = c .before .before .before in
+    let loop = inside .before in
+    let text = loop .before .before .args .text .now in
     let other = sym (c .before .is-digit .ensures) ∙ c .if1 .left in
-    sym (digits-stop (loop .loop .value) (loop .loop .length) (loop .before .before .args .text .now) (c .before .before .before .loop-test .taken) other)
-    ∙ loop .loop .inv .1
+    sym (digits-stop (loop .loop .value) (loop .loop .length) text (inside .loop-test .taken) other) ∙ loop .loop .inv .1
 
 returns-3 : tie.Need-returns-3 Inv-loop μ-loop
 returns-3 c =
     let loop = c .before in
-    sym (digits-end (loop .loop .value) (loop .loop .length) (loop .before .before .args .text .now) (c .loop-test .left)) ∙ loop .loop .inv .1
+    let text = loop .before .before .args .text .now in
+    sym (digits-end (loop .loop .value) (loop .loop .length) text (c .loop-test .left)) ∙ loop .loop .inv .1
 
 pub read-digits-spec : {M : Type 1} → statement M
 read-digits-spec =

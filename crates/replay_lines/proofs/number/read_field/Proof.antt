@@ -1,8 +1,7 @@
 -- `replay_lines::number::read_field` meets its contract: the number behind the space, with one byte more.
-use Prim.Native.Nat.{_≤_}
 use mathlib.Core.Path.{sym, _∙_}
 use native.Mathlib.Omega.{arith}
-use lib.ListN.{length, drop, length-drop}
+use lib.ListN.{drop, length-drop}
 use borrow.Author.Needs.{needs}
 use borrow.Author.Tests.{eq-eqb, ne-eqb}
 use Rattle.replay_lines.specs.Number.{fieldOf}
@@ -30,7 +29,8 @@ add-length c =
     let read = c .before .before .before in
     let start = read .before .before .before .before .before .before in
     let text = start .args .text .now in
-    let fits : _ ≤ length (drop 1 text) = found-within (c .before .value .given .1) (rw (rest-of 1 text) at (read .read-number .ensures)) (number-within (drop 1 text)) in
+    let number = rw (rest-of 1 text) at (read .read-number .ensures) in
+    let fits = found-within (c .before .value .given .1) number (number-within (drop 1 text)) in
     omega (arith, fits, length-drop 1 text, start .good)
 
 returns-4 : tie.Need-returns-4

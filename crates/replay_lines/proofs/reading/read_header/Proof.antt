@@ -1,10 +1,22 @@
--- `replay_lines::reading::read_header` meets its contract: a field, then the rest.
+-- `replay_lines::reading::read_header` meets its contract: the threads, then the rest.
 use mathlib.Core.Path.{sym, _∙_}
 use borrow.Author.Needs.{needs}
 use Rattle.replay_lines.specs.Grammar.{headerOf}
 use Rattle.replay_lines.proofs.Grammar.{field-fits, field-next}
 use Rattle.replay_lines.proofs.reading.read_header.Statement.{statement}
 use Rattle.replay_lines.proofs.reading.read_header.Tie as tie
+
+fits : tie.Need-sub-read-header-objects
+fits c =
+    let read = c .before .before .before in
+    field-fits (read .before .before .args .text .now) (read .read-field .ensures) (c .before .value .given .1)
+
+returns-2 : tie.Need-returns-2
+unfolding headerOf
+returns-2 c =
+    let found = c .before .before .before in
+    let read = found .before .before in
+    c .read-header-objects .ensures ∙ field-next (read .before .before .args .text .now) (read .read-field .ensures) (found .value .given .1) _
 
 pub read-header-spec : {M : Type 1} → statement M
 unfolding headerOf
@@ -15,11 +27,8 @@ read-header-spec =
     (λ c. search needs)
     (λ c. search needs)
     (λ c. simp (sym (c .before .before .read-field .ensures) ∙ c .enum-told .given .1))
-    (λ c. let read = c .before .before .before in field-fits (read .before .before .args .text .now) (read .read-field .ensures) (c .before .value .given .1))
-    (λ c. let read = c .before .before .before in field-fits (read .before .before .args .text .now) (read .read-field .ensures) (c .before .value .given .1))
+    fits
+    fits
     (λ c. search needs)
     (λ c κs. tt)
-    (λ c.
-    let found = c .before .before .before in
-    let read = found .before .before in
-    c .read-header-objects .ensures ∙ field-next (read .before .before .args .text .now) (read .read-field .ensures) (found .value .given .1) _))
+    returns-2)

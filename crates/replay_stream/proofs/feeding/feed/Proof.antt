@@ -1,5 +1,4 @@
 -- `replay_stream::feeding::feed` meets its contract: the rest of an answered line, whole lines, or a line that is too long.
-use mathlib.Core.Path.{sym, _∙_}
 use native.Mathlib.Omega.{arith}
 use borrow.Author.Needs.{needs}
 use Rattle.replay_stream.proofs.feeding.feed.Statement.{statement}

@@ -9,7 +9,8 @@ returns c =
     let put = c .before .before in
     let react = put .before .before .before in
     let start = react .before .before .before .before in
-    turned (start .args .session) (start .pre) (start .args .line .now) (rw (react .before .read-line .ensures) at (react .react .ensures)) (put .put-answer .ensures)
+    let reacted = rw (react .before .read-line .ensures) at (react .react .ensures) in
+    turned (start .args .session) (start .pre) (start .args .line .now) reacted (put .put-answer .ensures)
 
 pub take-line-spec : {M : Type 1} → statement M
 take-line-spec =

@@ -26,12 +26,9 @@ digit-byte-requires c κs =
 loop-again : tie.Need-loop-again Inv-loop μ-loop
 loop-again c =
     let loop = c .before .before in
-    let args = loop .before .before .args in (
-      search needs,
-      simp (length-set) (loop .loop .inv .1),
-      rw (c .digit-byte .ensures)
-          (sym (digits-turn (loop .loop .left) (args .at) (args .base) (loop .loop .rest) (loop .loop .out) (c .before .loop-test .taken)) ∙ loop .loop .inv .2),
-    )
+    let args = loop .before .before .args in
+    let turn = digits-turn (loop .loop .left) (args .at) (args .base) (loop .loop .rest) (loop .loop .out) (c .before .loop-test .taken) in
+    (search needs, simp (length-set) (loop .loop .inv .1), rw (c .digit-byte .ensures) (sym turn ∙ loop .loop .inv .2))
 
 returns : tie.Need-returns Inv-loop μ-loop
 returns c =
