@@ -15,11 +15,10 @@ use lock_rules::Sight;
 use lock_rules::ThreadState;
 use lock_rules::WordChange;
 use lock_rules::WordSeen;
+use lock_word::COUNT_LIMIT;
 ghost use mathlib.Core.Path.{_≡_};
 ghost use Rattle.lock_rules.specs.Ownership.{owner-of};
 ghost use Rattle.lock_rules.specs.Rules.{owner-seen, enter-look, deflation, exit-owned, wait-owned, notify-owned, notify-all-owned, owner-only, enter-store, exit-store, cancel};
-
-const COUNT_LIMIT: u8 = 63;
 
 fn owner(word: WordSeen, holder: u8, depth: u16) -> u16
     ensures { λ r. ⌜ r ≡ owner-of word holder depth ⌝ }

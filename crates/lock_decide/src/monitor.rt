@@ -9,6 +9,7 @@ use lock_rules::Action;
 use lock_rules::Answer;
 use lock_rules::Carried;
 use lock_rules::ChainAction;
+use lock_rules::DEPTH_LIMIT;
 use lock_rules::Doing;
 use lock_rules::Sight;
 use lock_rules::Suspension;
@@ -16,8 +17,6 @@ use lock_rules::ThreadState;
 use lock_rules::WordSeen;
 ghost use mathlib.Core.Path.{_≡_};
 ghost use Rattle.lock_rules.specs.Rules.{onward, go-in-again, go-in, holder-only, enter-check, enter-try, exit-test, exit-tell, exit-leave, wait-inflate, wait-give-up, wait-resume};
-
-const DEPTH_LIMIT: u16 = 65535;
 
 fn onward(carried: Carried) -> Doing
     ensures { λ r. ⌜ r ≡ onward carried ⌝ }

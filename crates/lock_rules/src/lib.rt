@@ -1,6 +1,9 @@
 // What a thread is doing, what it sees of its object, and what a step decides: document 01, "The table" and "Steps".
 // Nothing here knows of tables or of the links of a chain.
 
+// The greatest depth of a monitor: an enter at it is 19.
+pub const DEPTH_LIMIT: u16 = 65535;
+
 // What a wait keeps from giving the monitor up until it resumes.
 pub struct Suspension {
     pub depth: u16, // saved depth

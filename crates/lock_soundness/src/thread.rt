@@ -1,11 +1,13 @@
 // What soundness asks of one thread's record. `phase` and `carried` are document 01's numbers of the thread's phase and of the one it carries.
 use crate::choice::implies;
 use crate::choice::within;
+use lock_rules::DEPTH_LIMIT;
 use lock_table::Operation;
 use lock_table::ThreadRecord;
 use lock_table::carried_number;
 use lock_table::operation_number;
 use lock_table::phase_number;
+use lock_word::COUNT_LIMIT;
 use lock_word::Decoded;
 use lock_word::LockWord;
 ghost use mathlib.Core.Path.{_≡_};
@@ -14,12 +16,9 @@ ghost use Rattle.lock_soundness.specs.Fields.{savedFits, chainNamed, thr
 ghost use Rattle.lock_soundness.specs.Fused.{usedThreadFits, threadFits};
 
 // The largest counts of a kept word: storing it adds one for enter and takes one off for exit.
-const ENTER_COUNT_LIMIT: u8 = 62;
+const ENTER_COUNT_LIMIT: u8 = COUNT_LIMIT - 1;
 
-const EXIT_COUNT_LIMIT: u8 = 63;
-
-// The deepest that a monitor can be held; no depth of this type is past it.
-const DEPTH_LIMIT: u16 = 65535;
+const EXIT_COUNT_LIMIT: u8 = COUNT_LIMIT;
 
 // The phases that each operation uses.
 fn uses_phase(operation: Operation, phase: u8) -> bool

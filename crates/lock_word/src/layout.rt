@@ -8,5 +8,7 @@ pub const NUMBER_UNIT: u32 = 256;
 pub const FIRST_BEYOND: u32 = 8388608;
 
 pub const COUNTS: u8 = 64;
+// the greatest count
+pub const COUNT_LIMIT: u8 = 63;
 
 pub const NUMBERS: u32 = 32768;

@@ -13,6 +13,7 @@ mod meaning;
 mod reading;
 mod writing;
 
+pub use layout::COUNT_LIMIT;
 pub use meaning::Ownership;
 pub use meaning::cancel;
 pub use meaning::owner_by_word;

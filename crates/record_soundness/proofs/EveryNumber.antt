@@ -3,28 +3,24 @@ use Prim.Native.Nat.{ℕ, zero, suc, _≤_, _<_}
 use mathlib.Core.Path.{_≡_, refl, sym, ap, _∙_, subst}
 use mathlib.Core.Logic.{_≢_, _⊎_, inl, inr}
 use mathlib.Core.Bool.{Bool, true, false}
-use mathlib.Core.List.{List, []}
 use native.Mathlib.Omega.{arith}
-use lib.Dec.{T, eqb, ltb, leb}
-use borrow.Author.Tests.{eq-eqb, ne-eqb, lt-ltb}
-use Rattle.laws.specs.Choice.{pick}
+use lib.Dec.{ltb, leb}
+use borrow.Author.Tests.{ne-eqb, lt-ltb}
 use Rattle.laws.specs.Count.{count}
 use Rattle.laws.proofs.Choice.{equal?, Below, below, AtMost, at-most}
 use Rattle.laws.proofs.Count.{count-none}
-use Rattle.chains.specs.Chain.{members}
 use Rattle.chains.proofs.Chain.{Chain as Linked, members-none, chain-once}
-use Rattle.lock_rules.specs.Numbers.{phase-of, phase-of-doing}
+use Rattle.lock_rules.specs.Numbers.{phase-of}
 use Rattle.lock_rules.specs.declared.Doing.{Doing}
 use Rattle.lock_rules.specs.declared.ThreadState.{ThreadState}
 use Rattle.lock_rules.specs.declared.ThreadState.the-variants.{Idle, Running}
 use Rattle.lock_rules.proofs.Tables.{ListThread, seen-from, seen-here}
 use Rattle.lock_rules.proofs.ListChains.{Chain, entry-chain, contention-chain, waiting-chain, times-in, seen-or-at}
 use Rattle.lock_table.specs.Limits.{thread-limit, object-limit}
-use Rattle.lock_table.specs.Phase.{phaseNumberOf, carriedNumberOf}
+use Rattle.lock_table.specs.Phase.{phaseNumberOf}
 use Rattle.lock_table.specs.Record.{noThread, noMonitor, noObject}
 use Rattle.lock_table.specs.Access.{threadAt, objectAt, nextOf}
 use Rattle.lock_table.specs.declared.record.ThreadRecord.{ThreadRecord}
-use Rattle.lock_table.specs.declared.record.ObjectRecord.{ObjectRecord}
 use Rattle.lock_table.specs.declared.record.Table.{Table}
 use Rattle.lock_table.proofs.Records.{thread-none, thread-past}
 use Rattle.lock_perform.specs.State.{stateOf}
@@ -43,7 +39,6 @@ use Rattle.record_soundness.proofs.Naming.{
   named-once,
   unnamed-never,
 }
-use Rattle.record_soundness.proofs.Fits.{ThreadFits}
 use Rattle.record_soundness.proofs.ReadBack.{IsWritten, fits-written, none-written, state-back, phase-back}
 
 -- a thread's record read as a thread of a table with lists

@@ -1,12 +1,12 @@
 -- What soundness asks of the fields of one thread record, and that a fine state is written so.
-use Prim.Native.Nat.{ℕ, _-_, _≤_, _<_}
+use Prim.Native.Nat.{ℕ, _-_, _≤_}
 use mathlib.Core.Path.{_≡_, refl}
 use mathlib.Core.Logic.{_≢_}
 use mathlib.Core.Bool.{Bool, true}
 use native.Mathlib.Omega.{arith}
-use lib.Dec.{T, eqb, leb}
+use lib.Dec.{T}
 use borrow.Author.Tests.{eq-eqb, le-leb}
-use Rattle.laws.specs.Choice.{pick, both, either, within}
+use Rattle.laws.specs.Choice.{within}
 use Rattle.lock_word.specs.Layout.{count-limit}
 use Rattle.lock_word.specs.Read.{decodeOf, threadNumber}
 use Rattle.lock_word.specs.Write.{encodeOf, InRange, reservedWord}

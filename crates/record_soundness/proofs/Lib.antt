@@ -3,6 +3,7 @@ pub mod Naming
 pub mod Fits
 pub mod ReadBack
 pub mod Words
+pub mod Depths
 pub mod RepresentedSound
 pub mod EveryNumber
 pub mod SoundRepresents

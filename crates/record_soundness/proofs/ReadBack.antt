@@ -1,15 +1,14 @@
 -- A thread record whose fields are as soundness asks is some fine state, written: the one that it is read as.
-use Prim.Native.Nat.{ℕ, _-_, _≤_, _<_}
-use mathlib.Core.Path.{_≡_, refl, sym, ap, _∙_, subst}
-use mathlib.Core.Logic.{_≢_, _⊎_, inl, inr}
-use mathlib.Core.Bool.{Bool, true, false, not}
+use Prim.Native.Nat.{ℕ, _<_}
+use mathlib.Core.Path.{_≡_, refl, sym, ap, _∙_}
+use mathlib.Core.Logic.{_≢_, inl, inr}
+use mathlib.Core.Bool.{Bool, true, not}
 use native.Mathlib.Omega.{arith}
 use lib.Dec.{T, eqb, ltb}
 use borrow.Author.Tests.{eqb-false, ltb-true, ne-eqb}
-use Rattle.laws.specs.Choice.{pick, both, either, within}
+use Rattle.laws.specs.Choice.{both, within}
 use Rattle.laws.proofs.Choice.{false≢true, both-first, both-second}
-use Rattle.lock_word.specs.Layout.{count-limit}
-use Rattle.lock_word.specs.Read.{decodeOf, threadNumber}
+use Rattle.lock_word.specs.Read.{decodeOf}
 use Rattle.lock_word.specs.Write.{encodeOf, reservedWord}
 use Rattle.lock_word.specs.declared.reading.LockWord.the-variants.{Free, Flat, Anonymous, Reserved, Fat}
 use Rattle.lock_word.specs.declared.reading.Decoded.{Decoded}
@@ -33,13 +32,14 @@ use Rattle.lock_table.specs.declared.operation.Operation.the-variants.{Idle as 
 use Rattle.lock_table.specs.declared.phase.Onward.the-variants.{ToCheck as OnToCheck, ToTell as OnToTell, ToInflate as OnToInflate, ToResume as OnToResume}
 use Rattle.lock_table.specs.declared.phase.Phase.{Phase}
 use Rattle.lock_table.specs.declared.phase.Phase.the-variants.{Idle as IdlePhase, Look, Store, Cancel, GoIn, Queued as QueuedPhase, Check, Try}
-use Rattle.lock_table.specs.declared.phase.Phase.the-variants.{Contending as ContendingPhase, Test, Tell, Leave, Inflate, GiveUp, Waiting as WaitingPhase, Resume}
+use Rattle.lock_table.specs.declared.phase.Phase.the-variants.{Contending as ContendingPhase, Test, Tell, Leave, Inflate, GiveUp}
+use Rattle.lock_table.specs.declared.phase.Phase.the-variants.{Waiting as WaitingPhase, Resume}
 use Rattle.lock_table.specs.declared.record.ThreadRecord.{ThreadRecord}
 use Rattle.lock_perform.specs.State.{threadWith, doingRecordOf, carriedRecordOf, recordOf, stateOf}
 use Rattle.lock_records.proofs.Written.{state-read, phase-written}
 use Rattle.lock_soundness.specs.Fields.{usesPhase, carriesPhase, operationFits, implies}
 use Rattle.lock_soundness.specs.Meaning.{Within, KeptCountFits, ReservedFor, SavesDepth}
-use Rattle.lock_soundness.proofs.Facts.{Reads, reads-map, reads-both, reads-ltb, reads-not}
+use Rattle.lock_soundness.proofs.Facts.{reads-both, reads-ltb, reads-not}
 use Rattle.lock_soundness.proofs.RecordReading.{reads-operation}
 use Rattle.record_soundness.proofs.Fits.{ThreadFits}
 
@@ -185,7 +185,7 @@ module _ (objects n o next kept saved : ℕ) where
       at Notify = notify
       at NotifyAll = notify-all
 
-  -- and what each of them is doing there
+  -- and what each of them is doing there; where an operation may not be in the phase, its test is false
   back : (phase : Phase) (operation : Operation) → Back phase operation
   unfolding usesPhase carriesPhase phaseNumberOf carriedNumberOf onwardNumberOf doingRecordOf carriedRecordOf recordOf
   back IdlePhase = idle

@@ -1,43 +1,32 @@
 -- A table of records that represents a sound table with lists passes the engine's test: so 11 never occurs where lists are kept sound.
 use Prim.Native.Nat.{ℕ, _≤_, _<_}
 use mathlib.Core.Path.{_≡_, refl, sym, ap, _∙_, subst}
-use mathlib.Core.Logic.{_≢_, _⊎_, inl, inr}
-use mathlib.Core.Bool.{Bool, true, false}
-use mathlib.Core.List.{List, []}
+use mathlib.Core.Logic.{_≢_, inl, inr}
+use mathlib.Core.Bool.{true}
 use native.Mathlib.Omega.{arith}
-use lib.Dec.{T, eqb}
-use lib.ListN.{length}
-use borrow.Author.Tests.{eqb-true, eq-eqb}
-use Rattle.laws.specs.Count.{count, one-if}
-use Rattle.laws.proofs.Choice.{equal?}
-use Rattle.chains.specs.Chain.{members}
+use lib.Dec.{T}
+use Rattle.laws.specs.Count.{count}
 use Rattle.chains.proofs.Chain.{Chain as Linked, head, chain-members}
-use Rattle.chains.proofs.Links.{Links}
 use Rattle.lock_word.specs.Read.{decodeOf}
 use Rattle.lock_rules.specs.Numbers.{phase-of}
 use Rattle.lock_rules.specs.Status.{unfinished}
 use Rattle.lock_rules.specs.declared.ThreadState.{ThreadState}
-use Rattle.lock_rules.specs.declared.ThreadState.the-variants.{Idle, Running, Queued, Contending, Waiting}
-use Rattle.lock_rules.proofs.Objects.{ListObject}
-use Rattle.lock_rules.proofs.Tables.{ListThread, ListTable, states-at, seen-here}
+use Rattle.lock_rules.proofs.Tables.{ListTable, states-at, seen-here}
 use Rattle.lock_rules.proofs.ListSound.{InTable, SoundTable}
 use Rattle.lock_rules.proofs.ListChains.{Chain, entry-chain, contention-chain, waiting-chain, chain-of, times-in, placed-in, member-at, member-in, short}
 use Rattle.lock_rules.proofs.ListChains.{out-of-chain}
-use Rattle.lock_table.specs.Limits.{thread-limit, object-limit}
-use Rattle.lock_table.specs.Phase.{phaseNumberOf}
-use Rattle.lock_table.specs.Record.{noThread, noObject}
+use Rattle.lock_table.specs.Record.{noThread}
 use Rattle.lock_table.specs.Access.{threadAt, objectAt, nextOf}
-use Rattle.lock_table.specs.declared.record.ThreadRecord.{ThreadRecord}
 use Rattle.lock_table.specs.declared.record.ObjectRecord.{ObjectRecord}
 use Rattle.lock_table.specs.declared.record.Table.{Table}
 use Rattle.lock_table.proofs.Walks.{next-none}
 use Rattle.lock_perform.specs.State.{recordOf}
 use Rattle.lock_records.proofs.Numbering.{number, lists-of, list-at, by-number}
 use Rattle.lock_records.proofs.Written.{phase-written}
-use Rattle.lock_records.proofs.Represents.{object-record, thread-record, Represents, next-is}
+use Rattle.lock_records.proofs.Represents.{thread-record, Represents, next-is}
 use Rattle.lock_records.proofs.Readings.{thread-is, home-is, first-is, word-is}
 use Rattle.lock_soundness.specs.Fields.{chainNamed, threadChain, firstIn}
-use Rattle.lock_soundness.specs.Sound.{phaseAt, carriedAt, firstAt, soundOf}
+use Rattle.lock_soundness.specs.Sound.{phaseAt, firstAt, soundOf}
 use Rattle.lock_soundness.specs.Meaning.{Within, follow, chainAt, WordFits, UnheldFits, Sound}
 use Rattle.lock_soundness.proofs.Chained.{chain-leads}
 use Rattle.lock_soundness.proofs.Reading.{sound-of}
@@ -47,7 +36,14 @@ use Rattle.record_soundness.proofs.Words.{word-fits}
 
 module _ (t : Table) (lists : ListTable) (represents : Represents (t .threadcount) (t .objectcount) t lists)
     (sound : SoundTable (t .threadcount) (t .objectcount) lists) where
-  -- a thread that is not idle is at an object of the table
+  -- a thread's record, and the object of one that is not idle
+  record-at : (n : ℕ) → threadAt t n ≡ thread-record n (lists .threads n) (represents .links .next n)
+  record-at = thread-is (t .threadcount) (t .objectcount) t lists represents sound
+
+  home-at : (n : ℕ) → T (unfinished (lists .threads n .state)) → threadAt t n .object ≡ lists .threads n .object
+  home-at = home-is (t .threadcount) (t .objectcount) t lists represents sound
+
+  -- which is one of the table
   home-in : (n : ℕ) → T (unfinished (lists .threads n .state)) → Within 1 (t .objectcount) (lists .threads n .object)
   home-in n busy = at (sound .range n)
     where
@@ -58,7 +54,7 @@ module _ (t : Table) (lists : ListTable) (represents : Represents (t .threadcoun
   -- the chain that its phase names
   named-is : (n : ℕ) → threadChain (threadAt t n) ≡ chainNamed (phase-of (lists .threads n .state))
   named-is n =
-      ap threadChain (thread-is (t .threadcount) (t .objectcount) t lists represents sound n)
+      ap threadChain (record-at n)
       ∙ ap chainNamed (phase-written n (lists .threads n .object) (lists .threads n .state) (represents .links .next n))
 
   -- where that is none, it is in none and has no next index
@@ -72,7 +68,7 @@ module _ (t : Table) (lists : ListTable) (represents : Represents (t .threadcoun
 
   thread-fits : (n : ℕ) → 1 ≤ n → n ≤ t .threadcount → ThreadFits (t .objectcount) n (threadAt t n)
   thread-fits n low high =
-      subst (ThreadFits (t .objectcount) n) (sym (thread-is (t .threadcount) (t .objectcount) t lists represents sound n))
+      subst (ThreadFits (t .objectcount) n) (sym (record-at n))
       (written-fits (t .objectcount) n (lists .threads n .object) (represents .links .next n) low (omega (arith, high, represents .thread-room))
       (lists .threads n .state) (sound .fine n) (home-in n) (no-next n))
 
@@ -114,7 +110,7 @@ module _ (t : Table) (lists : ListTable) (represents : Represents (t .threadcoun
         let names : chainNamed (phase-of (lists .threads n .state)) ≡ chain-number chain =
         in-named chain (lists .threads n .state) (omega (arith, member, counted chain n here)) in
         let busy = named-busy (lists .threads n .state) (λ none. omega (arith, none, names, chain-number-low chain)) in
-        (home-is (t .threadcount) (t .objectcount) t lists represents sound n busy ∙ here, named-is n ∙ names)
+        (home-at n busy ∙ here, named-is n ∙ names)
 
   -- a parked thread is in the chain that its phase names
   parked-in : (n : ℕ) → 1 ≤ n → n ≤ t .threadcount → threadChain (threadAt t n) ≢ 0
@@ -128,7 +124,7 @@ module _ (t : Table) (lists : ListTable) (represents : Represents (t .threadcoun
           let names : chainNamed (phase-of (lists .threads n .state)) ≡ chain-number chain = sym (named-is n) ∙ e in
           let busy = named-busy (lists .threads n .state) (λ none. omega (arith, none, names, chain-number-low chain)) in
           let (first, last) = home-in n busy in
-          rw (home-is (t .threadcount) (t .objectcount) t lists represents sound n busy, chain-is (lists .threads n .object) first last chain)
+          rw (home-at n busy, chain-is (lists .threads n .object) first last chain)
           (omega (arith, counted (lists .threads n .object) first last chain n refl, named-once chain (lists .threads n .state) names))
 
   -- records past the table's sizes
@@ -138,7 +134,7 @@ module _ (t : Table) (lists : ListTable) (represents : Represents (t .threadcoun
     where
       at : InTable (t .threadcount) (t .objectcount) n (lists .threads n) → threadAt t n ≡ noThread
       at (inl idle) =
-          thread-is (t .threadcount) (t .objectcount) t lists represents sound n
+          record-at n
           ∙ (λ j. recordOf n (lists .threads n .object) (idle j) (no-next n (ap (λ (state : ThreadState). chainNamed (phase-of state)) idle) j))
       at (inr (inside, low, high)) = absurd (omega (arith, past, inside))
 

@@ -3,7 +3,6 @@ use Prim.Native.Nat.{ℕ, _≤_, _<_}
 use mathlib.Core.Path.{_≡_, refl, sym, ap, _∙_, subst, fun-ext}
 use mathlib.Core.Logic.{_≢_, _⊎_, inl, inr}
 use mathlib.Core.Bool.{true}
-use mathlib.Core.List.{List, []}
 use native.Mathlib.Omega.{arith}
 use lib.Dec.{T}
 use lib.ListN.{length}
@@ -17,8 +16,8 @@ use Rattle.lock_rules.specs.Status.{unfinished}
 use Rattle.lock_rules.specs.declared.ThreadState.{ThreadState}
 use Rattle.lock_rules.specs.declared.ThreadState.the-variants.{Idle}
 use Rattle.lock_rules.proofs.Objects.{ListObject, object-of}
-use Rattle.lock_rules.proofs.Tables.{ListTable, states-at, seen-idle}
-use Rattle.lock_rules.proofs.ListSound.{StateFine, WordFine, SoundObject, InTable, SoundTable}
+use Rattle.lock_rules.proofs.Tables.{ListTable, seen-idle}
+use Rattle.lock_rules.proofs.ListSound.{StateFine, WordFine, InTable, SoundTable}
 use Rattle.lock_rules.proofs.ListChains.{Chain, entry-chain, contention-chain, waiting-chain, chain-of}
 use Rattle.lock_table.specs.Limits.{thread-limit, object-limit, depth-limit}
 use Rattle.lock_table.specs.Record.{noThread, noObject}
@@ -31,11 +30,12 @@ use Rattle.lock_records.proofs.Numbering.{number, lists-of, list-at, by-number}
 use Rattle.lock_records.proofs.Represents.{object-record, thread-record, Represents}
 use Rattle.lock_soundness.specs.Fields.{threadChain, firstIn}
 use Rattle.lock_soundness.specs.Sound.{phaseAt, firstAt, soundOf}
-use Rattle.lock_soundness.specs.Meaning.{Within, Each, chainAt, UnheldFits, Sound}
+use Rattle.lock_soundness.specs.Meaning.{Within, chainAt, UnheldFits, Sound}
 use Rattle.lock_soundness.proofs.Reading.{sound-reads}
 use Rattle.record_soundness.proofs.Naming.{chain-number, by-chain, one-chain, named-high, idle-or-busy}
-use Rattle.record_soundness.proofs.ReadBack.{IsWritten, state-back}
+use Rattle.record_soundness.proofs.ReadBack.{state-back}
 use Rattle.record_soundness.proofs.Words.{seen-in, word-back, no-word-fine}
+use Rattle.record_soundness.proofs.Depths.{DepthsFit}
 use Rattle.record_soundness.proofs.EveryNumber.{
   thread-read,
   thread-where,
@@ -47,10 +47,6 @@ use Rattle.record_soundness.proofs.EveryNumber.{
   parked-at,
   counted-at,
 }
-
--- no monitor is deeper than 65,535: true of every table of the code, whose depths are 16 bits wide, and not asked by the test
-abbrev pub DepthsFit : Table → Type 0
-DepthsFit t = Each (t .objectcount) (λ o. objectAt t o .monitor .depth ≤ depth-limit)
 
 -- the table with lists that a table is read as
 abbrev pub object-read : Table → ℕ → ListObject
@@ -77,6 +73,13 @@ links-read t = record { next = nextOf t; first = λ c. head (lists-of (object-re
 idle-none : stateOf noThread ≡ Idle
 unfolding stateBy
 idle-none = refl
+
+-- what the list object that a record is read as owes to soundness
+record ObjectFine (threads : ℕ) (object : ObjectRecord) : Type 0 where
+  word : WordFine threads (seen-in (decodeOf (object .word)))
+  holder : object .monitor .holder ≤ threads
+  deep : object .monitor .depth ≤ depth-limit
+  unheld : UnheldFits (object .monitor)
 
 module _ (t : Table) (sound : Sound t) where
   first-read : (o : ℕ) (chain : Chain) → links-read t .first (number o chain) ≡ firstAt t o (chain-number chain)
@@ -184,20 +187,20 @@ module _ (t : Table) (sound : Sound t) where
 
   -- and object by object
   module _ (depths : DepthsFit t) where
-    object-fine : (o : ℕ)
-        → WordFine (t .threadcount) (object-read t o .word) × (object-read t o .holder ≤ t .threadcount) × (object-read t o .depth ≤ depth-limit)
-        × UnheldFits (objectAt t o .monitor)
+    object-fine : (o : ℕ) → ObjectFine (t .threadcount) (objectAt t o)
     object-fine o = at (object-where t sound o)
       where
-        Fine : ObjectRecord → Type 0
-        Fine object =
-            WordFine (t .threadcount) (seen-in (decodeOf (object .word))) × (object .monitor .holder ≤ t .threadcount)
-            × (object .monitor .depth ≤ depth-limit) × UnheldFits (object .monitor)
-
-        at : Within 1 (t .objectcount) o ⊎ (objectAt t o ≡ noObject) → Fine (objectAt t o)
+        at : Within 1 (t .objectcount) o ⊎ (objectAt t o ≡ noObject) → ObjectFine (t .threadcount) (objectAt t o)
         at (inl (low, high)) =
-            (word-back (t .threadcount) o (objectAt t o .word) (sound .words o low high) .1, sound .holders o low high, depths o low high, sound .unheld o low high)
-        at (inr empty) = subst Fine (sym empty) (no-word-fine (t .threadcount), omega arith, omega arith, λ unheld. (refl, refl))
+            record {
+              word = word-back (t .threadcount) o (objectAt t o .word) (sound .words o low high) .1;
+              holder = sound .holders o low high;
+              deep = depths o low high;
+              unheld = sound .unheld o low high;
+            }
+        at (inr empty) =
+            subst (ObjectFine (t .threadcount)) (sym empty)
+            (record { word = no-word-fine (t .threadcount); holder = omega arith; deep = omega arith; unheld = λ unheld. (refl, refl) })
 
     sound-read : SoundTable (t .threadcount) (t .objectcount) (lists-read t)
     unfolding firstIn
@@ -206,19 +209,24 @@ module _ (t : Table) (sound : Sound t) where
           range = range-read;
           fine = fine-read;
           sound = λ o.
-              let (word, holder, deep, unheld) = object-fine o in
               record {
                 nobody = seen-idle o (thread-read t 0) (ap stateOf (thread-none t) ∙ idle-none);
                 placed = λ n.
-                    record { entry = counted-at t sound o entry-chain n; contention = counted-at t sound o contention-chain n; waiting = counted-at t sound o waiting-chain n };
-                word = word;
-                holder = holder;
-                deep = deep;
-                shallow = λ nobody. unheld nobody .0;
-                empty = λ nobody. ap (members (t .threadcount) (nextOf t)) (unheld nobody .1) ∙ members-none (t .threadcount) (nextOf t);
+                    record {
+                      entry = counted-at t sound o entry-chain n;
+                      contention = counted-at t sound o contention-chain n;
+                      waiting = counted-at t sound o waiting-chain n;
+                    };
+                word = object-fine o .word;
+                holder = object-fine o .holder;
+                deep = object-fine o .deep;
+                shallow = λ nobody. object-fine o .unheld nobody .0;
+                empty = λ nobody.
+                    ap (members (t .threadcount) (nextOf t)) (object-fine o .unheld nobody .1) ∙ members-none (t .threadcount) (nextOf t);
               };
         }
 
+-- the lengths are those of the code's arrays, the depths those of its 16 bits
 pub sound-represents : (t : Table) → length (t .threads) ≡ thread-limit → length (t .objects) ≡ object-limit → DepthsFit t → soundOf t ≡ true
     → (lists : ListTable) × Represents (t .threadcount) (t .objectcount) t lists × SoundTable (t .threadcount) (t .objectcount) lists
 sound-represents t threads-full objects-full depths sound =

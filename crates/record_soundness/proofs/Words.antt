@@ -1,9 +1,9 @@
 -- The word of an object: what soundness asks of its bits, and what a rule sees of them.
-use Prim.Native.Nat.{ℕ, _≤_, _<_}
+use Prim.Native.Nat.{ℕ}
 use mathlib.Core.Path.{_≡_, refl, sym, ap, _∙_}
 use native.Mathlib.Omega.{arith}
 use Rattle.lock_word.specs.Read.{decodeOf, flatOf}
-use Rattle.lock_word.specs.Write.{encodeOf, InRange}
+use Rattle.lock_word.specs.Write.{InRange}
 use Rattle.lock_word.specs.declared.reading.LockWord.the-variants.{Free, Flat, Anonymous, Reserved, Fat}
 use Rattle.lock_word.specs.declared.reading.Decoded.{Decoded}
 use Rattle.lock_word.specs.declared.reading.Decoded.the-variants.{Valid, Invalid}
