@@ -52,15 +52,9 @@ fn write_back(
         monitor: monitor,
         flag: flag,
     };
-    set_object(
-        set_thread(
-            table,
-            thread,
-            write_thread(thread, object, state, before.next),
-        ),
-        object,
-        after,
-    )
+    let own = write_thread(thread, object, state, before.next);
+    let written = set_thread(table, thread, own);
+    set_object(written, object, after)
 }
 
 // The table after an effect of `thread` at the object with this number and record.
