@@ -113,6 +113,29 @@ pub fn schedule(seed: u64) -> Vec<u8> {
     let mut random = Random::new(seed);
     let plan = Plan::draw(&mut random);
     let burst = Burst::at_the_start(&mut random, &plan);
+    planned(random, plan, burst)
+}
+
+/// A long schedule for benchmarks: so many events of so many threads that collide over so many objects.
+pub fn long_schedule(seed: u64, length: u64, threads: u8, objects: u8) -> Vec<u8> {
+    let plan = Plan {
+        threads,
+        objects,
+        reserved: true,
+        busy_threads: (1..=threads).collect(),
+        // With one busy object and no waits the threads cannot block each other for good.
+        busy_objects: vec![1],
+        length,
+        sticky: 30,
+        stray: 0,
+        noise: 0,
+        burst: 0,
+        wait: 0,
+    };
+    planned(Random::new(seed), plan, None)
+}
+
+fn planned(random: Random, plan: Plan, burst: Option<Burst>) -> Vec<u8> {
     let table = Table::fresh(plan.threads.into(), plan.objects.into(), plan.reserved);
     let mut generator = Generator {
         random,
