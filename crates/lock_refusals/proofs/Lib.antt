@@ -1,0 +1,9 @@
+-- Demand 1 of the engine's definitions.
+pub mod Rows
+pub mod RuleEnds
+pub mod StepEnds
+pub mod IdleAgain
+pub mod Ended
+pub mod Begins
+pub mod Steps
+pub mod Theorem

@@ -1,0 +1,127 @@
+-- How every step of a thread that can take one ends, by the rows of document 01's list.
+use Prim.Native.Nat.{ℕ, _≤_}
+use mathlib.Core.Path.{_≡_, refl, sym, _∙_}
+use mathlib.Core.Logic.{_≢_}
+use mathlib.Core.Bool.{Bool, true, false}
+use mathlib.Core.List.{List, [], _∷_}
+use lib.Dec.{eqb}
+use Rattle.laws.specs.Choice.{pick}
+use Rattle.lock_word.specs.Meaning.{unowned, ownershipOf}
+use Rattle.lock_word.specs.declared.reading.LockWord.{LockWord}
+use Rattle.lock_word.specs.declared.reading.LockWord.the-variants.{Free, Flat, Anonymous, Reserved, Fat}
+use Rattle.lock_word.specs.declared.reading.Decoded.the-variants.{Valid}
+use Rattle.lock_rules.specs.Limits.{depth-limit}
+use Rattle.lock_rules.specs.Ownership.{owner-of}
+use Rattle.lock_rules.specs.Rules.{owner-seen, decide}
+use Rattle.lock_rules.specs.declared.Carried.the-variants.{ToTell, ToInflate}
+use Rattle.lock_rules.specs.declared.Doing.{Doing}
+use Rattle.lock_rules.specs.declared.Doing.the-variants.{EnterLook, EnterStore, EnterCancel, EnterGoIn, EnterCheck, EnterTry, ExitLook}
+use Rattle.lock_rules.specs.declared.Doing.the-variants.{ExitStore, ExitGoIn, ExitTest, ExitTell, ExitLeave, WaitLook, WaitCancel, WaitGoIn}
+use Rattle.lock_rules.specs.declared.Doing.the-variants.{WaitInflate, WaitGiveUp, WaitResume, NotifyLook, NotifyAllLook}
+use Rattle.lock_rules.specs.declared.Sight.{Sight}
+use Rattle.lock_table.specs.Operation.{operationNumberOf}
+use Rattle.lock_table.specs.Phase.{phaseNumberOf}
+use Rattle.lock_table.specs.declared.record.Monitor.{Monitor}
+use Rattle.lock_table.specs.declared.record.ObjectRecord.{ObjectRecord}
+use Rattle.lock_table.specs.declared.record.Table.{Table}
+use Rattle.lock_perform.specs.State.{doingRecordOf}
+use Rattle.lock_perform.specs.Sight.{seenOf, sightOf}
+use Rattle.lock_records.specs.Agrees.{ownership-in}
+use Rattle.lock_refusals.specs.Refusals.{Row, row, first-applies, parked, not-the-owner, too-deep, unruled}
+use Rattle.lock_refusals.proofs.RuleEnds.{
+  Ends,
+  Ordinary,
+  ordinary-ends,
+  enter-look-ordinary,
+  enter-store-ordinary,
+  exit-store-ordinary,
+  cancel-ordinary,
+  exit-test-ordinary,
+  exit-tell-ordinary,
+  go-in-ordinary,
+  tell-again-ordinary,
+  inflate-again-ordinary,
+  enter-check-ordinary,
+  enter-try-ordinary,
+  exit-leave-ordinary,
+  wait-inflate-ordinary,
+  wait-give-up-ordinary,
+  wait-resume-ordinary,
+  holder-ordinary,
+  exit-ordinary,
+  wait-ordinary,
+  notify-ordinary,
+  notify-all-ordinary,
+  owner-ends,
+  go-in-ends,
+}
+
+-- a step's refusals from 15 on, of a thread with this operation and phase; `none` says that no rule fits
+abbrev pub rule-refusals : ℕ → ℕ → ℕ → ℕ → Monitor → Bool → List Row
+rule-refusals thread operation phase owner monitor none =
+    row 15 (eqb phase 0)
+    ∷ row 16 (parked phase)
+    ∷ row 18 (not-the-owner thread operation phase owner)
+    ∷ row 19 (too-deep thread operation phase monitor)
+    ∷ row 20 none
+    ∷ []
+
+owned : (thread depth : ℕ) (none : Bool) → pick none unowned (record { thread = thread; depth = depth }) .thread ≡ pick none 0 thread
+owned thread depth true = refl
+owned thread depth false = refl
+
+-- the owner by an object's word is the one that the rules see
+owner-is : (word : LockWord) (monitor : Monitor) → ownership-in (Valid word) monitor .thread ≡ owner-of (seenOf word) (monitor .holder) (monitor .depth)
+unfolding ownershipOf seenOf
+owner-is Free monitor = refl
+owner-is (Flat thread count) monitor = refl
+owner-is Anonymous monitor = refl
+owner-is (Reserved thread count) monitor = owned (thread .0) count (eqb count 0)
+owner-is (Fat number) monitor = owned (monitor .holder) (monitor .depth) (eqb (monitor .depth) 0)
+
+-- what a thread of this number sees of an object, doing this
+module _ (table : Table) (object : ObjectRecord) (word : LockWord) (thread : ℕ) (some : thread ≢ 0) (small : object .monitor .depth ≤ depth-limit) where
+  abbrev sight : Sight
+  sight = sightOf table object word
+
+  -- the record of such a thread, at an object with this owner, ends as its list says
+  abbrev Decided : ℕ → ℕ → ℕ → Doing → Type 0
+  Decided o next owner doing =
+      let own = doingRecordOf thread o doing next in
+      let action = decide thread sight doing in
+      Ends sight action
+      (first-applies
+      (rule-refusals thread (operationNumberOf (own .operation)) (phaseNumberOf (own .phase)) owner (object .monitor) (unruled action)))
+
+  owned-word : owner-seen sight ≡ thread → owner-seen sight ≢ 0
+  owned-word same none = some (sym same ∙ none)
+
+  plain : (doing : Doing) → let action = decide thread sight doing in Ordinary action → Ends sight action (pick (unruled action) 20 0)
+  plain doing = ordinary-ends sight (decide thread sight doing)
+
+  seen-ends : (o next : ℕ) (doing : Doing) → Decided o next (owner-seen sight) doing
+  unfolding decide doingRecordOf phaseNumberOf operationNumberOf
+  seen-ends o next EnterLook = plain EnterLook (enter-look-ordinary thread sight (sight .word))
+  seen-ends o next (EnterStore count) = plain (EnterStore count) (enter-store-ordinary sight count)
+  seen-ends o next EnterCancel = plain EnterCancel (cancel-ordinary sight EnterLook (sight .word))
+  seen-ends o next EnterGoIn = go-in-ends thread sight some small
+  seen-ends o next EnterCheck = plain EnterCheck (holder-ordinary thread sight _ (enter-check-ordinary thread sight (sight .word)))
+  seen-ends o next EnterTry = plain EnterTry (holder-ordinary thread sight _ (enter-try-ordinary thread sight (sight .word)))
+  seen-ends o next ExitLook = owner-ends thread sight (owner-seen sight) _ (λ same. exit-ordinary sight (sight .word) (owned-word same))
+  seen-ends o next (ExitStore count) = plain (ExitStore count) (exit-store-ordinary sight count)
+  seen-ends o next ExitGoIn = plain ExitGoIn (go-in-ordinary thread sight ToTell (tell-again-ordinary sight))
+  seen-ends o next ExitTest = plain ExitTest (exit-test-ordinary sight)
+  seen-ends o next ExitTell = plain ExitTell (holder-ordinary thread sight _ (exit-tell-ordinary sight))
+  seen-ends o next ExitLeave = plain ExitLeave (holder-ordinary thread sight _ (exit-leave-ordinary sight))
+  seen-ends o next WaitLook = owner-ends thread sight (owner-seen sight) _ (λ same. wait-ordinary sight (sight .word) (owned-word same))
+  seen-ends o next WaitCancel = plain WaitCancel (cancel-ordinary sight WaitLook (sight .word))
+  seen-ends o next WaitGoIn = plain WaitGoIn (go-in-ordinary thread sight ToInflate (inflate-again-ordinary sight))
+  seen-ends o next WaitInflate = plain WaitInflate (holder-ordinary thread sight _ (wait-inflate-ordinary thread sight (sight .word)))
+  seen-ends o next WaitGiveUp = plain WaitGiveUp (holder-ordinary thread sight _ (wait-give-up-ordinary sight (sight .word)))
+  seen-ends o next (WaitResume suspension) =
+      plain (WaitResume suspension) (holder-ordinary thread sight _ (wait-resume-ordinary sight suspension (sight .word)))
+  seen-ends o next NotifyLook = owner-ends thread sight (owner-seen sight) _ (λ same. notify-ordinary sight (sight .word) (owned-word same))
+  seen-ends o next NotifyAllLook = owner-ends thread sight (owner-seen sight) _ (λ same. notify-all-ordinary sight (sight .word) (owned-word same))
+
+  pub decide-ends : (o next : ℕ) (doing : Doing) → Decided o next (ownership-in (Valid word) (object .monitor) .thread) doing
+  decide-ends o next doing = rw (owner-is word (object .monitor)) (seen-ends o next doing)

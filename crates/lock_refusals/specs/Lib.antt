@@ -1,0 +1,3 @@
+-- What is claimed of refused events.
+pub mod Refusals
+pub mod Demand

@@ -1,0 +1,112 @@
+-- The refusals of document 01 ("Returned first") as ordered lists of a number and when it applies. They speak of a table's records and of the rules,
+-- and not of the begin and the step.
+use Prim.Native.Nat.{ℕ}
+use mathlib.Core.Path.{_≡_}
+use mathlib.Core.Logic.{_⊎_}
+use mathlib.Core.Bool.{Bool, true, false, not}
+use mathlib.Core.List.{List, [], _∷_}
+use lib.Dec.{eqb}
+use Rattle.laws.specs.Choice.{pick, both, either, within}
+use Rattle.lock_word.specs.Read.{decodeOf}
+use Rattle.lock_word.specs.declared.reading.Decoded.{Decoded}
+use Rattle.lock_word.specs.declared.reading.Decoded.the-variants.{Valid, Invalid}
+use Rattle.lock_rules.specs.Rules.{decide}
+use Rattle.lock_rules.specs.declared.Doing.{Doing}
+use Rattle.lock_rules.specs.declared.ThreadState.{ThreadState}
+use Rattle.lock_rules.specs.declared.ThreadState.the-variants.{Idle, Running, Queued, Contending, Waiting}
+use Rattle.lock_rules.specs.declared.Action.{Action}
+use Rattle.lock_rules.specs.declared.Action.the-variants.{Unruled, Do}
+use Rattle.lock_table.specs.Limits.{depth-limit}
+use Rattle.lock_table.specs.Operation.{operationNumberOf}
+use Rattle.lock_table.specs.Access.{threadAt, objectAt}
+use Rattle.lock_table.specs.declared.record.Monitor.{Monitor}
+use Rattle.lock_table.specs.declared.record.ObjectRecord.{ObjectRecord}
+use Rattle.lock_table.specs.declared.record.Table.{Table}
+use Rattle.lock_perform.specs.State.{stateOf}
+use Rattle.lock_perform.specs.Sight.{sightOf}
+use Rattle.lock_soundness.specs.Sound.{soundOf}
+use Rattle.lock_records.specs.Agrees.{ownership-at, phase-at}
+
+-- one refusal: its number, and whether it applies
+pub record Row : Type 0 where
+  pub number : ℕ
+  pub applies : Bool
+
+abbrev pub row : ℕ → Bool → Row
+row number applies = record { number = number; applies = applies }
+
+-- the number of the first row that applies, 0 if none does
+abbrev pub first-applies : List Row → ℕ
+first-applies [] = 0
+first-applies (first ∷ rest) = pick (first .applies) (first .number) (first-applies rest)
+
+-- the same two as propositions: this number is that of the first row that applies; no row applies
+abbrev pub IsFirst : ℕ → List Row → Type 0
+IsFirst number [] = ⊥
+IsFirst number (first ∷ rest) =
+    ((first .applies ≡ true) × (first .number ≡ number)) ⊎ ((first .applies ≡ false) × IsFirst number rest)
+
+abbrev pub NoneApplies : List Row → Type 0
+NoneApplies [] = Unit {0}
+NoneApplies (first ∷ rest) = (first .applies ≡ false) × NoneApplies rest
+
+-- thread n's operation by its number, and the object that it is on
+abbrev pub operation-at : Table → ℕ → ℕ
+operation-at table n = operationNumberOf (threadAt table n .operation)
+
+abbrev pub home-at : Table → ℕ → ℕ
+home-at table n = threadAt table n .object
+
+-- "11, 12; begin then 17, 13, 14"
+abbrev pub begin-refusals : Table → ℕ → ℕ → ℕ → List Row
+begin-refusals table thread operation object =
+    row 11 (not (soundOf table))
+    ∷ row 12 (not (within 1 (table .threadcount) thread))
+    ∷ row 17 (not (within 1 5 operation))
+    ∷ row 13 (not (within 1 (table .objectcount) object))
+    ∷ row 14 (not (eqb (phase-at table thread) 0))
+    ∷ []
+
+-- 16: "thread parked (phase 5, 8, 14)"
+abbrev pub parked : ℕ → Bool
+parked phase = either (eqb phase 5) (either (eqb phase 8) (eqb phase 14))
+
+-- 18: "exit, wait, notify: not the owner". An exit, a wait or either notify is in phase 1, and the object's owner by its word is not the thread.
+abbrev pub not-the-owner : ℕ → ℕ → ℕ → ℕ → Bool
+not-the-owner thread operation phase owner = both (within 2 5 operation) (both (eqb phase 1) (not (eqb owner thread)))
+
+-- 19: "enter at depth 65,535". An enter is in phase 4, and the thread is holder at that depth.
+abbrev pub too-deep : ℕ → ℕ → ℕ → Monitor → Bool
+too-deep thread operation phase monitor =
+    both (eqb operation 1) (both (eqb phase 4) (both (eqb (monitor .holder) thread) (eqb (monitor .depth) depth-limit)))
+
+-- 20: "the step has no rule", by the rules, for what the thread is doing and what it sees of its object
+abbrev pub unruled : Action → Bool
+unruled Unruled = true
+unruled (Do effect) = false
+
+abbrev pub no-rule-seeing : Table → ℕ → ObjectRecord → Doing → Decoded → Bool
+no-rule-seeing table thread object doing Invalid = false
+no-rule-seeing table thread object doing (Valid word) = unruled (decide thread (sightOf table object word) doing)
+
+abbrev pub no-rule : Table → ℕ → ObjectRecord → ThreadState → Bool
+no-rule table thread object Idle = false
+no-rule table thread object (Running doing) = no-rule-seeing table thread object doing (decodeOf (object .word))
+no-rule table thread object (Queued carried) = false
+no-rule table thread object Contending = false
+no-rule table thread object (Waiting suspension) = false
+
+-- "11, 12; step then 15, 16, then its rule"
+abbrev pub step-refusals : Table → ℕ → List Row
+step-refusals table thread =
+    let phase = phase-at table thread in
+    let operation = operation-at table thread in
+    let home = home-at table thread in
+    row 11 (not (soundOf table))
+    ∷ row 12 (not (within 1 (table .threadcount) thread))
+    ∷ row 15 (eqb phase 0)
+    ∷ row 16 (parked phase)
+    ∷ row 18 (not-the-owner thread operation phase (ownership-at table home .thread))
+    ∷ row 19 (too-deep thread operation phase (objectAt table home .monitor))
+    ∷ row 20 (no-rule table thread (objectAt table home) (stateOf (threadAt table thread)))
+    ∷ []
