@@ -1,0 +1,57 @@
+#!/bin/sh
+# Input that no schedule has: very long lines, very many empty ones, noise, damaged headers, an output that is closed.
+# tests/bad_input.sh PROGRAM REFERENCE; the last line is 'N passed, M failed'.
+set -u
+program=$1 reference=$2
+work=$(mktemp -d) || exit 2
+trap 'rm -rf "$work"' EXIT
+passed=0 failed=0
+
+check() {
+    if [ "$2" = "$3" ]; then
+        passed=$((passed + 1))
+    else
+        failed=$((failed + 1))
+        echo "bad input: $1: expected '$3', found '$2'"
+    fi
+}
+
+# both programs print the same for the file
+same() {
+    "$program" <"$2" >"$work/found"
+    "$reference" <"$2" >"$work/expected"
+    if cmp -s "$work/found" "$work/expected"; then check "$1" same same; else check "$1" different same; fi
+}
+
+# A line of 100 MB is malformed, costs no memory, and the next line is read.
+found=$({ printf 'L 1 1 0\n'; head -c 100000000 /dev/zero | tr '\0' 'E'; printf '\nE 1 1\n'; } | "$program" | tr '\n' ';')
+check 'a line of 100 MB' "$found" '21;0 1 0 000000;'
+found=$(head -c 100000000 /dev/zero | tr '\0' 'L' | "$program" | tr '\n' ';')
+check 'a header of 100 MB' "$found" '21;'
+
+# A million empty lines are a million times 21, and none is lost.
+found=$({ printf 'L 1 1 0\n'; yes '' | head -n 1000000; printf 'E 1 1\n'; } | "$program" | sort | uniq -c | awk '{ printf "%s*%s;", $1, $2 }')
+check 'a million empty lines' "$found" '1*0;1000000*21;'
+
+# Bytes of all kinds, with and without a good header before them.
+awk 'BEGIN { s = 1; for (i = 0; i < 400000; i++) { s = (s * 69069 + 1) % 4294967296; printf "%c", int(s / 65536) % 256 } }' >"$work/noise"
+same 'noise' "$work/noise"
+{ printf 'L 3 2 1\n'; cat "$work/noise"; } >"$work/headed"
+same 'noise behind a header' "$work/headed"
+
+# Headers damaged in one place each.
+for header in '' ' ' 'L' 'L 1 1' 'L 1 1 0 ' ' L 1 1 0' 'L 1 1 2' 'L 01 1 0' 'L 1 1 0 0' 'l 1 1 0' 'L 65536 1 0' 'L 33 1 0' 'L 0 1 0' 'L 1 65 1' 'L	1 1 0' 'E 1 1' 'L 1 1 0\r'; do
+    printf "$header\nE 1 1\nS 1\n" >"$work/header"
+    same "header '$header'" "$work/header"
+done
+printf 'L 1 1 0' >"$work/header"
+same 'a header without its newline' "$work/header"
+
+# A reader that goes away ends the run.
+{ printf 'L 1 1 0\n'; yes 'E 1 1' | head -n 3000000; } >"$work/long"
+timeout 20 sh -c '"$1" <"$2" | head -n 1 >"$3"' sh "$program" "$work/long" "$work/first"
+check 'a closed output, status' "$?" 0
+check 'a closed output, first line' "$(cat "$work/first")" '0 1 0 000000'
+
+echo "$passed passed, $failed failed"
+[ "$failed" -eq 0 ]
