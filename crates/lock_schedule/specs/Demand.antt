@@ -14,13 +14,16 @@ use Rattle.lock_soundness.specs.Sound.{soundOf}
 use Rattle.lock_records.specs.Agrees.{Agrees, Ruled}
 use Rattle.lock_schedule.specs.Schedule.{eventOf, finalOf, shownOf}
 
--- For every schedule from any fresh table: the plain monitors, fed what the schedule showed, agree with the table it came to, and every event had
+-- What is claimed of one schedule and the table that it came to: the plain monitors, fed what it showed, agree with that table, and every event had
 -- a rule.
+abbrev pub Claim : Table → List Event → Table → Type 0
+Claim first events last = Agrees last (feed-all blank (shownOf first events)) × Ruled (shownOf first events)
+
+-- The claim holds of every schedule from any fresh table.
 abbrev pub DemandThree : Type 0
 DemandThree =
     (threads objects : ℕ) → 1 ≤ threads → threads ≤ thread-limit → 1 ≤ objects → objects ≤ object-limit → (reserved : Bool) (events : List Event)
-    → let table = freshOf threads objects reserved .table in
-    Agrees (finalOf table events) (feed-all blank (shownOf table events)) × Ruled (shownOf table events)
+    → let table = freshOf threads objects reserved .table in Claim table events (finalOf table events)
 
 -- what the types of the code give every table: its arrays have these lengths, and depths have 16 bits
 pub record Whole (table : Table) : Type 0 where
