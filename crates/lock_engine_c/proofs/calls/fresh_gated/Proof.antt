@@ -1,0 +1,16 @@
+-- `lock_engine_c::calls::fresh_gated` meets its contract: with the right number of bytes the table is kept.
+use borrow.Author.Needs.{needs}
+use Rattle.lock_engine_c.proofs.calls.fresh_gated.Statement.{statement}
+use Rattle.lock_engine_c.proofs.calls.fresh_gated.Tie as tie
+
+pub fresh-gated-spec : {M : Type 1} → statement M
+fresh-gated-spec =
+    tie.close
+    (tie.spec
+    (λ c κs. tt)
+    (λ c. search needs)
+    (λ c.
+    let kept = c .before .before in
+    let fits = kept .before .before .before .if1 .taken in
+    (simp (kept .keep-made .ensures .0, fits), simp (kept .keep-made .ensures .1, fits)))
+    (λ c. (simp (c .if1 .left), simp (c .if1 .left))))

@@ -1,0 +1,15 @@
+-- `lock_engine_c::calls::narrow` meets its contract: each way through the code is that of the definition.
+use borrow.Author.Needs.{needs}
+use borrow.Author.Tests.{le-ltb, lt-ltb}
+use Rattle.lock_engine_c.specs.Calls.{narrowOf}
+use Rattle.lock_engine_c.proofs.calls.narrow.Statement.{statement}
+use Rattle.lock_engine_c.proofs.calls.narrow.Tie as tie
+
+pub narrow-spec : {M : Type 1} → statement M
+unfolding narrowOf
+narrow-spec =
+    tie.close
+    (tie.spec
+    (λ c. simp (lt-ltb _ _ (c .if1 .taken)))
+    (λ c. search needs)
+    (λ c. simp (le-ltb _ _ (c .if1 .left))))

@@ -1,0 +1,22 @@
+-- `lock_engine_c::calls::step_gated` meets its contract: on a table, the engine's step on what the bytes say.
+use borrow.Author.Needs.{needs}
+use Rattle.lock_engine_c.proofs.calls.step_gated.Statement.{statement}
+use Rattle.lock_engine_c.proofs.calls.step_gated.Tie as tie
+
+pub step-gated-spec : {M : Type 1} → statement M
+step-gated-spec =
+    tie.close
+    (tie.spec
+    (λ c κs. tt)
+    (λ c κs. tt)
+    (λ c κs. tt)
+    (λ c. search needs)
+    (λ c.
+    let settled = c .before .before in
+    let asked = settled .before in
+    let read = asked .before .before in
+    let known = read .before .before .if1 .taken in (
+      simp (settled .settle .ensures .0, asked .step .ensures, read .read-table .ensures, known),
+      simp (settled .settle .ensures .1, asked .step .ensures, read .read-table .ensures, known),
+    ))
+    (λ c. (simp (c .if1 .left), simp (c .if1 .left))))

@@ -1,0 +1,160 @@
+// The calls that change a table: a fresh one, a begin, a step. Each reads the bytes, asks the engine and writes what it gave back.
+use crate::layout::TABLE_SIZE;
+use crate::reading::is_table;
+use crate::reading::read_table;
+use crate::writing::write_table;
+use lock_engine::Outcome;
+use lock_engine::begin;
+use lock_engine::returned;
+use lock_engine::step;
+use lock_engine::woken;
+use lock_table::FreshAnswer;
+use lock_table::FreshTable;
+use lock_table::Table;
+use lock_table::fresh;
+ghost use mathlib.Core.Path.{_≡_};
+ghost use Rattle.lock_table.specs.Fresh.{freshReturnedOf};
+ghost use Rattle.lock_engine.specs.Begin.{beginOf};
+ghost use Rattle.lock_engine.specs.Step.{stepOf};
+ghost use Rattle.lock_engine_c.specs.Layout.{table-size};
+ghost use Rattle.lock_engine_c.specs.Reading.{isTable, tableOf};
+ghost use Rattle.lock_engine_c.specs.Writing.{keptOver};
+ghost use Rattle.lock_engine_c.specs.Calls.{narrowOf, packedOf, outcomeAnswer, eventAnswer, eventBytes, eventOver};
+ghost use Rattle.lock_engine_c.specs.Calls.{begunOn, steppedOn, freshOn, has-size, madeOver, freshAnswer, freshBytes, freshOver};
+
+// Document 01's number for bytes that are no table.
+const NOT_SOUND: u32 = 11;
+
+const WOKEN_UNIT: u32 = 256;
+
+const COMMITS_UNIT: u32 = 65536;
+
+// A number as the engine takes it: 255 stands for all larger ones, and is no thread, object or operation.
+pub fn narrow(number: u32) -> u8
+    ensures { λ r. ⌜ r ≡ narrowOf number ⌝ }
+{
+    if 255 < number {
+        return 255;
+    }
+    number as u8
+}
+
+fn packed(returned: u8, woken: u8, commits: bool) -> u32
+    ensures { λ r. ⌜ r ≡ packedOf returned woken commits ⌝ }
+{
+    if commits {
+        return (returned as u32) + (woken as u32) * WOKEN_UNIT + COMMITS_UNIT;
+    }
+    (returned as u32) + (woken as u32) * WOKEN_UNIT
+}
+
+fn settle(bytes: &mut [u8], outcome: Outcome) -> u32
+    ensures { λ r. ⌜ r ≡ outcomeAnswer outcome ⌝ }
+    ensures { λ _. ⌜ now (bytes .exit) ≡ keptOver (now (bytes .entry)) (outcome .table) ⌝ }
+{
+    let table = outcome.table;
+    write_table(bytes, table);
+    let reply = outcome.reply;
+    packed(returned(reply), woken(reply), outcome.commits)
+}
+
+fn begin_gated(bytes: &mut [u8], thread: u8, operation: u8, object: u8, istable: bool) -> u32
+    ensures { λ r. ⌜ r ≡ eventAnswer istable (beginOf (tableOf (now (bytes .entry))) thread operation object) ⌝ }
+    ensures { λ _. ⌜ now (bytes .exit) ≡ eventOver istable (now (bytes .entry)) (beginOf (tableOf (now (bytes .entry))) thread operation object) ⌝ }
+{
+    if istable {
+        let table = read_table(bytes);
+        return settle(bytes, begin(table, thread, operation, object));
+    }
+    NOT_SOUND
+}
+
+fn step_gated(bytes: &mut [u8], thread: u8, istable: bool) -> u32
+    ensures { λ r. ⌜ r ≡ eventAnswer istable (stepOf (tableOf (now (bytes .entry))) thread) ⌝ }
+    ensures { λ _. ⌜ now (bytes .exit) ≡ eventOver istable (now (bytes .entry)) (stepOf (tableOf (now (bytes .entry))) thread) ⌝ }
+{
+    if istable {
+        let table = read_table(bytes);
+        return settle(bytes, step(table, thread));
+    }
+    NOT_SOUND
+}
+
+fn keep_made(bytes: &mut [u8], answer: FreshAnswer, table: Table) -> u32
+    ensures { λ r. ⌜ r ≡ freshReturnedOf answer ⌝ }
+    ensures { λ _. ⌜ now (bytes .exit) ≡ madeOver (now (bytes .entry)) answer table ⌝ }
+{
+    match answer {
+        FreshAnswer::Made => {
+            write_table(bytes, table);
+            0
+        }
+        FreshAnswer::SizeOutOfRange => 22,
+    }
+}
+
+fn fresh_gated(bytes: &mut [u8], made: FreshTable, fits: bool) -> u32
+    ensures { λ r. ⌜ r ≡ freshAnswer fits made ⌝ }
+    ensures { λ _. ⌜ now (bytes .exit) ≡ freshOver fits (now (bytes .entry)) made ⌝ }
+{
+    if fits {
+        let answer = made.answer;
+        let table = made.table;
+        return keep_made(bytes, answer, table);
+    }
+    NOT_SOUND
+}
+
+// How many bytes a table has.
+#[no_mangle]
+pub extern "C" fn duskclamp_table_size() -> usize
+    ensures { λ r. ⌜ r ≡ table-size ⌝ }
+{
+    TABLE_SIZE
+}
+
+// A fresh table with every word free, or with `reserved` not 0 anonymously reserved: 0, or 11 or 22 and the bytes stay.
+#[no_mangle]
+pub extern "C" fn duskclamp_fresh(
+    bytes: &mut [u8],
+    threads: u32,
+    objects: u32,
+    reserved: u32,
+) -> u32
+    ensures { λ r. ⌜ r ≡ freshAnswer (has-size (now (bytes .entry))) (freshOn threads objects reserved) ⌝ }
+    ensures { λ _. ⌜ now (bytes .exit) ≡ freshBytes (has-size (now (bytes .entry))) (now (bytes .entry)) (freshOn threads objects reserved) ⌝ }
+{
+    let fits = bytes.len() == TABLE_SIZE;
+    let made = fresh(
+        narrow(threads) as u16,
+        narrow(objects) as u16,
+        reserved != 0,
+    );
+    fresh_gated(bytes, made, fits)
+}
+
+// The thread begins the operation with this number on the object.
+#[no_mangle]
+pub extern "C" fn duskclamp_begin(bytes: &mut [u8], thread: u32, operation: u32, object: u32) -> u32
+    ensures { λ r. ⌜ r ≡ eventAnswer (isTable (now (bytes .entry))) (begunOn (now (bytes .entry)) thread operation object) ⌝ }
+    ensures { λ _. ⌜ now (bytes .exit) ≡ eventBytes (isTable (now (bytes .entry))) (now (bytes .entry)) (begunOn (now (bytes .entry)) thread operation object) ⌝ }
+{
+    let istable = is_table(bytes);
+    begin_gated(
+        bytes,
+        narrow(thread),
+        narrow(operation),
+        narrow(object),
+        istable,
+    )
+}
+
+// The thread takes one step.
+#[no_mangle]
+pub extern "C" fn duskclamp_step(bytes: &mut [u8], thread: u32) -> u32
+    ensures { λ r. ⌜ r ≡ eventAnswer (isTable (now (bytes .entry))) (steppedOn (now (bytes .entry)) thread) ⌝ }
+    ensures { λ _. ⌜ now (bytes .exit) ≡ eventBytes (isTable (now (bytes .entry))) (now (bytes .entry)) (steppedOn (now (bytes .entry)) thread) ⌝ }
+{
+    let istable = is_table(bytes);
+    step_gated(bytes, narrow(thread), istable)
+}
