@@ -2,3 +2,4 @@
 pub mod Places
 pub mod Written
 pub mod ReadBack
+pub mod FullTables

@@ -1,14 +1,12 @@
 -- The bytes of a table are a table, as many as a table has, and read back as the same table.
-use Prim.Native.Nat.{ℕ, _+_, _-_, _*_, _/_, _%_, _<_, _≤_}
+use Prim.Native.Nat.{ℕ, _+_, _-_, _*_, _/_, _%_, _<_}
 use mathlib.Core.Path.{_≡_, refl, ap, sym, _∙_}
 use mathlib.Core.Bool.{Bool, true, false}
-use mathlib.Core.List.{List}
 use native.Mathlib.Omega.{arith}
 use lib.Arith.{mod-mul, digits-div, digits-mod}
-use lib.Dec.{eqb, ltb, leb, lit<}
+use lib.Dec.{eqb, leb, lit<}
 use lib.ListN.{length, getD}
 use borrow.Author.Tests.{eq-eqb, lt-ltb, le-ltb}
-use Rattle.laws.specs.Choice.{pick, both}
 use Rattle.laws.proofs.Choice.{both-of}
 use Rattle.lock_table.specs.Limits.{thread-limit, object-limit}
 use Rattle.lock_table.specs.Operation.{operationNumberOf, operationFromOf}
@@ -40,10 +38,10 @@ use Rattle.lock_table.specs.declared.record.ThreadRecord.{ThreadRecord}
 use Rattle.lock_table.specs.declared.record.ObjectRecord.{ObjectRecord}
 use Rattle.lock_table.specs.declared.record.Table.{Table}
 use Rattle.lock_engine_c.specs.Layout.{table-size, threads-start, objects-start, thread-start, object-start}
-use Rattle.lock_engine_c.specs.Sequence.{tabulate, all-below}
+use Rattle.lock_engine_c.specs.Sequence.{tabulate}
 use Rattle.lock_engine_c.specs.Reading.{byteAt, halfOf, wordOf, onwardFrom, laterPhaseFrom, phaseFrom, threadFrom, objectFrom, tableOf}
 use Rattle.lock_engine_c.specs.Reading.{carriedKnown, threadKnown, objectKnown, isTable}
-use Rattle.lock_engine_c.specs.Writing.{threadByte, flagByte, objectByte, threadsByte, objectsByte, byteOf, bytesOf}
+use Rattle.lock_engine_c.specs.Writing.{threadByte, flagByte, objectByte, byteOf, bytesOf}
 use Rattle.lock_engine_c.proofs.Places.{all-below-of, tabulate-length, tabulate-at, tabulate-all}
 
 -- numbers and the bytes that they are made of

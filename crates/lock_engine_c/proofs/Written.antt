@@ -1,21 +1,21 @@
 -- What is written over the bytes of a table is the table's bytes, whatever they were.
 use Prim.Native.Nat.{ℕ, _+_, _-_, _<_, _≤_}
-use mathlib.Core.Path.{_≡_, refl, ap, sym, _∙_}
-use mathlib.Core.Bool.{Bool, true, false}
+use mathlib.Core.Path.{_≡_, refl, ap, _∙_}
+use mathlib.Core.Bool.{true}
 use mathlib.Core.Logic.{_≢_}
 use mathlib.Core.List.{List}
 use native.Mathlib.Omega.{arith}
 use lib.Dec.{eqb, ltb}
 use lib.ListN.{length, getD, set, length-set}
 use lib.Seq.{getD-set-same, getD-set-other}
-use borrow.Author.Tests.{eqb-true, eqb-false, ltb-true, ltb-false, eq-eqb, ne-eqb}
-use Rattle.laws.specs.Choice.{pick, both}
+use borrow.Author.Tests.{eqb-true, eqb-false, ltb-true, ltb-false, eq-eqb}
+use Rattle.laws.specs.Choice.{pick}
 use Rattle.laws.proofs.Choice.{split, both-first}
 use Rattle.lock_table.specs.declared.record.Table.{Table}
 use Rattle.lock_table.specs.declared.fresh_table.FreshAnswer.{FreshAnswer}
 use Rattle.lock_table.specs.declared.fresh_table.FreshAnswer.the-variants.{Made, SizeOutOfRange}
 use Rattle.lock_engine_c.specs.Layout.{threads-start, threads-size, objects-start, objects-size, table-size}
-use Rattle.lock_engine_c.specs.Sequence.{patched, tabulate}
+use Rattle.lock_engine_c.specs.Sequence.{patched}
 use Rattle.lock_engine_c.specs.Reading.{isTable}
 use Rattle.lock_engine_c.specs.Writing.{threadsByte, objectsByte, byteOf, bytesOf, writtenOver, keptOver}
 use Rattle.lock_engine_c.specs.Calls.{madeBytes, madeOver, has-size}

@@ -1,13 +1,13 @@
 -- What each exported call answers and makes of the bytes: the engine's begin, step and fresh table on the table that the bytes say.
 use Prim.Native.Nat.{ℕ, _+_, _*_}
-use mathlib.Core.Bool.{Bool, false, not}
+use mathlib.Core.Bool.{Bool, not}
 use mathlib.Core.List.{List}
-use lib.Dec.{eqb, ltb}
+use lib.Dec.{eqb, ltb, leb}
 use lib.ListN.{length}
-use Rattle.laws.specs.Choice.{pick, within}
-use Rattle.lock_word.specs.declared.meaning.Ownership.{Ownership}
+use Rattle.laws.specs.Choice.{pick, both, within}
 use Rattle.lock_table.specs.Access.{threadAt, objectAt}
 use Rattle.lock_table.specs.Fresh.{freshOf, freshReturnedOf}
+use Rattle.lock_table.specs.Limits.{thread-limit, object-limit}
 use Rattle.lock_table.specs.Phase.{phaseNumberOf}
 use Rattle.lock_table.specs.declared.fresh_table.FreshAnswer.{FreshAnswer}
 use Rattle.lock_table.specs.declared.fresh_table.FreshAnswer.the-variants.{Made, SizeOutOfRange}
@@ -17,8 +17,7 @@ use Rattle.lock_engine.specs.Outcome.{returnedOf, wokenOf}
 use Rattle.lock_engine.specs.Begin.{beginOf}
 use Rattle.lock_engine.specs.Step.{stepOf}
 use Rattle.lock_engine.specs.declared.outcome.Outcome.{Outcome}
-use Rattle.lock_word.specs.Read.{decodeOf}
-use Rattle.lock_engine_c.specs.Owner.{ownershipOn}
+use Rattle.lock_records.specs.Agrees.{ownership-at}
 use Rattle.lock_engine_c.specs.Layout.{table-size}
 use Rattle.lock_engine_c.specs.Reading.{isTable, tableOf}
 use Rattle.lock_engine_c.specs.Writing.{bytesOf, keptOver}
@@ -33,7 +32,7 @@ no-such-thread = 12
 abbrev pub no-such-object : ℕ
 no-such-object = 13
 
--- a number as the engine takes it; 255 stands for all that are larger, and is no thread, object or operation
+-- a number as the engine takes it; 255 stands for all that are larger, and is no thread or object of a sound table and no operation
 unfoldable pub narrowOf : ℕ → ℕ
 narrowOf number = pick (ltb 255 number) 255 number
 
@@ -94,21 +93,25 @@ saying value = value * 256
 unfoldable pub saidOf : Bool → Bool → ℕ → ℕ → ℕ
 saidOf istable inrange refusal value = pick istable (pick inrange (saying value) refusal) not-sound
 
+-- one of the table's, and of the records that there are, whatever a size that is not sound says
+abbrev pub thread-in-range : Table → ℕ → Bool
+thread-in-range table thread = both (within 1 (table .threadcount) thread) (leb thread thread-limit)
+
+abbrev pub object-in-range : Table → ℕ → Bool
+object-in-range table object = both (within 1 (table .objectcount) object) (leb object object-limit)
+
 abbrev pub phaseIn : Bool → Table → ℕ → ℕ
-phaseIn istable table thread = saidOf istable (within 1 (table .threadcount) thread) no-such-thread (phaseNumberOf (threadAt table thread .phase))
+phaseIn istable table thread = saidOf istable (thread-in-range table thread) no-such-thread (phaseNumberOf (threadAt table thread .phase))
 
 abbrev pub wordIn : Bool → Table → ℕ → ℕ
-wordIn istable table object = saidOf istable (within 1 (table .objectcount) object) no-such-object (objectAt table object .word)
+wordIn istable table object = saidOf istable (object-in-range table object) no-such-object (objectAt table object .word)
 
--- owner and depth by the word, 0 and 0 with no owner
-abbrev pub ownershipAt : Table → ℕ → Ownership
-ownershipAt table object = ownershipOn (decodeOf (objectAt table object .word)) (objectAt table object .monitor)
-
+-- owner and depth by the word, 0 and 0 with no owner: those that the theorem on schedules compares with the plain monitors
 abbrev pub ownerIn : Bool → Table → ℕ → ℕ
-ownerIn istable table object = saidOf istable (within 1 (table .objectcount) object) no-such-object (ownershipAt table object .thread)
+ownerIn istable table object = saidOf istable (object-in-range table object) no-such-object (ownership-at table object .thread)
 
 abbrev pub depthIn : Bool → Table → ℕ → ℕ
-depthIn istable table object = saidOf istable (within 1 (table .objectcount) object) no-such-object (ownershipAt table object .depth)
+depthIn istable table object = saidOf istable (object-in-range table object) no-such-object (ownership-at table object .depth)
 
 abbrev pub phaseAnswer : List ℕ → ℕ → ℕ
 phaseAnswer bytes thread = phaseIn (isTable bytes) (tableOf bytes) (narrowOf thread)

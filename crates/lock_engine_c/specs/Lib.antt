@@ -3,5 +3,4 @@ pub mod Layout
 pub mod Sequence
 pub mod Reading
 pub mod Writing
-pub mod Owner
 pub mod Calls

@@ -29,7 +29,7 @@ const WOKEN_UNIT: u32 = 256;
 
 const COMMITS_UNIT: u32 = 65536;
 
-// A number as the engine takes it: 255 stands for all larger ones, and is no thread, object or operation.
+// A number as the engine takes it: 255 stands for all larger ones, and is no thread or object of a sound table and no operation.
 pub fn narrow(number: u32) -> u8
     ensures { λ r. ⌜ r ≡ narrowOf number ⌝ }
 {

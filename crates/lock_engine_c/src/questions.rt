@@ -3,7 +3,9 @@ use crate::calls::narrow;
 use crate::reading::is_table;
 use crate::reading::read_table;
 use lock_table::Monitor;
+use lock_table::OBJECTS;
 use lock_table::ObjectRecord;
+use lock_table::THREADS;
 use lock_table::Table;
 use lock_table::object_at;
 use lock_table::phase_number;
@@ -15,7 +17,8 @@ use lock_word::owner_by_word;
 use lock_word::read_word;
 ghost use mathlib.Core.Path.{_≡_};
 ghost use Rattle.lock_word.specs.Read.{decodeOf};
-ghost use Rattle.lock_engine_c.specs.Owner.{heldBy, ownershipBy, ownershipOn};
+ghost use Rattle.lock_word.specs.declared.reading.Decoded.the-variants.{Valid};
+ghost use Rattle.lock_records.specs.Agrees.{held-by, ownership-in};
 ghost use Rattle.lock_engine_c.specs.Calls.{saidOf, phaseIn, wordIn, ownerIn, depthIn, phaseAnswer, wordAnswer, ownerAnswer, depthAnswer};
 
 const NOT_SOUND: u64 = 11;
@@ -39,7 +42,7 @@ fn said(istable: bool, inrange: bool, refusal: u8, value: u32) -> u64
 }
 
 fn held_by(monitor: Monitor) -> Ownership
-    ensures { λ r. ⌜ r ≡ heldBy monitor ⌝ }
+    ensures { λ r. ⌜ r ≡ held-by monitor ⌝ }
 {
     if monitor.depth == 0 {
         return Ownership {
@@ -54,7 +57,7 @@ fn held_by(monitor: Monitor) -> Ownership
 }
 
 fn ownership_by(meaning: LockWord, monitor: Monitor) -> Ownership
-    ensures { λ r. ⌜ r ≡ ownershipBy meaning monitor ⌝ }
+    ensures { λ r. ⌜ r ≡ ownership-in (Valid meaning) monitor ⌝ }
 {
     match meaning {
         LockWord::Free => owner_by_word(LockWord::Free),
@@ -66,7 +69,7 @@ fn ownership_by(meaning: LockWord, monitor: Monitor) -> Ownership
 }
 
 fn ownership(decoded: Decoded, monitor: Monitor) -> Ownership
-    ensures { λ r. ⌜ r ≡ ownershipOn decoded monitor ⌝ }
+    ensures { λ r. ⌜ r ≡ ownership-in decoded monitor ⌝ }
 {
     let Decoded::Valid(meaning) = decoded else {
         return Ownership {
@@ -78,7 +81,7 @@ fn ownership(decoded: Decoded, monitor: Monitor) -> Ownership
 }
 
 fn ownership_of(object: ObjectRecord) -> Ownership
-    ensures { λ r. ⌜ r ≡ ownershipOn (decodeOf (object .word)) (object .monitor) ⌝ }
+    ensures { λ r. ⌜ r ≡ ownership-in (decodeOf (object .word)) (object .monitor) ⌝ }
 {
     let monitor = object.monitor;
     ownership(read_word(object.word), monitor)
@@ -89,7 +92,7 @@ fn phase_in(istable: bool, table: Table, number: u8) -> u64
 {
     let thread = thread_at(table, number);
     let phase = thread.phase;
-    let inrange = (1 <= number) & (number <= table.threadcount);
+    let inrange = ((1 <= number) & (number <= table.threadcount)) & (number <= THREADS);
     said(istable, inrange, NO_SUCH_THREAD, phase_number(phase) as u32)
 }
 
@@ -97,7 +100,7 @@ fn word_in(istable: bool, table: Table, number: u8) -> u64
     ensures { λ r. ⌜ r ≡ wordIn istable table number ⌝ }
 {
     let object = object_at(table, number);
-    let inrange = (1 <= number) & (number <= table.objectcount);
+    let inrange = ((1 <= number) & (number <= table.objectcount)) & (number <= OBJECTS);
     said(istable, inrange, NO_SUCH_OBJECT, object.word)
 }
 
@@ -105,7 +108,7 @@ fn owner_in(istable: bool, table: Table, number: u8) -> u64
     ensures { λ r. ⌜ r ≡ ownerIn istable table number ⌝ }
 {
     let found = ownership_of(object_at(table, number));
-    let inrange = (1 <= number) & (number <= table.objectcount);
+    let inrange = ((1 <= number) & (number <= table.objectcount)) & (number <= OBJECTS);
     said(istable, inrange, NO_SUCH_OBJECT, found.thread as u32)
 }
 
@@ -113,7 +116,7 @@ fn depth_in(istable: bool, table: Table, number: u8) -> u64
     ensures { λ r. ⌜ r ≡ depthIn istable table number ⌝ }
 {
     let found = ownership_of(object_at(table, number));
-    let inrange = (1 <= number) & (number <= table.objectcount);
+    let inrange = ((1 <= number) & (number <= table.objectcount)) & (number <= OBJECTS);
     said(istable, inrange, NO_SUCH_OBJECT, found.depth as u32)
 }
 

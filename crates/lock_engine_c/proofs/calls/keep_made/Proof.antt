@@ -1,5 +1,4 @@
 -- `lock_engine_c::calls::keep_made` meets its contract: a table that was made is written.
-use mathlib.Core.Path.{refl}
 use borrow.Author.Needs.{needs}
 use Rattle.lock_table.specs.Fresh.{freshReturnedOf}
 use Rattle.lock_engine_c.specs.Calls.{madeOver}

@@ -1,12 +1,10 @@
 -- `lock_engine_c::questions::held_by` meets its contract: each way through the code is that of the definition.
 use borrow.Author.Needs.{needs}
 use borrow.Author.Tests.{eq-eqb, ne-eqb}
-use Rattle.lock_engine_c.specs.Owner.{heldBy}
 use Rattle.lock_engine_c.proofs.questions.held_by.Statement.{statement}
 use Rattle.lock_engine_c.proofs.questions.held_by.Tie as tie
 
 pub held-by-spec : {M : Type 1} → statement M
-unfolding heldBy
 held-by-spec =
     tie.close
     (tie.spec

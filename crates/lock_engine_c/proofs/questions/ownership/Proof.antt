@@ -1,11 +1,9 @@
 -- `lock_engine_c::questions::ownership` meets its contract: each way through the code is that of the definition.
 use borrow.Author.Needs.{needs}
-use Rattle.lock_engine_c.specs.Owner.{ownershipOn}
 use Rattle.lock_engine_c.proofs.questions.ownership.Statement.{statement}
 use Rattle.lock_engine_c.proofs.questions.ownership.Tie as tie
 
 pub ownership-spec : {M : Type 1} → statement M
-unfolding ownershipOn
 ownership-spec =
     tie.close
     (tie.spec

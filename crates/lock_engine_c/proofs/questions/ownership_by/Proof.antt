@@ -1,11 +1,9 @@
 -- `lock_engine_c::questions::ownership_by` meets its contract: each way through the code is that of the definition.
 use borrow.Author.Needs.{needs}
-use Rattle.lock_engine_c.specs.Owner.{ownershipBy}
 use Rattle.lock_engine_c.proofs.questions.ownership_by.Statement.{statement}
 use Rattle.lock_engine_c.proofs.questions.ownership_by.Tie as tie
 
 pub ownership-by-spec : {M : Type 1} → statement M
-unfolding ownershipBy
 ownership-by-spec =
     tie.close
     (tie.spec

@@ -1,10 +1,8 @@
 -- `lock_engine_c::questions::ownership_of` meets its contract: each way through the code is that of the definition.
-use Rattle.lock_engine_c.specs.Owner.{ownershipOn}
 use Rattle.lock_engine_c.proofs.questions.ownership_of.Statement.{statement}
 use Rattle.lock_engine_c.proofs.questions.ownership_of.Tie as tie
 
 pub ownership-of-spec : {M : Type 1} → statement M
-unfolding ownershipOn
 ownership-of-spec =
     tie.close
     (tie.spec

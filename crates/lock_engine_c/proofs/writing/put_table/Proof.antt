@@ -1,5 +1,5 @@
 -- `lock_engine_c::writing::put_table` meets its contract: sizes, threads and objects, each over what came before. The bytes stay as many.
-use mathlib.Core.Path.{_≡_, ap, _∙_}
+use mathlib.Core.Path.{ap, _∙_}
 use borrow.Author.Needs.{needs}
 use lib.ListN.{length, length-set}
 use Rattle.lock_engine_c.specs.Layout.{objects-start, objects-size}

@@ -1,9 +1,8 @@
 -- `lock_engine_c::writing::put_threads` meets its contract: one byte a turn.
-use Prim.Native.Nat.{ℕ, _+_, _-_, _≤_, _/_, _%_}
-use mathlib.Core.Path.{_≡_, refl, ap, sym, _∙_}
+use Prim.Native.Nat.{ℕ, _+_, _-_, _≤_}
+use mathlib.Core.Path.{_≡_, ap, _∙_}
 use mathlib.Core.List.{List}
 use native.Mathlib.Omega.{arith}
-use borrow.Author.Needs.{needs}
 use lib.ListN.{length, set}
 use Rattle.lock_engine_c.specs.Layout.{threads-start, threads-size}
 use Rattle.lock_engine_c.specs.Sequence.{patched}

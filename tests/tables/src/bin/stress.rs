@@ -1,0 +1,231 @@
+//! Thirty-two threads of random operations through the wrapper, with the plain monitors as a check.
+//! Usage: stress [STEPS] [SEED]
+
+use duskclamp::{Answer, Operation, Outcome, Refusal, Table, Words};
+use reference::engine::Event;
+use reference::outcome::Returned;
+use reference::plain::PlainMonitors;
+use reference::random::Random;
+use reference::report::Report;
+use std::process::ExitCode;
+use tables::arguments::number;
+use tables::layout::{decode, phase_byte};
+
+const DEFAULT_STEPS: u64 = 10_000_000;
+const DEFAULT_SEED: u64 = 1;
+const THREADS: u32 = 32;
+/// A table is left for a fresh one after so many events, or when all its threads are parked.
+const ROUND: u64 = 100_000;
+/// Events between two comparisons of the whole table.
+const COMPARED: u64 = 64;
+
+fn main() -> ExitCode {
+    let arguments: Vec<String> = std::env::args().skip(1).collect();
+    let numbers = number(&arguments, 0, DEFAULT_STEPS)
+        .and_then(|steps| Ok((steps, number(&arguments, 1, DEFAULT_SEED)?)));
+    let (steps, seed) = match numbers {
+        Ok(numbers) => numbers,
+        Err(wrong) => {
+            eprintln!("{wrong}\nusage: stress [STEPS] [SEED]");
+            return ExitCode::FAILURE;
+        }
+    };
+    println!("seed {seed}");
+    let mut report = Report::default();
+    let mut total = Tally::default();
+    let mut rounds = 0;
+    while total.steps < steps {
+        let round_seed = seed.wrapping_add(rounds);
+        let mut round = Round::new(round_seed);
+        let result = round.run(ROUND.min(steps - total.steps));
+        let failed = result.is_err();
+        report.check(&format!("round of seed {round_seed}"), result);
+        total.add(&round.tally);
+        rounds += 1;
+        if failed {
+            break;
+        }
+    }
+    println!(
+        "{} steps, {} begins, {rounds} tables",
+        total.steps, total.begins
+    );
+    println!(
+        "{} finished, {} parked, {} woken",
+        total.finished, total.parked, total.woken
+    );
+    report.finish()
+}
+
+#[derive(Default)]
+struct Tally {
+    steps: u64,
+    begins: u64,
+    finished: u64,
+    parked: u64,
+    woken: u64,
+}
+
+impl Tally {
+    fn add(&mut self, other: &Tally) {
+        self.steps += other.steps;
+        self.begins += other.begins;
+        self.finished += other.finished;
+        self.parked += other.parked;
+        self.woken += other.woken;
+    }
+}
+
+#[derive(Clone, Copy, PartialEq, Eq)]
+enum State {
+    Idle,
+    Running,
+    Parked,
+}
+
+struct Round {
+    random: Random,
+    objects: u32,
+    table: Table,
+    plain: PlainMonitors,
+    states: [State; THREADS as usize],
+    /// The object that a thread last began something on.
+    objects_of: [u32; THREADS as usize],
+    tally: Tally,
+}
+
+impl Round {
+    fn new(seed: u64) -> Round {
+        let mut random = Random::new(seed);
+        let objects = random.pick(&[1, 2, 4, 8, 64]);
+        let words = random.pick(&[Words::Free, Words::Reserved]);
+        Round {
+            random,
+            objects,
+            table: Table::fresh(THREADS, objects, words).expect("sizes in range"),
+            plain: PlainMonitors::new(objects as u8),
+            states: [State::Idle; THREADS as usize],
+            objects_of: [1; THREADS as usize],
+            tally: Tally::default(),
+        }
+    }
+
+    fn run(&mut self, steps: u64) -> Result<(), String> {
+        let mut events = 0;
+        while self.tally.steps < steps {
+            if self.all_parked() {
+                break;
+            }
+            let thread = self.random.between(1, THREADS.into()) as u32;
+            if self.is_parked(thread) {
+                continue;
+            }
+            self.turn(thread)
+                .map_err(|wrong| format!("event {events}: {wrong}"))?;
+            events += 1;
+            if events % COMPARED == 0 {
+                self.compare()?;
+            }
+        }
+        self.compare()
+    }
+
+    /// A thread that another's step has let go on is still noted as parked until its own next step.
+    fn all_parked(&self) -> bool {
+        self.states.iter().all(|state| *state == State::Parked)
+            && (1..=THREADS).all(|thread| self.is_parked(thread))
+    }
+
+    /// By the bytes, since most threads are asked most of the time.
+    fn is_parked(&self, thread: u32) -> bool {
+        matches!(phase_byte(self.table.bytes(), thread as usize), 5 | 8 | 14)
+    }
+
+    fn compare(&self) -> Result<(), String> {
+        let table = decode(self.table.bytes()).ok_or("the bytes are no table")?;
+        self.plain.compare(&table)
+    }
+
+    /// The thread begins something if it is idle, else takes a step.
+    fn turn(&mut self, thread: u32) -> Result<(), String> {
+        match self.states[thread as usize - 1] {
+            State::Idle => self.begin(thread),
+            State::Running | State::Parked => self.step(thread),
+        }
+    }
+
+    fn begin(&mut self, thread: u32) -> Result<(), String> {
+        let object = self.choose_object(thread);
+        let operation = self.choose(self.table.owner(object) == Ok(thread));
+        self.objects_of[thread as usize - 1] = object;
+        self.table
+            .begin(thread, operation, object)
+            .map_err(|refusal| format!("begin refused with {refusal:?}"))?;
+        self.states[thread as usize - 1] = State::Running;
+        self.tally.begins += 1;
+        let event = Event::Begin {
+            thread: thread as u16,
+            operation: operation as u8,
+            object: object as u16,
+        };
+        self.plain
+            .feed(event, reference::outcome::Outcome::of(Returned::GoneOn))
+    }
+
+    /// An owner mostly stays with its object, and goes only to later ones, so that few owners park for each other.
+    fn choose_object(&mut self, thread: u32) -> u32 {
+        let last = self.objects_of[thread as usize - 1];
+        let owns = self.table.owner(last) == Ok(thread);
+        match (owns, self.random.percent(98)) {
+            (true, true) => last,
+            (true, false) => self.random.between(last.into(), self.objects.into()) as u32,
+            (false, _) => self.random.between(1, self.objects.into()) as u32,
+        }
+    }
+
+    /// An owner mostly exits, waits at times and wakes others; whoever does not own the object mostly enters.
+    fn choose(&mut self, owns: bool) -> Operation {
+        let chance = self.random.between(1, 100);
+        match (owns, chance) {
+            (true, 1..=20) => Operation::Enter,
+            (true, 21..=70) => Operation::Exit,
+            (true, 71..=72) => Operation::Wait,
+            (true, 73..=86) => Operation::Notify,
+            (true, _) => Operation::NotifyAll,
+            (false, 1..=92) => Operation::Enter,
+            (false, 93..=95) => Operation::Exit,
+            (false, 96..=97) => Operation::Wait,
+            (false, _) => Operation::Notify,
+        }
+    }
+
+    fn step(&mut self, thread: u32) -> Result<(), String> {
+        let outcome = self.table.step(thread);
+        self.tally.steps += 1;
+        let (returned, woken, state) = match outcome.result {
+            Ok(Answer::GoneOn) => (Returned::GoneOn, 0, State::Running),
+            Ok(Answer::Finished { woken }) => (Returned::Finished, woken, State::Idle),
+            Ok(Answer::Parked) => (Returned::Parked, 0, State::Parked),
+            Err(Refusal::NotOwner) => (Returned::NotOwner, 0, State::Idle),
+            Err(Refusal::TooDeep) => (Returned::TooDeep, 0, State::Idle),
+            Err(refusal) => return Err(format!("step refused with {refusal:?}")),
+        };
+        self.states[thread as usize - 1] = state;
+        self.tally.finished += u64::from(returned == Returned::Finished);
+        self.tally.parked += u64::from(returned == Returned::Parked);
+        self.tally.woken += u64::from(woken);
+        let event = Event::Step {
+            thread: thread as u16,
+        };
+        self.plain.feed(event, fed(outcome, returned, woken))
+    }
+}
+
+/// The outcome as the plain monitors take it.
+fn fed(outcome: Outcome, returned: Returned, woken: u8) -> reference::outcome::Outcome {
+    reference::outcome::Outcome {
+        returned,
+        woken,
+        committed: outcome.commits,
+    }
+}

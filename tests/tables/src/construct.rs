@@ -1,0 +1,136 @@
+//! Sound tables made by construction, most of which no schedule reaches: words, monitors and phases are drawn apart from each other.
+
+use reference::random::Random;
+use reference::table::{Onward, Operation, Phase, Table, ThreadRecord, MAX_DEPTH};
+use reference::word::{LockWord, MAX_COUNT};
+
+/// Sizes up to which most tables go, so that numbers meet.
+const FEW_THREADS: u64 = 4;
+const FEW_OBJECTS: u64 = 3;
+
+pub fn sound_table(random: &mut Random) -> Table {
+    let large = random.percent(10);
+    let threads = random.between(1, if large { 32 } else { FEW_THREADS }) as u16;
+    let objects = random.between(1, if large { 64 } else { FEW_OBJECTS }) as u16;
+    let mut table = Table::fresh(threads, objects, false).expect("sizes in range");
+    for object in 1..=table.objects {
+        draw_object(random, &mut table, object);
+    }
+    for thread in 1..=table.threads {
+        draw_thread(random, &mut table, thread);
+    }
+    table
+}
+
+/// Any thread's number.
+fn some_thread(random: &mut Random, table: &Table) -> u8 {
+    random.between(1, table.threads.into()) as u8
+}
+
+fn draw_object(random: &mut Random, table: &mut Table, object: u8) {
+    let thread = u16::from(some_thread(random, table));
+    let any = random.between(0, MAX_COUNT.into()) as u8;
+    let count = random.pick(&[0, 0, 1, 2, MAX_COUNT - 1, MAX_COUNT, any]);
+    let fat = LockWord::Fat {
+        monitor: object.into(),
+    };
+    let word = random.pick(&[
+        LockWord::Free,
+        LockWord::Anonymous,
+        LockWord::Flat { thread, count },
+        LockWord::Reserved { thread, count },
+        fat,
+        fat,
+    ]);
+    let holder = match random.percent(60) {
+        true => some_thread(random, table),
+        false => 0,
+    };
+    let any = random.between(0, MAX_DEPTH.into()) as u16;
+    let depth = random.pick(&[0, 0, 1, 2, MAX_DEPTH - 1, MAX_DEPTH, any]);
+    let record = table.object_mut(object);
+    record.word = word.encode();
+    record.contention_flag = any % 2 == 1;
+    record.monitor.holder = holder;
+    record.monitor.depth = if holder == 0 { 0 } else { depth };
+}
+
+/// The phases that an operation uses, those of a queued thread with what they carry.
+fn phases(operation: Operation) -> &'static [Phase] {
+    match operation {
+        Operation::Enter => &[
+            Phase::Look,
+            Phase::Store,
+            Phase::Cancel,
+            Phase::GoIn,
+            Phase::Queued(Onward::Check),
+            Phase::Check,
+            Phase::Try,
+            Phase::Contending,
+        ],
+        Operation::Exit => &[
+            Phase::Look,
+            Phase::Store,
+            Phase::GoIn,
+            Phase::Queued(Onward::Tell),
+            Phase::Test,
+            Phase::Tell,
+            Phase::Leave,
+        ],
+        Operation::Wait => &[
+            Phase::Look,
+            Phase::Cancel,
+            Phase::GoIn,
+            Phase::Queued(Onward::Inflate),
+            Phase::Queued(Onward::Resume),
+            Phase::Inflate,
+            Phase::Wait,
+            Phase::Waiting,
+            Phase::Resume,
+        ],
+        Operation::Notify | Operation::NotifyAll => &[Phase::Look],
+    }
+}
+
+fn draw_thread(random: &mut Random, table: &mut Table, thread: u8) {
+    if random.percent(15) {
+        return;
+    }
+    let operation = random.pick(&Operation::ALL);
+    let object = random.between(1, table.objects.into()) as u8;
+    let mut phase = random.pick(phases(operation));
+    let unheld = table.object(object).monitor.holder == 0;
+    if unheld && matches!(phase, Phase::Queued(_)) {
+        phase = Phase::Look;
+    }
+    *table.thread_mut(thread) = ThreadRecord {
+        operation: Some(operation),
+        object,
+        phase,
+        kept_word: kept_word(random, thread, operation, phase),
+        saved_depth: match phase.uses_saved_depth() {
+            true => random.between(1, MAX_DEPTH.into()) as u16,
+            false => 0,
+        },
+        next: 0,
+    };
+    if let Some(chain) = phase.chain() {
+        table.join(object, chain, thread);
+    }
+}
+
+/// A reserved word of the thread, with a count that its operation can store the next of.
+fn kept_word(random: &mut Random, thread: u8, operation: Operation, phase: Phase) -> u32 {
+    if phase != Phase::Store {
+        return 0;
+    }
+    let count = match operation {
+        Operation::Enter => random.between(0, u64::from(MAX_COUNT) - 1),
+        _ => random.between(1, MAX_COUNT.into()),
+    };
+    let word = LockWord::Reserved {
+        thread: thread.into(),
+        count: count as u8,
+    };
+    word.encode()
+}

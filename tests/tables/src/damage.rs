@@ -1,0 +1,59 @@
+//! The fields of a table by their places in its bytes, and damage done to one of them.
+
+use crate::layout::{OBJECTS_START, RECORD_SIZE, THREADS_START};
+use reference::random::Random;
+use reference::table::{MAX_OBJECTS, MAX_THREADS};
+
+#[derive(Clone, Copy, Debug)]
+pub struct Field {
+    pub at: usize,
+    pub width: usize,
+}
+
+/// Offset and width of the fields of a thread's and of an object's record.
+const THREAD_FIELDS: [(usize, usize); 7] =
+    [(0, 1), (1, 1), (2, 1), (3, 1), (4, 4), (8, 2), (10, 1)];
+const OBJECT_FIELDS: [(usize, usize); 7] =
+    [(0, 4), (4, 1), (5, 1), (6, 2), (8, 1), (9, 1), (10, 1)];
+
+/// All fields: the two sizes, then those of each record.
+pub fn fields() -> Vec<Field> {
+    let mut fields = vec![Field { at: 0, width: 1 }, Field { at: 1, width: 1 }];
+    let kinds = [
+        (THREADS_START, MAX_THREADS, THREAD_FIELDS),
+        (OBJECTS_START, MAX_OBJECTS, OBJECT_FIELDS),
+    ];
+    for (start, records, kind) in kinds {
+        for place in 0..records {
+            let record = start + place * RECORD_SIZE;
+            fields.extend(kind.map(|(offset, width)| Field {
+                at: record + offset,
+                width,
+            }));
+        }
+    }
+    fields
+}
+
+/// Gives a field another value: a neighbour, a small number, an end of its range, or anything.
+pub fn damage(random: &mut Random, bytes: &mut [u8], field: Field) {
+    let place = field.at..field.at + field.width;
+    let mut old = [0; 8];
+    old[..field.width].copy_from_slice(&bytes[place.clone()]);
+    let old = u64::from_le_bytes(old);
+    let small = random.between(0, 70);
+    let any = random.draw();
+    let word = random.between(0, 4) << 8 | random.between(0, 255);
+    let choices = [
+        old + 1,
+        old.wrapping_sub(1),
+        small,
+        small,
+        word,
+        0,
+        u64::MAX,
+        any,
+    ];
+    let new = random.pick(&choices).to_le_bytes();
+    bytes[place].copy_from_slice(&new[..field.width]);
+}
