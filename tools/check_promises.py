@@ -1,5 +1,5 @@
 #!/usr/bin/env python3
-"""Checks that every `path/to/file:name` in docs/PROMISES.md names a file of the repository in which that name is declared.
+"""Checks that every `path/to/file:name` in docs/PROMISES.md and docs/ARCHITECTURE.md names a file of the repository in which that name is declared.
 
 Last line: 'N passed, M failed', one for each such place.
 """
@@ -8,6 +8,7 @@ import re
 import sys
 
 ROOT = pathlib.Path(__file__).resolve().parent.parent
+DOCUMENTS = ['PROMISES.md', 'ARCHITECTURE.md']
 
 
 def declared(path, name):
@@ -21,7 +22,7 @@ def declared(path, name):
 
 
 def main():
-    text = (ROOT / 'docs/PROMISES.md').read_text(encoding='utf-8')
+    text = ''.join((ROOT / 'docs' / name).read_text(encoding='utf-8') for name in DOCUMENTS)
     places = sorted(set(re.findall(r'`([\w./-]+\.\w+):([^`\s]+)`', text)))
     missing = [(file, name) for file, name in places if not declared(ROOT / file, name)]
     for file, name in missing:
