@@ -3,24 +3,13 @@
 use crate::engine::{apply, Event};
 use crate::outcome::{Outcome, Returned};
 use crate::plain::PlainMonitors;
-use crate::replay::{read_line, Line};
+use crate::replay::{open_schedule, Line};
 use crate::sound::is_sound;
 use crate::table::{Table, ThreadRecord};
 
 /// Describes the first event at which a demand does not hold. A schedule without a good header has no events.
 pub fn check_schedule(input: &[u8]) -> Result<(), String> {
-    let mut lines = input
-        .split_inclusive(|byte| *byte == b'\n')
-        .map(|line| line.strip_suffix(b"\n").and_then(read_line));
-    let Some(Some(Line::Header {
-        threads,
-        objects,
-        reserved,
-    })) = lines.next()
-    else {
-        return Ok(());
-    };
-    let Ok(mut table) = Table::fresh(threads, objects, reserved) else {
+    let Some((mut table, lines)) = open_schedule(input) else {
         return Ok(());
     };
     let mut plain = PlainMonitors::new(table.objects);

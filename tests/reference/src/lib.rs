@@ -1,6 +1,7 @@
 //! A second implementation of the lock engine, its replay and the checks made with it.
 //! Written from the specification alone ("document 01" in comments), so that agreement with the proved one says something.
 
+pub mod arguments;
 pub mod checked;
 pub mod engine;
 pub mod generate;

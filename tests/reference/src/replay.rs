@@ -22,6 +22,21 @@ pub enum Line {
     Event(Event),
 }
 
+/// The fresh table that a schedule's header asks for, and the lines behind it; nothing where there is no good header.
+pub fn open_schedule(input: &[u8]) -> Option<(Table, impl Iterator<Item = Option<Line>> + '_)> {
+    let mut lines = input
+        .split_inclusive(|byte| *byte == b'\n')
+        .map(|line| line.strip_suffix(b"\n").and_then(read_line));
+    match lines.next()?? {
+        Line::Header {
+            threads,
+            objects,
+            reserved,
+        } => Some((Table::fresh(threads, objects, reserved).ok()?, lines)),
+        Line::Event(_) => None,
+    }
+}
+
 /// Reads a line without its newline; nothing where it is malformed.
 pub fn read_line(line: &[u8]) -> Option<Line> {
     let (letter, rest) = line.split_first()?;

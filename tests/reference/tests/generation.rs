@@ -3,27 +3,15 @@
 use reference::checked::check_schedule;
 use reference::engine::{apply, Event};
 use reference::generate::schedule;
-use reference::replay::{read_line, Line};
+use reference::replay::{open_schedule, Line};
 use reference::shrink::shrink;
-use reference::table::Table;
 use std::collections::BTreeSet;
 
 const SEEDS: std::ops::Range<u64> = 0..400;
 
 /// The phases stepped from and the numbers returned in a schedule.
 fn visit(input: &[u8], phases: &mut BTreeSet<u8>, numbers: &mut BTreeSet<u8>) {
-    let mut lines = input
-        .split_inclusive(|byte| *byte == b'\n')
-        .map(|line| line.strip_suffix(b"\n").and_then(read_line));
-    let Some(Some(Line::Header {
-        threads,
-        objects,
-        reserved,
-    })) = lines.next()
-    else {
-        return;
-    };
-    let Ok(mut table) = Table::fresh(threads, objects, reserved) else {
+    let Some((mut table, lines)) = open_schedule(input) else {
         return;
     };
     for line in lines {

@@ -1,6 +1,7 @@
 //! Holds a replay program against the reference, on stored and on generated schedules.
 //! Usage: crosscheck PROGRAM SCHEDULES_DIR [COUNT] [SEED]
 
+use reference::arguments::number;
 use reference::checked::check_schedule;
 use reference::generate::schedule;
 use reference::replay::replay;
@@ -15,15 +16,11 @@ const DEFAULT_SEED: u64 = 1;
 
 fn main() -> ExitCode {
     let arguments: Vec<String> = std::env::args().skip(1).collect();
-    let number = |place: usize, default: u64| match arguments.get(place) {
-        Some(text) => text.parse::<u64>().map_err(|error| error.to_string()),
-        None => Ok(default),
-    };
     let (Some(program), Some(folder), Ok(count), Ok(seed)) = (
         arguments.first(),
         arguments.get(1),
-        number(2, DEFAULT_COUNT),
-        number(3, DEFAULT_SEED),
+        number(&arguments, 2, DEFAULT_COUNT),
+        number(&arguments, 3, DEFAULT_SEED),
     ) else {
         eprintln!("usage: crosscheck PROGRAM SCHEDULES_DIR [COUNT] [SEED]");
         return ExitCode::FAILURE;

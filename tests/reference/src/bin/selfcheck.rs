@@ -1,6 +1,7 @@
 //! Checks the reference alone: stored schedules by their output, generated ones by demand 3.
 //! Usage: selfcheck SCHEDULES_DIR [COUNT] [SEED]
 
+use reference::arguments::number;
 use reference::checked::check_schedule;
 use reference::generate::schedule;
 use reference::replay::replay;
@@ -15,14 +16,10 @@ const DEFAULT_SEED: u64 = 1;
 
 fn main() -> ExitCode {
     let arguments: Vec<String> = std::env::args().skip(1).collect();
-    let number = |place: usize, default: u64| match arguments.get(place) {
-        Some(text) => text.parse::<u64>().map_err(|error| error.to_string()),
-        None => Ok(default),
-    };
     let (Some(folder), Ok(count), Ok(seed)) = (
         arguments.first(),
-        number(1, DEFAULT_COUNT),
-        number(2, DEFAULT_SEED),
+        number(&arguments, 1, DEFAULT_COUNT),
+        number(&arguments, 2, DEFAULT_SEED),
     ) else {
         eprintln!("usage: selfcheck SCHEDULES_DIR [COUNT] [SEED]");
         return ExitCode::FAILURE;

@@ -2,13 +2,13 @@
 //! Usage: stress [STEPS] [SEED]
 
 use duskclamp::{Answer, Operation, Outcome, Refusal, Table, Words};
+use reference::arguments::number;
 use reference::engine::Event;
 use reference::outcome::Returned;
 use reference::plain::PlainMonitors;
 use reference::random::Random;
 use reference::report::Report;
 use std::process::ExitCode;
-use tables::arguments::number;
 use tables::layout::{decode, phase_byte};
 
 const DEFAULT_STEPS: u64 = 10_000_000;

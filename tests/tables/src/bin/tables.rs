@@ -3,6 +3,7 @@
 //! COUNT tables, each with two events and a question; the replay program, if given, is fed malformed lines, for 21.
 
 use duskclamp::raw;
+use reference::arguments::number;
 use reference::engine::{apply, Event};
 use reference::random::Random;
 use reference::report::{compare_outputs, Report};
@@ -10,7 +11,6 @@ use reference::table::{ObjectRecord, Table, ThreadRecord};
 use reference::word::LockWord;
 use reference::{generate, program, replay, sound};
 use std::process::ExitCode;
-use tables::arguments::number;
 use tables::construct::sound_table;
 use tables::damage::{damage, fields, Field};
 use tables::layout::{decode, encode, TABLE_SIZE};
