@@ -1,6 +1,6 @@
 /* Duskclamp: lock words, monitors and single steps of a runtime, over a table that the caller lends as bytes.
  *
- * Link liblock_engine_c.a, which `rt staticlib lock_engine_c` writes to target/staticlib. It calls no other library.
+ * Link liblock_engine_c.a, which `rt staticlib lock_engine_c` writes to target/staticlib. Of other libraries it needs memcpy and memset alone.
  *
  * A table is DUSKCLAMP_TABLE_SIZE bytes, which the caller owns, keeps and may copy. No call keeps a pointer, allocates, or blocks. Two calls on
  * one table at the same time are a data race, as on any other memory: the caller sees to it that there is one at a time.

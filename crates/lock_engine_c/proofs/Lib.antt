@@ -3,3 +3,4 @@ pub mod Places
 pub mod Written
 pub mod ReadBack
 pub mod FullTables
+pub mod Narrow

@@ -32,7 +32,7 @@ no-such-thread = 12
 abbrev pub no-such-object : ℕ
 no-such-object = 13
 
--- a number as the engine takes it; 255 stands for all that are larger, and is no thread or object of a sound table and no operation
+-- a number as the code hands it to the engine; 255 stands for all that are larger, which changes no answer (proofs/Narrow.antt)
 unfoldable pub narrowOf : ℕ → ℕ
 narrowOf number = pick (ltb 255 number) 255 number
 
@@ -56,14 +56,14 @@ eventOver istable bytes outcome = pick istable (keptOver bytes (outcome .table))
 
 -- the engine's begin and step on the table that the bytes say
 abbrev pub begunOn : List ℕ → ℕ → ℕ → ℕ → Outcome
-begunOn bytes thread operation object = beginOf (tableOf bytes) (narrowOf thread) (narrowOf operation) (narrowOf object)
+begunOn bytes thread operation object = beginOf (tableOf bytes) thread operation object
 
 abbrev pub steppedOn : List ℕ → ℕ → Outcome
-steppedOn bytes thread = stepOf (tableOf bytes) (narrowOf thread)
+steppedOn bytes thread = stepOf (tableOf bytes) thread
 
 -- a fresh table: 11 where the bytes are not as many as a table has, then 22; both leave the bytes
 abbrev pub freshOn : ℕ → ℕ → ℕ → FreshTable
-freshOn threads objects reserved = freshOf (narrowOf threads) (narrowOf objects) (not (eqb reserved 0))
+freshOn threads objects reserved = freshOf threads objects (not (eqb reserved 0))
 
 abbrev pub has-size : List ℕ → Bool
 has-size bytes = eqb (length bytes) table-size
@@ -114,13 +114,13 @@ abbrev pub depthIn : Bool → Table → ℕ → ℕ
 depthIn istable table object = saidOf istable (object-in-range table object) no-such-object (ownership-at table object .depth)
 
 abbrev pub phaseAnswer : List ℕ → ℕ → ℕ
-phaseAnswer bytes thread = phaseIn (isTable bytes) (tableOf bytes) (narrowOf thread)
+phaseAnswer bytes thread = phaseIn (isTable bytes) (tableOf bytes) thread
 
 abbrev pub wordAnswer : List ℕ → ℕ → ℕ
-wordAnswer bytes object = wordIn (isTable bytes) (tableOf bytes) (narrowOf object)
+wordAnswer bytes object = wordIn (isTable bytes) (tableOf bytes) object
 
 abbrev pub ownerAnswer : List ℕ → ℕ → ℕ
-ownerAnswer bytes object = ownerIn (isTable bytes) (tableOf bytes) (narrowOf object)
+ownerAnswer bytes object = ownerIn (isTable bytes) (tableOf bytes) object
 
 abbrev pub depthAnswer : List ℕ → ℕ → ℕ
-depthAnswer bytes object = depthIn (isTable bytes) (tableOf bytes) (narrowOf object)
+depthAnswer bytes object = depthIn (isTable bytes) (tableOf bytes) object

@@ -1,5 +1,6 @@
 -- `lock_engine_c::calls::duskclamp_begin` meets its contract: what was written over the bytes is the bytes of the engine's table.
 use borrow.Author.Needs.{needs}
+use Rattle.lock_engine_c.proofs.Narrow.{narrow-begin}
 use Rattle.lock_engine_c.proofs.Written.{event-written}
 use Rattle.lock_engine_c.proofs.calls.duskclamp_begin.Statement.{statement}
 use Rattle.lock_engine_c.proofs.calls.duskclamp_begin.Tie as tie
@@ -20,6 +21,6 @@ duskclamp-begin-spec =
     let second = third .before in
     let first = second .before in
     let known = first .before .before .is-table .ensures in (
-      simp (gated .begin-gated .ensures .0, third .narrow3 .ensures, second .narrow2 .ensures, first .narrow .ensures, known),
-      simp (gated .begin-gated .ensures .1, third .narrow3 .ensures, second .narrow2 .ensures, first .narrow .ensures, known) (event-written _ _),
+      simp (gated .begin-gated .ensures .0, third .narrow3 .ensures, second .narrow2 .ensures, first .narrow .ensures, known, narrow-begin),
+      simp (gated .begin-gated .ensures .1, third .narrow3 .ensures, second .narrow2 .ensures, first .narrow .ensures, known, narrow-begin) (event-written _ _),
     )))

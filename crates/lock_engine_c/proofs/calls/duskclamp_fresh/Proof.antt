@@ -1,6 +1,7 @@
 -- `lock_engine_c::calls::duskclamp_fresh` meets its contract: what was written over the bytes is the bytes of the fresh table.
 use borrow.Author.Needs.{needs}
 use Rattle.lock_engine_c.specs.Calls.{freshOn}
+use Rattle.lock_engine_c.proofs.Narrow.{narrow-fresh}
 use Rattle.lock_engine_c.proofs.Written.{fresh-written}
 use Rattle.lock_engine_c.proofs.calls.duskclamp_fresh.Statement.{statement}
 use Rattle.lock_engine_c.proofs.calls.duskclamp_fresh.Tie as tie
@@ -23,6 +24,6 @@ duskclamp-fresh-spec =
     let first = second .before in
     let given = first .before .before .args in
     let new = freshOn (given .threads) (given .objects) (given .reserved) in (
-      simp (gated .fresh-gated .ensures .0, made .fresh .ensures, second .narrow2 .ensures, first .narrow .ensures),
-      simp (gated .fresh-gated .ensures .1, made .fresh .ensures, second .narrow2 .ensures, first .narrow .ensures) (fresh-written (given .bytes .now) (new .answer) (new .table)),
+      simp (gated .fresh-gated .ensures .0, made .fresh .ensures, second .narrow2 .ensures, first .narrow .ensures, narrow-fresh),
+      simp (gated .fresh-gated .ensures .1, made .fresh .ensures, second .narrow2 .ensures, first .narrow .ensures, narrow-fresh) (fresh-written (given .bytes .now) (new .answer) (new .table)),
     )))

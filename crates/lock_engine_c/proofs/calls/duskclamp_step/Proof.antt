@@ -1,5 +1,6 @@
 -- `lock_engine_c::calls::duskclamp_step` meets its contract: what was written over the bytes is the bytes of the engine's table.
 use borrow.Author.Needs.{needs}
+use Rattle.lock_engine_c.proofs.Narrow.{narrow-step}
 use Rattle.lock_engine_c.proofs.Written.{event-written}
 use Rattle.lock_engine_c.proofs.calls.duskclamp_step.Statement.{statement}
 use Rattle.lock_engine_c.proofs.calls.duskclamp_step.Tie as tie
@@ -16,6 +17,6 @@ duskclamp-step-spec =
     let gated = c .before .before in
     let number = gated .before .narrow .ensures in
     let known = gated .before .before .before .is-table .ensures in (
-      simp (gated .step-gated .ensures .0, number, known),
-      simp (gated .step-gated .ensures .1, number, known) (event-written _ _),
+      simp (gated .step-gated .ensures .0, number, known, narrow-step),
+      simp (gated .step-gated .ensures .1, number, known, narrow-step) (event-written _ _),
     )))

@@ -1,4 +1,6 @@
--- `lock_engine_c::questions::duskclamp_owner` meets its contract: each way through the code is that of the definition.
+-- `lock_engine_c::questions::duskclamp_owner` meets its contract: the question put to the table that the bytes say; a number is the same narrowed.
+use Rattle.lock_engine_c.specs.Reading.{isTable, tableOf}
+use Rattle.lock_engine_c.proofs.Narrow.{narrow-owner}
 use Rattle.lock_engine_c.proofs.questions.duskclamp_owner.Statement.{statement}
 use Rattle.lock_engine_c.proofs.questions.duskclamp_owner.Tie as tie
 
@@ -10,4 +12,9 @@ duskclamp-owner-spec =
     (λ c κs. tt)
     (λ c κs. tt)
     (λ c κs. tt)
-    (λ c. simp (c .owner-in .ensures, c .before .narrow .ensures, c .before .before .read-table .ensures, c .before .before .before .is-table .ensures)))
+    (λ c.
+    let read = c .before .before in
+    let given = read .before .before .before .args in
+    let bytes = given .bytes .now in
+    simp (c .owner-in .ensures, c .before .narrow .ensures, read .read-table .ensures, read .before .is-table .ensures)
+    (narrow-owner (isTable bytes) (tableOf bytes) (given .object))))
