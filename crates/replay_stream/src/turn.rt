@@ -11,7 +11,7 @@ pub struct Turn {
     pub wrote: usize,
 }
 
-pub fn take_line(session: Session, line: &[u8], out: &mut [u8], at: usize) -> Turn
+pub(crate) fn take_line(session: Session, line: &[u8], out: &mut [u8], at: usize) -> Turn
     requires { ⌜ at + line-room ≤ length (now out) ⌝ }
     ensures { λ r. ⌜ Turned session (now (line .entry)) (now (out .entry)) (now (out .exit)) at r ⌝ }
 {
@@ -25,7 +25,7 @@ pub fn take_line(session: Session, line: &[u8], out: &mut [u8], at: usize) -> Tu
     }
 }
 
-pub fn close(session: Session, out: &mut [u8], at: usize) -> usize
+pub(crate) fn close(session: Session, out: &mut [u8], at: usize) -> usize
     requires { ⌜ at + line-room ≤ length (now out) ⌝ }
     ensures { λ r. ⌜ Closed session (now (out .entry)) (now (out .exit)) at r ⌝ }
 {

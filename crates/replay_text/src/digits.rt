@@ -20,7 +20,7 @@ fn digit_byte(digit: u32) -> u8
 }
 
 // The last `width` digits of the number, the most significant first; written from the last one back.
-pub fn put_digits(out: &mut [u8], at: usize, base: u32, width: usize, number: u32) -> usize
+pub(crate) fn put_digits(out: &mut [u8], at: usize, base: u32, width: usize, number: u32) -> usize
     requires { ⌜ (0 < base) × (base ≤ 16) × (at + width ≤ length (now out)) ⌝ }
     ensures { λ r. ⌜ Wrote (now (out .entry)) (now (out .exit)) at r (digits base width number) ⌝ }
 {
@@ -53,7 +53,7 @@ fn places(number: u16) -> usize
     5
 }
 
-pub fn put_decimal(out: &mut [u8], at: usize, number: u16) -> usize
+pub(crate) fn put_decimal(out: &mut [u8], at: usize, number: u16) -> usize
     requires { ⌜ at + decimal-limit ≤ length (now out) ⌝ }
     ensures { λ r. ⌜ Wrote (now (out .entry)) (now (out .exit)) at r (decimal number) ⌝ }
 {
