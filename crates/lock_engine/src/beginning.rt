@@ -116,8 +116,8 @@ fn begin_ranged(table: Table, thread: u8, operation: u8, object: u8, inrange: bo
     refuse(table, Refusal::NoSuchThread)
 }
 
-// 11.
-fn begin_gated(table: Table, thread: u8, operation: u8, object: u8, issound: bool) -> Outcome
+// 11. For a caller that knows whether the table is sound.
+pub fn begin_gated(table: Table, thread: u8, operation: u8, object: u8, issound: bool) -> Outcome
     ensures { λ r. ⌜ r ≡ beginGated table thread operation object issound ⌝ }
 {
     if issound {

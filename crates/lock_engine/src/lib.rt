@@ -5,9 +5,11 @@ mod outcome;
 mod stepping;
 
 pub use beginning::begin;
+pub use beginning::begin_gated;
 pub use outcome::Outcome;
 pub use outcome::Refusal;
 pub use outcome::Reply;
 pub use outcome::returned;
 pub use outcome::woken;
 pub use stepping::step;
+pub use stepping::step_gated;

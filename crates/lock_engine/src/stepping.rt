@@ -106,8 +106,8 @@ fn step_ranged(table: Table, thread: u8, inrange: bool) -> Outcome
     refuse(table, Refusal::NoSuchThread)
 }
 
-// 11.
-fn step_gated(table: Table, thread: u8, issound: bool) -> Outcome
+// 11. For a caller that knows whether the table is sound.
+pub fn step_gated(table: Table, thread: u8, issound: bool) -> Outcome
     ensures { λ r. ⌜ r ≡ stepGated table thread issound ⌝ }
 {
     if issound {

@@ -32,7 +32,7 @@ use Rattle.lock_engine.specs.declared.outcome.Refusal.the-variants.{NotSound, N
 use Rattle.lock_records.specs.Agrees.{ownership-in, ownership-at}
 use Rattle.record_soundness.proofs.ReadBack.{IsWritten, state-back}
 use Rattle.record_soundness.proofs.EveryNumber.{written-at, running-next}
-use Rattle.lock_schedule.specs.Demand.{Whole}
+use Rattle.lock_table.specs.Whole.{Whole}
 use Rattle.lock_refusals.specs.Refusals.{first-applies, no-rule-seeing, no-rule, step-refusals}
 use Rattle.lock_refusals.proofs.StepEnds.{rule-refusals, decide-ends}
 use Rattle.lock_refusals.proofs.Ended.{Ended, refuse-ended, settle-ended}

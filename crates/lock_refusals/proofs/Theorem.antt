@@ -26,7 +26,7 @@ use Rattle.lock_engine.specs.declared.outcome.Refusal.the-variants.{
 use Rattle.lock_engine.specs.declared.outcome.Reply.{Reply}
 use Rattle.lock_engine.specs.declared.outcome.Reply.the-variants.{Begun, Refused, Answered}
 use Rattle.lock_engine.specs.declared.outcome.Outcome.{Outcome}
-use Rattle.lock_schedule.specs.Demand.{Whole}
+use Rattle.lock_table.specs.Whole.{Whole}
 use Rattle.lock_refusals.specs.Refusals.{Row, first-applies, begin-refusals, step-refusals}
 use Rattle.lock_refusals.specs.Demand.{returned, refused-number, RefusedByFirst, Leaves, DemandOne}
 use Rattle.lock_refusals.proofs.Rows.{from-eleven, first-read, first-made, none-read, none-made}

@@ -12,7 +12,7 @@ use Rattle.lock_table.specs.declared.record.Table.{Table}
 use Rattle.lock_engine.specs.Outcome.{returnedOf}
 use Rattle.lock_engine.specs.declared.outcome.Outcome.{Outcome}
 use Rattle.lock_schedule.specs.Schedule.{eventOf}
-use Rattle.lock_schedule.specs.Demand.{Whole}
+use Rattle.lock_table.specs.Whole.{Whole}
 use Rattle.lock_refusals.specs.Refusals.{Row, IsFirst, NoneApplies, begin-refusals, step-refusals}
 
 abbrev pub returned : Outcome → ℕ

@@ -22,7 +22,7 @@ use Rattle.lock_records.proofs.Ruled.{schedule-ruled}
 use Rattle.record_soundness.proofs.RepresentedSound.{represented-sound}
 use Rattle.record_soundness.proofs.SoundRepresents.{sound-represents}
 use Rattle.lock_schedule.specs.Schedule.{eventOf, replyShown, finalOf, shownOf}
-use Rattle.lock_schedule.specs.Demand.{DemandThree, Whole, SoundKept}
+use Rattle.lock_schedule.specs.Demand.{DemandThree, SoundKept}
 use Rattle.lock_schedule.proofs.Turns.{turn-of, event-is-turn}
 
 module _ (threads objects : ℕ) (some-threads : 1 ≤ threads) (some-objects : 1 ≤ objects) where

@@ -3,11 +3,10 @@ use Prim.Native.Nat.{ℕ, _≤_}
 use mathlib.Core.Path.{_≡_}
 use mathlib.Core.Bool.{Bool, true}
 use mathlib.Core.List.{List}
-use lib.ListN.{length}
 use Rattle.lock_rules.specs.Events.{Event}
 use Rattle.lock_rules.specs.Feed.{feed-all, blank}
-use Rattle.lock_table.specs.Limits.{thread-limit, object-limit, depth-limit}
-use Rattle.lock_table.specs.Access.{objectAt}
+use Rattle.lock_table.specs.Limits.{thread-limit, object-limit}
+use Rattle.lock_table.specs.Whole.{Whole}
 use Rattle.lock_table.specs.Fresh.{freshOf}
 use Rattle.lock_table.specs.declared.record.Table.{Table}
 use Rattle.lock_soundness.specs.Sound.{soundOf}
@@ -24,12 +23,6 @@ abbrev pub DemandThree : Type 0
 DemandThree =
     (threads objects : ℕ) → 1 ≤ threads → threads ≤ thread-limit → 1 ≤ objects → objects ≤ object-limit → (reserved : Bool) (events : List Event)
     → let table = freshOf threads objects reserved .table in Claim table events (finalOf table events)
-
--- what the types of the code give every table: its arrays have these lengths, and depths have 16 bits
-pub record Whole (table : Table) : Type 0 where
-  pub threads : length (table .threads) ≡ thread-limit
-  pub objects : length (table .objects) ≡ object-limit
-  pub depths : (o : ℕ) → objectAt table o .monitor .depth ≤ depth-limit
 
 -- Every event on any sound table, reached by a schedule or not, gives a sound table.
 abbrev pub SoundKept : Type 0

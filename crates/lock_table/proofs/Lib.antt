@@ -2,3 +2,4 @@
 pub mod Records
 pub mod Walks
 pub mod FreshObjects
+pub mod Owned

@@ -4,6 +4,7 @@ pub mod Operation
 pub mod Phase
 pub mod Record
 pub mod Access
+pub mod Whole
 pub mod Monitor
 pub mod Chain
 pub mod Fresh

@@ -8,3 +8,4 @@ pub use reacting::react;
 pub use session::Session;
 pub use session::Stage;
 pub use session::fresh_session;
+pub use session::session_sound;

@@ -1,10 +1,10 @@
-// What a line does to a session, and what it prints.
+// What a line does to a session, and what it prints, for a caller that knows whether the session's table is sound.
 use crate::session::Session;
 use crate::session::Stage;
 use lock_engine::Outcome;
-use lock_engine::begin;
+use lock_engine::begin_gated;
 use lock_engine::returned;
-use lock_engine::step;
+use lock_engine::step_gated;
 use lock_engine::woken;
 use lock_perform::thread_number;
 use lock_table::FreshAnswer;
@@ -17,7 +17,8 @@ use lock_table::thread_at;
 use replay_lines::Line;
 use replay_text::Answer;
 ghost use mathlib.Core.Path.{_≡_};
-ghost use Rattle.replay_session.specs.Session.{staying, openedBy, openOf, phaseOf, wordOf, answerWith, afterEvent, begunBy, steppedBy, runOf, reactBy, reactOf, closingBy, closingOf};
+ghost use Rattle.replay_session.specs.Session.{staying, openedBy, openOf, phaseOf, wordOf, answerWith, afterEvent, closingBy, closingOf};
+ghost use Rattle.replay_session.specs.Known.{begunKnown, steppedKnown, runKnown, reactWith, reactKnown};
 
 pub struct Reaction {
     pub session: Session,
@@ -130,22 +131,26 @@ fn after_event(outcome: Outcome, thread: u8, object: u8) -> Reaction
     stay(Stage::Running, table, answer)
 }
 
-fn begun_by(table: Table, thread: u8, operation: u8, object: u8) -> Reaction
-    ensures { λ r. ⌜ r ≡ begunBy table thread operation object ⌝ }
+fn begun_by(table: Table, thread: u8, operation: u8, object: u8, issound: bool) -> Reaction
+    ensures { λ r. ⌜ r ≡ begunKnown table thread operation object issound ⌝ }
 {
-    after_event(begin(table, thread, operation, object), thread, object)
+    after_event(
+        begin_gated(table, thread, operation, object, issound),
+        thread,
+        object,
+    )
 }
 
-fn stepped_by(table: Table, thread: u8) -> Reaction
-    ensures { λ r. ⌜ r ≡ steppedBy table thread ⌝ }
+fn stepped_by(table: Table, thread: u8, issound: bool) -> Reaction
+    ensures { λ r. ⌜ r ≡ steppedKnown table thread issound ⌝ }
 {
     let own = thread_at(table, thread);
-    after_event(step(table, thread), thread, own.object)
+    after_event(step_gated(table, thread, issound), thread, own.object)
 }
 
 // A line behind a good header.
-fn run_by(table: Table, line: Line) -> Reaction
-    ensures { λ r. ⌜ r ≡ runOf table line ⌝ }
+fn run_by(table: Table, line: Line, issound: bool) -> Reaction
+    ensures { λ r. ⌜ r ≡ runKnown table line issound ⌝ }
 {
     match line {
         Line::Header {
@@ -162,28 +167,30 @@ fn run_by(table: Table, line: Line) -> Reaction
             thread_number(thread),
             operation,
             thread_number(object),
+            issound,
         ),
-        Line::Step { thread } => stepped_by(table, thread_number(thread)),
+        Line::Step { thread } => stepped_by(table, thread_number(thread), issound),
         Line::Malformed => stay(Stage::Running, table, Answer::Refused { number: MALFORMED }),
     }
 }
 
-fn react_by(stage: Stage, table: Table, line: Line) -> Reaction
-    ensures { λ r. ⌜ r ≡ reactBy stage table line ⌝ }
+fn react_by(stage: Stage, table: Table, line: Line, issound: bool) -> Reaction
+    ensures { λ r. ⌜ r ≡ reactWith stage table line issound ⌝ }
 {
     match stage {
         Stage::Opening => open_by(table, line),
-        Stage::Running => run_by(table, line),
+        Stage::Running => run_by(table, line, issound),
         Stage::Over => stay(Stage::Over, table, Answer::Silent),
     }
 }
 
-pub fn react(session: Session, line: Line) -> Reaction
-    ensures { λ r. ⌜ r ≡ reactOf session line ⌝ }
+// A line is taken. With `issound` as session_sound has it this is what document 01 says of the line (replay_session/proofs/Known.antt).
+pub fn react(session: Session, line: Line, issound: bool) -> Reaction
+    ensures { λ r. ⌜ r ≡ reactKnown session line issound ⌝ }
 {
     let stage = session.stage;
     let table = session.table;
-    react_by(stage, table, line)
+    react_by(stage, table, line, issound)
 }
 
 fn closing_by(stage: Stage) -> Answer

@@ -2,6 +2,7 @@
 use lock_table::Table;
 ghost use mathlib.Core.Path.{_≡_};
 ghost use Rattle.replay_session.specs.Session.{noTable, freshSession};
+ghost use Rattle.replay_session.specs.Known.{soundBy, soundSession};
 
 pub enum Stage {
     // the header is to come
@@ -32,4 +33,23 @@ pub fn fresh_session() -> Session
         stage: Stage::Opening,
         table: no_table(),
     }
+}
+
+fn sound_by(stage: Stage, table: Table) -> bool
+    ensures { λ r. ⌜ r ≡ soundBy stage table ⌝ }
+{
+    match stage {
+        Stage::Opening => true,
+        Stage::Running => lock_soundness::sound(table),
+        Stage::Over => true,
+    }
+}
+
+// Whether the session's table is sound, if it has one yet.
+pub fn session_sound(session: Session) -> bool
+    ensures { λ r. ⌜ r ≡ soundSession session ⌝ }
+{
+    let stage = session.stage;
+    let table = session.table;
+    sound_by(stage, table)
 }

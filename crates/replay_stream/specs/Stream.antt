@@ -11,18 +11,20 @@ use Rattle.replay_text.specs.Text.{line-room}
 use Rattle.replay_parts.specs.Part.{Fed, Ended}
 use Rattle.replay_session.specs.declared.session.Session.{Session}
 use Rattle.replay_session.specs.Session.{freshSession, session-replay}
+use Rattle.replay_session.specs.Known.{soundSession}
 use Rattle.replay_stream.specs.declared.turn.Turn.{Turn}
 use Rattle.replay_stream.specs.declared.feeding.Stream.{Stream}
 use Rattle.replay_stream.specs.declared.feeding.Progress.{Progress}
 use Rattle.replay_stream.specs.declared.finishing.Finish.{Finish}
 use Rattle.replay_stream.specs.declared.finishing.Finish.the-variants.{All, More}
 
--- the session moves on, and what the line prints stands behind what stood there
+-- the session moves on, and what the line prints stands behind what stood there; a sound table stays sound, and an unsound one unsound
 pub record Turned (session : Session) (line before after : List ℕ) (at : ℕ) (r : Turn) : Type 0 where
   pub moved : r .session ≡ session-replay .next session (lineOf line)
   pub front : take (r .wrote) after ≡ take at before ++ session-replay .prints session (lineOf line)
   pub most : r .wrote ≤ at + line-room
   pub within : r .wrote ≤ length after
+  pub sound-kept : soundSession (r .session) ≡ soundSession session
 
 pub record Closed (session : Session) (before after : List ℕ) (at r : ℕ) : Type 0 where
   pub front : take r after ≡ take at before ++ session-replay .closing session

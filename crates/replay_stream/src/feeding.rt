@@ -34,10 +34,12 @@ pub fn fresh_stream() -> Stream
 }
 
 // The whole lines at the start of the part, while there is room for what they print. The rest of the part goes to the next line's reader.
+// The table is tested once for all of them.
 fn take_lines(start: Session, input: &[u8], out: &mut [u8]) -> Progress
     requires { ⌜ HasLine (now input) (now out) ⌝ }
     ensures { λ r. ⌜ FedFrom start false (now (input .entry)) (now (out .exit)) r ⌝ }
 {
+    let issound = replay_session::session_sound(start);
     let mut session = start;
     let mut rest = input;
     let mut wrote: usize = 0;
@@ -53,7 +55,7 @@ fn take_lines(start: Session, input: &[u8], out: &mut [u8]) -> Progress
                 wrote: wrote,
             };
         }
-        let turn = take_line(session, &rest[..end], out, wrote);
+        let turn = take_line(session, issound, &rest[..end], out, wrote);
         session = turn.session;
         wrote = turn.wrote;
         rest = &rest[end..];
@@ -98,7 +100,8 @@ fn take_long_line(session: Session, input: &[u8], out: &mut [u8]) -> Progress
     requires { ⌜ (line-limit < length (now input)) × (lineEnd (now input) ≡ 0) × (line-room ≤ length (now out)) ⌝ }
     ensures { λ r. ⌜ FedFrom session false (now (input .entry)) (now (out .exit)) r ⌝ }
 {
-    let turn = take_line(session, input, out, 0);
+    let issound = replay_session::session_sound(session);
+    let turn = take_line(session, issound, input, out, 0);
     let next = turn.session;
     Progress {
         stream: Stream {

@@ -35,7 +35,8 @@ pub fn end_input(start: Stream, input: &[u8], out: &mut [u8]) -> Finish
             wrote: close(session, out, 0),
         };
     }
-    let turn = take_line(session, input, out, 0);
+    let issound = replay_session::session_sound(session);
+    let turn = take_line(session, issound, input, out, 0);
     let next = turn.session;
     let at = turn.wrote;
     Finish::All {

@@ -1,11 +1,11 @@
 -- `replay_session::reacting::run_by` meets its contract: each way through the code is that of the definition.
 use borrow.Author.Needs.{needs}
-use Rattle.replay_session.specs.Session.{runOf}
+use Rattle.replay_session.specs.Known.{runKnown}
 use Rattle.replay_session.proofs.reacting.run_by.Statement.{statement}
 use Rattle.replay_session.proofs.reacting.run_by.Tie as tie
 
 pub run-by-spec : {M : Type 1} → statement M
-unfolding runOf
+unfolding runKnown
 run-by-spec =
     tie.close
     (tie.spec

@@ -1,24 +1,26 @@
--- `replay_stream::feeding::take_lines` meets its contract: each turn takes the first line of the rest.
-use mathlib.Core.Path.{sym, _∙_}
+-- `replay_stream::feeding::take_lines` meets its contract: each turn takes the first line of the rest, and the table is as sound as it was.
+use mathlib.Core.Path.{_≡_, sym, _∙_}
 use mathlib.Core.Logic.{inl, inr}
 use lib.ListN.{length}
 use borrow.Author.Needs.{needs}
 use Rattle.replay_lines.proofs.Lines.{line-fits, line-length, rest-shorter}
 use Rattle.replay_session.specs.Session.{session-replay}
+use Rattle.replay_session.specs.Known.{soundSession}
 use Rattle.replay_parts.proofs.Turn.{Going, going-first, going-next, going-stops}
 use Rattle.replay_stream.proofs.feeding.take_lines.Statement.{statement}
 use Rattle.replay_stream.proofs.feeding.take_lines.Tie as tie
 
 abbrev Inv-loop : tie.InvT-loop
-Inv-loop input out₀ session₀ rest₀ wrote₀ out session rest wrote = Going session-replay session₀ input out₀ out session rest wrote
+Inv-loop input out₀ issound session₀ rest₀ wrote₀ out session rest wrote =
+    Going session-replay session₀ input out₀ out session rest wrote × (issound ≡ soundSession session)
 
 abbrev μ-loop : tie.MeasureT-loop
-μ-loop input out₀ session₀ rest₀ wrote₀ out session rest wrote = length rest
+μ-loop input out₀ issound session₀ rest₀ wrote₀ out session rest wrote = length rest
 
 returns : tie.Need-returns Inv-loop μ-loop
 returns c =
     let loop = c .before .before .before in
-    going-stops (loop .loop .inv) (inr (sym (c .before .line-end .ensures) ∙ c .if1 .taken)) (loop .before .before .before .pre)
+    going-stops (loop .loop .inv .0) (inr (sym (c .before .line-end .ensures) ∙ c .if1 .taken)) (loop .before .before .before .before .pre)
 
 line-count : tie.Need-slice-aggregate-take-line Inv-loop μ-loop
 line-count c =
@@ -41,11 +43,13 @@ loop-again c =
     let turn = c .before .before .before .before in
     let test = turn .before .before .before in
     let turned = turn .take-line .ensures in
-    going-next (test .before .before .before .loop .inv) (test .before .line-end .ensures) (test .if1 .left) (turned .moved) (turned .front) (turned .within)
-    (turn .take-line .kept .1 .1 .0)
+    let (going, known) = test .before .before .before .loop .inv in (
+      going-next going (test .before .line-end .ensures) (test .if1 .left) (turned .moved) (turned .front) (turned .within) (turn .take-line .kept .1 .1 .1 .0),
+      known ∙ sym (turned .sound-kept),
+    )
 
 returns-2 : tie.Need-returns-2 Inv-loop μ-loop
-returns-2 c = going-stops (c .before .loop .inv) (inl (c .loop-test .left)) (c .before .before .before .before .pre)
+returns-2 c = going-stops (c .before .loop .inv .0) (inl (c .loop-test .left)) (c .before .before .before .before .before .pre)
 
 pub take-lines-spec : {M : Type 1} → statement M
 take-lines-spec =
@@ -53,14 +57,15 @@ take-lines-spec =
     (tie.spec
     Inv-loop
     μ-loop
-    (λ c. going-first _ _ _ _)
+    (λ c κs. tt)
+    (λ c. (going-first _ _ _ _, c .session-sound .ensures))
     (λ c. search needs)
     (λ c κs. tt)
     (λ c. search needs)
     (λ c. search needs)
     returns
     line-count
-    (λ c κs. search needs)
+    (λ c κs. (search needs, c .before .before .before .before .before .loop .inv .1))
     fits
     fits
     (λ c. search needs)

@@ -39,14 +39,14 @@ returns-4 c =
 close-requires-3 : tie.Need-close-requires-3
 close-requires-3 c κs =
     let turn = c .before .before .before .before in
-    let room = turn .before .before .before .before .before .before in
-    omega (arith, turn .take-line .ensures .most, turn .take-line .kept .1 .1 .0, room .if1 .left)
+    let room = turn .before .before .before .before .before .before .before in
+    omega (arith, turn .take-line .ensures .most, turn .take-line .kept .1 .1 .1 .0, room .if1 .left)
 
 returns-5 : tie.Need-returns-5
 returns-5 c =
     let closed = c .before .before in
     let turn = closed .before .before .before .before .before in
-    let test = turn .before .before in
+    let test = turn .before .before .before in
     let args = test .before .before .before .before .before .before .before .before .args in
     let none = sym (test .before .before .before .line-end .ensures) ∙ test .before .before .if2 .left in
     let turned = turn .take-line .ensures in
@@ -75,7 +75,8 @@ end-input-spec =
     (λ c κs. search needs)
     (λ c. search needs)
     returns-4
-    (λ c κs. search needs)
+    (λ c κs. tt)
+    (λ c κs. (search needs, c .before .session-sound .ensures))
     close-requires-3
     (λ c. search needs)
     returns-5)
