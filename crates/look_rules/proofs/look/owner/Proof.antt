@@ -1,0 +1,22 @@
+-- `look_rules::look::owner` meets its contract: each way through the code is that of the definition.
+use borrow.Author.Needs.{needs}
+use borrow.Author.Tests.{eq-eqb, ne-eqb}
+use Rattle.look_rules.proofs.look.owner.Statement.{statement}
+use Rattle.look_rules.proofs.look.owner.Tie as tie
+
+pub owner-spec : {M : Type 1} → statement M
+owner-spec =
+    tie.close
+    (tie.spec
+    (λ c. search needs)
+    (λ c. search needs)
+    (λ c. search needs)
+    (λ c. simp (eq-eqb _ _ (c .if1 .taken), c .before .enum-told3 .given .1))
+    (λ c. search needs)
+    (λ c. search needs)
+    (λ c. simp (eq-eqb _ _ (c .if2 .taken), c .before .before .word2 .given .1))
+    (λ c. simp (c .enum-told .given .1))
+    (λ c. simp (c .enum-told2 .given .1))
+    (λ c. simp (ne-eqb _ _ (c .if1 .left), c .before .enum-told3 .given .1))
+    (λ c. simp (c .before .word .given .1))
+    (λ c. simp (ne-eqb _ _ (c .if2 .left), c .before .before .word2 .given .1)))
