@@ -97,6 +97,11 @@ reads-unless {a} {b} {P} {Q} p q = record { read = read a (p .read); make = make
     make true known f = refl
     make false known f = q .make (f (λ x. false≢true (known x)))
 
+-- a test that is asked past a number alone
+pub reads-past : (n last : ℕ) {test : Bool} {P : Type 0} → Reads test P → Reads (either (leb n last) test) (last < n → P)
+reads-past n last known =
+    reads-map (reads-unless (reads-leb n last) known) (λ f past. f (λ inside. omega (arith, past, inside))) (λ f away. f (omega (arith, away)))
+
 pub reads-implies : {a b : Bool} {P Q : Type 0} → Reads a P → Reads b Q → Reads (pick a b true) (P → Q)
 reads-implies {a} {b} {P} {Q} p q = record { read = read a (p .make); make = make a (p .read) }
   where

@@ -4,7 +4,6 @@ use mathlib.Core.Path.{_≡_, refl, sym, ap}
 use mathlib.Core.Logic.{_≢_, _⊎_, inl, inr}
 use mathlib.Core.Bool.{Bool, true, false}
 use native.Mathlib.Omega.{arith}
-use lib.Dec.{leb}
 use lib.ListN.{getD}
 use borrow.Author.Tests.{eq-eqb, ne-eqb, lt-ltb, le-ltb}
 use Rattle.laws.specs.Choice.{pick, both, within}
@@ -14,48 +13,15 @@ use Rattle.laws.proofs.Every.{all-at, all-of}
 use Rattle.chains.specs.Chain.{chain-test}
 use Rattle.lock_word.specs.Read.{decodeOf}
 use Rattle.lock_table.specs.Limits.{thread-limit, object-limit}
-use Rattle.lock_table.specs.Phase.{phaseNumberOf}
-use Rattle.lock_table.specs.Record.{noObject}
-use Rattle.lock_table.specs.Access.{threadAt, objectAt, nextOf}
+use Rattle.lock_table.specs.Phase.{phaseNumberOf, chainNamed}
+use Rattle.lock_table.specs.Record.{noObject, threadChain, emptyThread, emptyObject}
+use Rattle.lock_table.specs.Monitor.{firstIn}
+use Rattle.lock_table.specs.Access.{threadAt, objectAt, nextOf, phaseAt, carriedAt, homeAt, firstAt}
 use Rattle.lock_table.specs.declared.record.Monitor.{Monitor}
 use Rattle.lock_table.specs.declared.record.ObjectRecord.{ObjectRecord}
 use Rattle.lock_table.specs.declared.record.Table.{Table}
 use Rattle.lock_table.proofs.Records.{object-in}
-use Rattle.lock_soundness.specs.Fields.{
-  sizesFit,
-  wordFits,
-  operationFits,
-  keptFits,
-  savedFits,
-  unheldFits,
-  chainNamed,
-  threadChain,
-  firstIn,
-  foundIn,
-  namesChain,
-  emptyThread,
-  emptyObject,
-  unusedFits,
-}
-use Rattle.lock_soundness.specs.Sound.{
-  phaseAt,
-  carriedAt,
-  homeAt,
-  firstAt,
-  wordsValid,
-  operationsFit,
-  keptWordsFit,
-  savedDepthsFit,
-  holdersFit,
-  unheldMonitorsFit,
-  chainsEnd,
-  parkedFound,
-  chainsNamed,
-  pastThreadsEmpty,
-  pastObjectsEmpty,
-  unusedFieldsEmpty,
-  soundOf,
-}
+use Rattle.lock_soundness.specs.Sound.{sizesFit, wordFits, operationFits, keptFits, savedFits, holderFits, unheldFits, foundIn, namesChain, unusedFits, soundOf}
 use Rattle.lock_soundness.specs.Meaning.{Each}
 use Rattle.lock_soundness.specs.Fused.{
   usedThreadFits,
@@ -85,9 +51,9 @@ use Rattle.lock_soundness.proofs.Facts.{
   reads-used-and-past,
   reads-same,
 }
-use Rattle.lock_soundness.proofs.Clauses.{Clauses, clauses}
+use Rattle.lock_soundness.proofs.Clauses.{Pass, Clauses, clauses}
 use Rattle.lock_soundness.proofs.Chained.{test-joined}
-use Rattle.lock_soundness.proofs.RecordReading.{reads-sizes, reads-operation, reads-empty-thread, reads-empty-object, reads-past}
+use Rattle.lock_soundness.proofs.RecordReading.{reads-sizes, reads-operation, reads-empty-thread, reads-empty-object}
 use Rattle.lock_soundness.proofs.Walks.{empty-passes}
 use Rattle.lock_soundness.proofs.Exactly.{parked-busy}
 
@@ -105,7 +71,7 @@ module _ (t : Table) where
   abbrev ObjectClauses : ℕ → Type 0
   ObjectClauses o =
       (wordFits (t .threadcount) o (decodeOf (objectAt t o .word)) ≡ true)
-      × ((leb (objectAt t o .monitor .holder) (t .threadcount) ≡ true) × (unheldFits (objectAt t o .monitor) ≡ true))
+      × ((holderFits (t .threadcount) (objectAt t o .monitor) ≡ true) × (unheldFits (objectAt t o .monitor) ≡ true))
 
   abbrev ends : ℕ → Bool
   ends first = chain-test (t .threadcount) (nextOf t) (λ n. within 1 (t .threadcount) n) first
@@ -114,7 +80,7 @@ module _ (t : Table) where
   named o chain first = chain-test (t .threadcount) (nextOf t) (λ n. namesChain o chain (threadAt t n)) first
 
   abbrev Walked : ℕ → Type 0
-  Walked o = (all-up-to 3 (λ chain. ends (firstAt t o chain)) ≡ true) × (all-up-to 3 (λ chain. named o chain (firstAt t o chain)) ≡ true)
+  Walked o = Pass 3 (λ chain. ends (firstAt t o chain)) × Pass 3 (λ chain. named o chain (firstAt t o chain))
 
 -- each is what the code asks of the record
 module _ (t : Table) (few : t .threadcount ≤ thread-limit) (fewer : t .objectcount ≤ object-limit) where
@@ -174,11 +140,11 @@ module _ (t : Table) (few : t .threadcount ≤ thread-limit) (fewer : t .objectc
       rw (chains-by-number o (objectAt t o .monitor))
       (record {
         read = λ e. (
-          all-of 3 _ (λ chain low high. walked o chain (firstAt t o chain) .read (all-at 3 _ e chain low high) .0),
-          all-of 3 _ (λ chain low high. walked o chain (firstAt t o chain) .read (all-at 3 _ e chain low high) .1),
+          λ chain low high. walked o chain (firstAt t o chain) .read (all-at 3 _ e chain low high) .0,
+          λ chain low high. walked o chain (firstAt t o chain) .read (all-at 3 _ e chain low high) .1,
         );
         make = λ (inside, names).
-            all-of 3 _ (λ chain low high. walked o chain (firstAt t o chain) .make (all-at 3 _ inside chain low high, all-at 3 _ names chain low high));
+            all-of 3 _ (λ chain low high. walked o chain (firstAt t o chain) .make (inside chain low high, names chain low high));
       })
 
   -- an object's record is where the code looks for it
@@ -246,8 +212,7 @@ module _ (t : Table) (few : t .threadcount ≤ thread-limit) (fewer : t .objectc
 
 -- all of them
 fused-reads : (t : Table) → Reads (fusedOf t) (Clauses t)
-unfolding fusedOf wordsValid operationsFit keptWordsFit savedDepthsFit holdersFit unheldMonitorsFit
-    chainsEnd parkedFound chainsNamed pastThreadsEmpty pastObjectsEmpty unusedFieldsEmpty
+unfolding fusedOf
 fused-reads t =
     reads-map
     (reads-then (reads-self (sizesFit (t .threadcount) (t .objectcount)))
@@ -257,43 +222,29 @@ fused-reads t =
     (λ (sizes, ((threads, threads-past), (objects, objects-past))).
     record {
       sizes = sizes;
-      words = all-of (t .objectcount) _ (λ o low high. objects o low high .0 .0);
-      operations = all-of (t .threadcount) _ (λ n low high. threads n low high .0 .0);
-      kept-words = all-of (t .threadcount) _ (λ n low high. threads n low high .0 .1 .0);
-      saved-depths = all-of (t .threadcount) _ (λ n low high. threads n low high .0 .1 .1 .0);
-      holders = all-of (t .objectcount) _ (λ o low high. objects o low high .0 .1 .0);
-      unheld = all-of (t .objectcount) _ (λ o low high. objects o low high .0 .1 .1);
-      chains = all-of (t .objectcount) _ (λ o low high. objects o low high .1 .0);
-      parked = all-of (t .threadcount) _ (λ n low high. threads n low high .1);
-      named = all-of (t .objectcount) _ (λ o low high. objects o low high .1 .1);
-      threads-past = all-of thread-limit _ (λ n low high. reads-past n (t .threadcount) (reads-self _) .make (threads-past n low high));
-      objects-past = all-of object-limit _ (λ o low high. reads-past o (t .objectcount) (reads-self _) .make (objects-past o low high));
-      unused = all-of (t .threadcount) _ (λ n low high. threads n low high .0 .1 .1 .1);
+      words = λ o low high. objects o low high .0 .0;
+      operations = λ n low high. threads n low high .0 .0;
+      kept-words = λ n low high. threads n low high .0 .1 .0;
+      saved-depths = λ n low high. threads n low high .0 .1 .1 .0;
+      holders = λ o low high. objects o low high .0 .1 .0;
+      unheld = λ o low high. objects o low high .0 .1 .1;
+      chains = λ o low high. objects o low high .1 .0;
+      parked = λ n low high. threads n low high .1;
+      named = λ o low high. objects o low high .1 .1;
+      threads-past = threads-past;
+      objects-past = objects-past;
+      unused = λ n low high. threads n low high .0 .1 .1 .1;
     })
     (λ c.
     let thread : Each (t .threadcount) (λ n. ThreadClauses t n × Found t n) = λ n low high. (
-      (
-        all-at (t .threadcount) _ (c .operations) n low high,
-        (
-          all-at (t .threadcount) _ (c .kept-words) n low high,
-          (all-at (t .threadcount) _ (c .saved-depths) n low high, all-at (t .threadcount) _ (c .unused) n low high),
-        ),
-      ),
-      all-at (t .threadcount) _ (c .parked) n low high,
+      (c .operations n low high, (c .kept-words n low high, (c .saved-depths n low high, c .unused n low high))),
+      c .parked n low high,
     ) in
     let object : Each (t .objectcount) (λ o. ObjectClauses t o × Walked t o) = λ o low high. (
-      (
-        all-at (t .objectcount) _ (c .words) o low high,
-        (all-at (t .objectcount) _ (c .holders) o low high, all-at (t .objectcount) _ (c .unheld) o low high),
-      ),
-      (all-at (t .objectcount) _ (c .chains) o low high, all-at (t .objectcount) _ (c .named) o low high),
-    ) in (
-      c .sizes,
-      (
-        (thread, λ n low high. reads-past n (t .threadcount) (reads-self _) .read (all-at thread-limit _ (c .threads-past) n low high)),
-        (object, λ o low high. reads-past o (t .objectcount) (reads-self _) .read (all-at object-limit _ (c .objects-past) o low high)),
-      ),
-    ))
+      (c .words o low high, (c .holders o low high, c .unheld o low high)),
+      (c .chains o low high, c .named o low high),
+    ) in
+    (c .sizes, ((thread, c .threads-past), (object, c .objects-past))))
 
 pub fused-is : (t : Table) → fusedOf t ≡ soundOf t
 fused-is t = reads-same (fused-reads t) (clauses t)
