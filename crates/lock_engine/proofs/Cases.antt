@@ -17,7 +17,21 @@ use Rattle.lock_perform.specs.State.{stateBy, lookOf, goInOf, recordOf, doingRe
 use Rattle.lock_perform.specs.Sight.{seenOf}
 use Rattle.lock_perform.specs.Moving.{actionOf}
 use Rattle.lock_perform.specs.Perform.{wordAfter}
-use Rattle.lock_soundness.specs.Sound.{sizesFit, wordFits, usesPhase, carriesPhase, operationFits, keptFits, savesDepth, savedFits, unheldFits, foundIn, namesChain, unusedFits, soundOf}
+use Rattle.lock_soundness.specs.Sound.{
+  sizesFit,
+  wordFits,
+  usesPhase,
+  carriesPhase,
+  operationFits,
+  keptFits,
+  savesDepth,
+  savedFits,
+  unheldFits,
+  foundIn,
+  namesChain,
+  unusedFits,
+  soundOf,
+}
 use Rattle.lock_engine.specs.Outcome.{returnedOf, answerNumberOf}
 use Rattle.lock_engine.specs.Step.{stepOf, stepGated, stepRanged, stepThread, stepWord, settleOf}
 use Rattle.lock_engine.specs.Cases.{engine-cases, all-cases}
@@ -27,11 +41,11 @@ both-hold [] more p q = q
 both-hold (row ∷ rows) more p q = (p .0, both-hold rows more (p .1) q)
 
 engine-cases-hold : AllHold engine-cases
-unfolding all-up-to members chain-test decodeOf flatOf reservedOf fatOf decide enter-look exit-owned go-in go-in-again threadAt setThread objectAt setObject
-    freshOf freshReturnedOf firstWordOf operationNumberOf phaseNumberOf carriedNumberOf stateBy lookOf goInOf recordOf doingRecordOf seenOf actionOf wordAfter sizesFit wordFits
-    usesPhase carriesPhase operationFits keptFits savesDepth savedFits unheldFits chainNamed firstIn foundIn namesChain emptyThread emptyMonitor emptyObject
-    unusedFits soundOf
-    returnedOf answerNumberOf stepOf stepGated stepRanged stepThread stepWord settleOf
+unfolding all-up-to members chain-test decodeOf flatOf reservedOf fatOf decide enter-look exit-owned go-in go-in-again threadAt setThread objectAt
+    setObject freshOf freshReturnedOf firstWordOf operationNumberOf phaseNumberOf carriedNumberOf stateBy lookOf goInOf recordOf doingRecordOf seenOf
+    actionOf wordAfter sizesFit wordFits usesPhase carriesPhase operationFits keptFits savesDepth savedFits unheldFits chainNamed firstIn foundIn
+    namesChain emptyThread emptyMonitor emptyObject unusedFits soundOf returnedOf answerNumberOf stepOf stepGated stepRanged stepThread stepWord
+    settleOf
 engine-cases-hold = (
   (refl, refl, refl, refl),
   (

@@ -46,7 +46,8 @@ outside limit n past = rw (lt-leb n limit past) (both-no (leb 1 n))
 sizes : (table : Table) → soundOf table ≡ true → (table .threadcount ≤ thread-limit) × (table .objectcount ≤ object-limit)
 unfolding soundOf
 sizes table sound =
-    let read = reads-sizes (table .threadcount) (table .objectcount) .read (both-first (sizesFit (table .threadcount) (table .objectcount)) _ sound) in
+    let fit = both-first (sizesFit (table .threadcount) (table .objectcount)) _ sound in
+    let read = reads-sizes (table .threadcount) (table .objectcount) .read fit in
     (read .0 .1, read .1 .1)
 
 module _ (table : Table) where

@@ -1,7 +1,7 @@
 -- Tests that pass just where a fact holds, put together as the tests are.
 use Prim.Native.Nat.{ℕ, _≤_, _<_}
 use mathlib.Core.Path.{_≡_, refl, sym, _∙_}
-use mathlib.Core.Logic.{_≢_, _⊎_, inl, inr}
+use mathlib.Core.Logic.{_⊎_, inl, inr}
 use mathlib.Core.Bool.{Bool, true, false, not}
 use native.Mathlib.Omega.{arith}
 use lib.Dec.{eqb, ltb, leb}
@@ -14,9 +14,6 @@ use Rattle.laws.proofs.Every.{all-at, all-of}
 pub record Reads (test : Bool) (Fact : Type 0) : Type 0 where
   pub read : test ≡ true → Fact
   pub make : Fact → test ≡ true
-
-pub reads-self : (test : Bool) → Reads test (test ≡ true)
-reads-self test = record { read = λ e. e; make = λ e. e }
 
 pub reads-map : {test : Bool} {P Q : Type 0} → Reads test P → (P → Q) → (Q → P) → Reads test Q
 reads-map known there back = record { read = λ e. there (known .read e); make = λ q. known .make (back q) }

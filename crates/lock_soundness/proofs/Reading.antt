@@ -42,7 +42,7 @@ module _ (t : Table) where
       (λ o. reads-all 3 _ (λ chain. reads-chain (t .threadcount) (nextOf t) (firstAt t o chain) (test o chain) (next-none t) (known o chain)))
 
   -- clause by clause
-  sound-is : Reads (soundOf t) (Sound t)
+  pub sound-is : Reads (soundOf t) (Sound t)
   unfolding soundOf
   sound-is =
       reads-map
@@ -80,8 +80,16 @@ module _ (t : Table) where
       let links : Chained (λ o chain n. Within 1 (t .threadcount) n) = λ o low high chain first last.
       (s .chains-end o low high chain first last, s .chains-inside o low high chain first last) in
       let named : Chained (λ o chain n. (threadAt t n .object ≡ o) × (threadChain (threadAt t n) ≡ chain)) = λ o low high chain first last.
-      (s .chains-end o low high chain first last, s .no-others o low high chain first last) in
-      (s .sizes, (s .words, (s .operations, (s .kept-words, (s .saved-depths, (s .holders, (s .unheld, (links, (s .parked, (named, (s .threads-past, (s .objects-past, s .unused)))))))))))))
+      (s .chains-end o low high chain first last, s .no-others o low high chain first last) in (
+        s .sizes,
+        (
+          s .words,
+          (
+            s .operations,
+            (s .kept-words, (s .saved-depths, (s .holders, (s .unheld, (links, (s .parked, (named, (s .threads-past, (s .objects-past, s .unused))))))))),
+          ),
+        ),
+      ))
 
   pub sound-reads : soundOf t ≡ true → Sound t
   sound-reads = sound-is .read

@@ -2,7 +2,6 @@
 use Prim.Native.Nat.{ℕ, _<_}
 use mathlib.Core.Path.{_≡_, refl, ap}
 use mathlib.Core.Logic.{_≢_}
-use mathlib.Core.Bool.{Bool}
 use native.Mathlib.Omega.{arith}
 use lib.Dec.{eqb}
 use Rattle.laws.specs.Count.{count}
@@ -41,7 +40,22 @@ use Rattle.lock_table.specs.declared.phase.Phase.the-variants.{
 use Rattle.lock_table.specs.declared.record.ThreadRecord.{ThreadRecord}
 use Rattle.lock_table.specs.declared.record.Monitor.{Monitor}
 use Rattle.lock_table.specs.declared.record.ObjectRecord.{ObjectRecord}
-use Rattle.lock_soundness.specs.Sound.{sizesFit, wordFits, usesPhase, carriesPhase, operationFits, keptCountFits, reservedFor, keptFits, savesDepth, savedFits, unheldFits, foundIn, namesChain, unusedFits}
+use Rattle.lock_soundness.specs.Sound.{
+  sizesFit,
+  wordFits,
+  usesPhase,
+  carriesPhase,
+  operationFits,
+  keptCountFits,
+  reservedFor,
+  keptFits,
+  savesDepth,
+  savedFits,
+  unheldFits,
+  foundIn,
+  namesChain,
+  unusedFits,
+}
 use Rattle.lock_soundness.specs.Meaning.{
   Within,
   WordFits,

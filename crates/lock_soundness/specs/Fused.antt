@@ -17,7 +17,18 @@ use Rattle.lock_table.specs.declared.record.ThreadRecord.{ThreadRecord}
 use Rattle.lock_table.specs.declared.record.Monitor.{Monitor}
 use Rattle.lock_table.specs.declared.record.ObjectRecord.{ObjectRecord}
 use Rattle.lock_table.specs.declared.record.Table.{Table}
-use Rattle.lock_soundness.specs.Sound.{sizesFit, wordFits, operationFits, keptFits, savedFits, holderFits, unheldFits, foundIn, namesChain, unusedFits}
+use Rattle.lock_soundness.specs.Sound.{
+  sizesFit,
+  wordFits,
+  operationFits,
+  keptFits,
+  savedFits,
+  holderFits,
+  unheldFits,
+  foundIn,
+  namesChain,
+  unusedFits,
+}
 
 -- the fields of a thread's record, in use or past the last
 unfoldable pub usedThreadFits : ℕ → ℕ → ℕ → ℕ → ThreadRecord → Bool

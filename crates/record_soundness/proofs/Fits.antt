@@ -31,7 +31,17 @@ use Rattle.lock_table.specs.Operation.{operationNumberOf}
 use Rattle.lock_table.specs.Phase.{onwardNumberOf, phaseNumberOf, carriedNumberOf, chainNamed}
 use Rattle.lock_table.specs.declared.record.ThreadRecord.{ThreadRecord}
 use Rattle.lock_perform.specs.State.{doingRecordOf, carriedRecordOf, recordOf}
-use Rattle.lock_soundness.specs.Sound.{usesPhase, carriesPhase, operationFits, keptCountFits, reservedFor, keptFits, savesDepth, savedFits, unusedFits}
+use Rattle.lock_soundness.specs.Sound.{
+  usesPhase,
+  carriesPhase,
+  operationFits,
+  keptCountFits,
+  reservedFor,
+  keptFits,
+  savesDepth,
+  savedFits,
+  unusedFits,
+}
 use Rattle.lock_soundness.specs.Fused.{usedThreadFits}
 use Rattle.lock_soundness.specs.Meaning.{Within, OperationFits, ReservedFor, SavesDepth, UnusedFits}
 use Rattle.lock_soundness.proofs.Facts.{Reads, reads-map, reads-both, reads-within}
