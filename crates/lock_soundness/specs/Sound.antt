@@ -1,5 +1,5 @@
 -- When a table is sound (document 01, "Lock words", the sentence "Sound means"): its clauses in its order and words, each a test that computes.
--- Phases are document 01's numbers; n is a thread of T `threads`, o an object of N `objects`; a chain is 1 entry, 2 contention or 3 waiting.
+-- Phases are document 01's numbers, `threads` its T and `objects` its N; n is a thread, o an object, and a chain 1 entry, 2 contention or 3 waiting.
 use Prim.Native.Nat.{ℕ, _-_}
 use mathlib.Core.Bool.{Bool, true, false}
 use lib.Dec.{eqb, leb}

@@ -3,7 +3,7 @@ pub mod Limits
 pub mod Operation
 pub mod Phase
 pub mod Record
-pub mod Monitor
 pub mod Access
+pub mod Monitor
 pub mod Chain
 pub mod Fresh
