@@ -16,6 +16,10 @@ abbrev pub either : Bool → Bool → Bool
 either true b = true
 either false b = b
 
+-- the fact is asked only where the test passes
+abbrev pub implies : Bool → Bool → Bool
+implies test fact = pick test fact true
+
 -- low ≤ n ≤ high
 abbrev pub within : ℕ → ℕ → ℕ → Bool
 within low high n = both (leb low n) (leb n high)

@@ -7,15 +7,17 @@ use Rattle.lock_word.specs.Read.{decodeOf, flatOf, reservedOf, fatOf}
 use Rattle.lock_word.specs.Cases.{Case, AllHold, word-cases}
 use Rattle.lock_word.proofs.Cases.{word-cases-hold}
 use Rattle.lock_rules.specs.Rules.{decide, enter-look, exit-owned, go-in, go-in-again}
+use Rattle.lock_table.specs.Record.{emptyThread, emptyMonitor, emptyObject}
+use Rattle.lock_table.specs.Monitor.{firstIn}
 use Rattle.lock_table.specs.Access.{threadAt, setThread, objectAt, setObject}
 use Rattle.lock_table.specs.Fresh.{freshOf, freshReturnedOf, firstWordOf}
 use Rattle.lock_table.specs.Operation.{operationNumberOf}
-use Rattle.lock_table.specs.Phase.{phaseNumberOf, carriedNumberOf}
+use Rattle.lock_table.specs.Phase.{phaseNumberOf, carriedNumberOf, chainNamed}
 use Rattle.lock_perform.specs.State.{stateBy, lookOf, goInOf, recordOf, doingRecordOf}
 use Rattle.lock_perform.specs.Sight.{seenOf}
 use Rattle.lock_perform.specs.Moving.{actionOf}
 use Rattle.lock_perform.specs.Perform.{wordAfter}
-use Rattle.lock_soundness.specs.Fields.{
+use Rattle.lock_soundness.specs.Sound.{
   sizesFit,
   wordFits,
   usesPhase,
@@ -25,29 +27,10 @@ use Rattle.lock_soundness.specs.Fields.{
   savesDepth,
   savedFits,
   unheldFits,
-  chainNamed,
-  firstIn,
   foundIn,
   namesChain,
-  emptyThread,
-  emptyMonitor,
-  emptyObject,
   unusedFits,
-}
-use Rattle.lock_soundness.specs.Sound.{
   soundOf,
-  wordsValid,
-  operationsFit,
-  keptWordsFit,
-  savedDepthsFit,
-  holdersFit,
-  unheldMonitorsFit,
-  chainsEnd,
-  parkedFound,
-  chainsNamed,
-  pastThreadsEmpty,
-  pastObjectsEmpty,
-  unusedFieldsEmpty,
 }
 use Rattle.lock_engine.specs.Outcome.{returnedOf, answerNumberOf}
 use Rattle.lock_engine.specs.Step.{stepOf, stepGated, stepRanged, stepThread, stepWord, settleOf}
@@ -58,11 +41,11 @@ both-hold [] more p q = q
 both-hold (row ∷ rows) more p q = (p .0, both-hold rows more (p .1) q)
 
 engine-cases-hold : AllHold engine-cases
-unfolding all-up-to members chain-test decodeOf flatOf reservedOf fatOf decide enter-look exit-owned go-in go-in-again threadAt setThread objectAt setObject
-    freshOf freshReturnedOf firstWordOf operationNumberOf phaseNumberOf carriedNumberOf stateBy lookOf goInOf recordOf doingRecordOf seenOf actionOf wordAfter sizesFit wordFits
-    usesPhase carriesPhase operationFits keptFits savesDepth savedFits unheldFits chainNamed firstIn foundIn namesChain emptyThread emptyMonitor emptyObject
-    unusedFits soundOf wordsValid operationsFit keptWordsFit savedDepthsFit holdersFit unheldMonitorsFit chainsEnd parkedFound chainsNamed pastThreadsEmpty
-    pastObjectsEmpty unusedFieldsEmpty returnedOf answerNumberOf stepOf stepGated stepRanged stepThread stepWord settleOf
+unfolding all-up-to members chain-test decodeOf flatOf reservedOf fatOf decide enter-look exit-owned go-in go-in-again threadAt setThread objectAt
+    setObject freshOf freshReturnedOf firstWordOf operationNumberOf phaseNumberOf carriedNumberOf stateBy lookOf goInOf recordOf doingRecordOf seenOf
+    actionOf wordAfter sizesFit wordFits usesPhase carriesPhase operationFits keptFits savesDepth savedFits unheldFits chainNamed firstIn foundIn
+    namesChain emptyThread emptyMonitor emptyObject unusedFits soundOf returnedOf answerNumberOf stepOf stepGated stepRanged stepThread stepWord
+    settleOf
 engine-cases-hold = (
   (refl, refl, refl, refl),
   (

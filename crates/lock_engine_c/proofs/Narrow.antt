@@ -15,7 +15,7 @@ use Rattle.lock_table.specs.Operation.{operationFromOf}
 use Rattle.lock_table.specs.declared.operation.Operation.{Operation}
 use Rattle.lock_table.specs.declared.operation.Operation.the-variants.{Idle, Enter, Exit, Wait, Notify, NotifyAll}
 use Rattle.lock_table.specs.declared.record.Table.{Table}
-use Rattle.lock_soundness.specs.Sound.{soundOf, sizesInRange}
+use Rattle.lock_soundness.specs.Sound.{sizesFit, soundOf}
 use Rattle.lock_soundness.proofs.RecordReading.{reads-sizes}
 use Rattle.lock_engine.specs.Begin.{beginObject, beginOperation, beginRanged, beginGated, beginOf}
 use Rattle.lock_engine.specs.Step.{stepRanged, stepGated, stepOf}
@@ -46,7 +46,8 @@ outside limit n past = rw (lt-leb n limit past) (both-no (leb 1 n))
 sizes : (table : Table) → soundOf table ≡ true → (table .threadcount ≤ thread-limit) × (table .objectcount ≤ object-limit)
 unfolding soundOf
 sizes table sound =
-    let read = reads-sizes (table .threadcount) (table .objectcount) .read (both-first (sizesInRange table) _ sound) in
+    let fit = both-first (sizesFit (table .threadcount) (table .objectcount)) _ sound in
+    let read = reads-sizes (table .threadcount) (table .objectcount) .read fit in
     (read .0 .1, read .1 .1)
 
 module _ (table : Table) where

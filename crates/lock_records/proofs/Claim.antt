@@ -37,7 +37,7 @@ use Rattle.lock_rules.proofs.SoundKept.{sound-fresh}
 use Rattle.lock_rules.proofs.Standing.{stands-run}
 use Rattle.lock_table.specs.Limits.{thread-limit, object-limit}
 use Rattle.lock_table.specs.Phase.{phaseNumberOf, carriedNumberOf}
-use Rattle.lock_table.specs.Access.{threadAt, objectAt, nextOf}
+use Rattle.lock_table.specs.Access.{threadAt, objectAt, nextOf, phaseAt}
 use Rattle.lock_table.specs.Fresh.{freshOf}
 use Rattle.lock_table.specs.declared.record.ThreadRecord.{ThreadRecord}
 use Rattle.lock_table.specs.declared.record.ObjectRecord.{ObjectRecord}
@@ -48,7 +48,7 @@ use Rattle.lock_records.proofs.Represents.{monitor-record, Represents}
 use Rattle.lock_records.proofs.Readings.{busy-in, thread-is, home-is, members-are, word-is}
 use Rattle.lock_records.proofs.RecordKind.{record-kind, sound-stands}
 use Rattle.lock_records.proofs.FreshRecords.{fresh-represents}
-use Rattle.lock_records.specs.Agrees.{ownership-in, ownership-at, phase-at, woken-at}
+use Rattle.lock_records.specs.Agrees.{ownership-in, ownership-at, woken-at}
 use Rattle.lock_records.specs.Agrees.{OwnedByOther, BusyOther, Agrees}
 
 -- nobody owns at depth 0
@@ -192,7 +192,7 @@ module _ (threads objects : ℕ) (t : Table) (lists : ListTable) (represents : R
         (λ j. ownership-in (word-is threads objects t lists represents sound o real small j) (represents .object-at o real small j .monitor))
         ∙ ownership-seen o (represents .links) (lists .objects o .word) (lists .objects o .holder) (lists .objects o .depth)
 
-    phase-is : (n : ℕ) → phase-at t n ≡ phase-of (lists .threads n .state)
+    phase-is : (n : ℕ) → phaseAt t n ≡ phase-of (lists .threads n .state)
     phase-is n =
         ap (λ (thread : ThreadRecord). phaseNumberOf (thread .phase)) (thread-is threads objects t lists represents sound n)
         ∙ phase-written n (lists .threads n .object) (lists .threads n .state) (represents .links .next n)
@@ -234,7 +234,7 @@ module _ (threads objects : ℕ) (t : Table) (lists : ListTable) (represents : R
               other,
             ))
         at real small (inr (other, away, free, busy, same)) =
-            let steps : Steps (phase-at t other) =
+            let steps : Steps (phaseAt t other) =
             rw (phase-is other) (steps-unparked (lists .threads other .state) free busy) in
             inr (
               other,

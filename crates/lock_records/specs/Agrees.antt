@@ -16,8 +16,7 @@ use Rattle.lock_word.specs.declared.meaning.Ownership.{Ownership}
 use Rattle.lock_rules.specs.Events.{Reply, Shown, returned}
 use Rattle.lock_rules.specs.Feed.{Plain, AllEndRight}
 use Rattle.lock_table.specs.Limits.{thread-limit}
-use Rattle.lock_table.specs.Phase.{phaseNumberOf, carriedNumberOf}
-use Rattle.lock_table.specs.Access.{threadAt, objectAt, nextOf}
+use Rattle.lock_table.specs.Access.{threadAt, objectAt, nextOf, phaseAt, carriedAt}
 use Rattle.lock_table.specs.declared.record.Monitor.{Monitor}
 use Rattle.lock_table.specs.declared.record.Table.{Table}
 
@@ -37,24 +36,17 @@ ownership-in (Valid (Fat number)) monitor = held-by monitor
 abbrev pub ownership-at : Table → ℕ → Ownership
 ownership-at table o = ownership-in (decodeOf (objectAt table o .word)) (objectAt table o .monitor)
 
--- thread n's phase, and the phase that it carries if it is queued, by their numbers
-abbrev pub phase-at : Table → ℕ → ℕ
-phase-at table n = phaseNumberOf (threadAt table n .phase)
-
-abbrev pub carried-at : Table → ℕ → ℕ
-carried-at table n = carriedNumberOf (threadAt table n .phase)
-
 -- "Woken means carrying 15 or in 15."
 abbrev pub woken-at : Table → ℕ → ℕ → Bool
-woken-at table o n = both (eqb (threadAt table n .object) o) (either (eqb (phase-at table n) 15) (eqb (carried-at table n) 15))
+woken-at table o n = both (eqb (threadAt table n .object) o) (either (eqb (phaseAt table n) 15) (eqb (carriedAt table n) 15))
 
 -- "Parked for entry means phase 5 or 8."
 abbrev pub ParkedForEntry : Table → ℕ → Type 0
-ParkedForEntry table n = (phase-at table n ≡ 5) ⊎ (phase-at table n ≡ 8)
+ParkedForEntry table n = (phaseAt table n ≡ 5) ⊎ (phaseAt table n ≡ 8)
 
 -- "Unparked means any phase but 5, 8 and 14."
 abbrev pub Unparked : Table → ℕ → Type 0
-Unparked table n = (phase-at table n ≢ 5) × (phase-at table n ≢ 8) × (phase-at table n ≢ 14)
+Unparked table n = (phaseAt table n ≢ 5) × (phaseAt table n ≢ 8) × (phaseAt table n ≢ 14)
 
 abbrev pub IsThread : Table → ℕ → Type 0
 IsThread table n = (1 ≤ n) × (n ≤ table .threadcount)
@@ -66,7 +58,7 @@ OwnedByOther table o n = let owner = ownership-at table o .thread in IsThread ta
 -- another unparked thread than n has an unfinished operation on object o
 abbrev pub BusyOther : Table → ℕ → ℕ → Type 0
 BusyOther table o n =
-    (other : ℕ) × IsThread table other × (other ≢ n) × Unparked table other × (phase-at table other ≢ 0) × (threadAt table other .object ≡ o)
+    (other : ℕ) × IsThread table other × (other ≢ n) × Unparked table other × (phaseAt table other ≢ 0) × (threadAt table other .object ≡ o)
 
 -- the table after a schedule, and the plain monitors fed with the same schedule
 pub record Agrees (table : Table) (plain : Plain) : Type 0 where

@@ -11,7 +11,7 @@ use Rattle.laws.proofs.Choice.{Equal, equal}
 use Rattle.lock_rules.specs.declared.ThreadState.{ThreadState}
 use Rattle.lock_rules.specs.declared.ThreadState.the-variants.{Idle, Running, Queued, Contending, Waiting}
 use Rattle.lock_table.specs.Operation.{operationFromOf}
-use Rattle.lock_table.specs.Access.{threadAt}
+use Rattle.lock_table.specs.Access.{threadAt, phaseAt}
 use Rattle.lock_table.specs.declared.operation.Operation.{Operation}
 use Rattle.lock_table.specs.declared.operation.Operation.the-variants.{Idle as NoOperation, Enter, Exit, Wait, Notify, NotifyAll}
 use Rattle.lock_table.specs.declared.record.Table.{Table}
@@ -20,7 +20,6 @@ use Rattle.lock_soundness.specs.Sound.{soundOf}
 use Rattle.lock_engine.specs.Outcome.{refusalNumberOf, returnedOf, refuseOf}
 use Rattle.lock_engine.specs.Begin.{beginOf, beginGated, beginRanged, beginOperation, beginObject, beginThread}
 use Rattle.lock_engine.specs.declared.outcome.Refusal.the-variants.{NotSound, NoSuchThread, NoSuchObject, NotIdle, NoSuchOperation}
-use Rattle.lock_records.specs.Agrees.{phase-at}
 use Rattle.record_soundness.proofs.EveryNumber.{idle-phase, phase-idle}
 use Rattle.lock_refusals.specs.Refusals.{first-applies, begin-refusals}
 use Rattle.lock_refusals.proofs.Ended.{EndedSame, refuse-same}
@@ -39,7 +38,7 @@ no-operation number high =
 
 -- the first of a begin's refusals from 14, 13 and 17 on; `inside` says that the object is in 1..N
 abbrev from-thread : Table → ℕ → ℕ
-from-thread table thread = pick (not (eqb (phase-at table thread) 0)) 14 0
+from-thread table thread = pick (not (eqb (phaseAt table thread) 0)) 14 0
 
 abbrev from-object : Table → ℕ → Bool → ℕ
 from-object table thread inside = pick (not inside) 13 (from-thread table thread)
@@ -62,9 +61,9 @@ module _ (table : Table) (thread object : ℕ) where
     thread-begins : (operation : Operation)
         → EndedSame table (beginThread table thread operation object (stateOf (threadAt table thread))) (from-thread table thread)
     unfolding beginThread refusalNumberOf returnedOf
-    thread-begins operation = at (eqb (phase-at table thread) 0) (equal (phase-at table thread) 0)
+    thread-begins operation = at (eqb (phaseAt table thread) 0) (equal (phaseAt table thread) 0)
       where
-        at : (idle : Bool) → Equal idle (phase-at table thread) 0
+        at : (idle : Bool) → Equal idle (phaseAt table thread) 0
             → EndedSame table (beginThread table thread operation object (stateOf (threadAt table thread))) (pick (not idle) 14 0)
         at true is =
             rw (phase-idle table sound thread is)

@@ -18,14 +18,14 @@ use Rattle.lock_rules.specs.declared.Action.{Action}
 use Rattle.lock_rules.specs.declared.Action.the-variants.{Unruled, Do}
 use Rattle.lock_table.specs.Limits.{depth-limit}
 use Rattle.lock_table.specs.Operation.{operationNumberOf}
-use Rattle.lock_table.specs.Access.{threadAt, objectAt}
+use Rattle.lock_table.specs.Access.{threadAt, objectAt, phaseAt}
 use Rattle.lock_table.specs.declared.record.Monitor.{Monitor}
 use Rattle.lock_table.specs.declared.record.ObjectRecord.{ObjectRecord}
 use Rattle.lock_table.specs.declared.record.Table.{Table}
 use Rattle.lock_perform.specs.State.{stateOf}
 use Rattle.lock_perform.specs.Sight.{sightOf}
 use Rattle.lock_soundness.specs.Sound.{soundOf}
-use Rattle.lock_records.specs.Agrees.{ownership-at, phase-at}
+use Rattle.lock_records.specs.Agrees.{ownership-at}
 
 -- one refusal: its number, and whether it applies
 pub record Row : Type 0 where
@@ -64,7 +64,7 @@ begin-refusals table thread operation object =
     ∷ row 12 (not (within 1 (table .threadcount) thread))
     ∷ row 17 (not (within 1 5 operation))
     ∷ row 13 (not (within 1 (table .objectcount) object))
-    ∷ row 14 (not (eqb (phase-at table thread) 0))
+    ∷ row 14 (not (eqb (phaseAt table thread) 0))
     ∷ []
 
 -- 16: "thread parked (phase 5, 8, 14)"
@@ -99,7 +99,7 @@ no-rule table thread object (Waiting suspension) = false
 -- "11, 12; step then 15, 16, then its rule"
 abbrev pub step-refusals : Table → ℕ → List Row
 step-refusals table thread =
-    let phase = phase-at table thread in
+    let phase = phaseAt table thread in
     let operation = operation-at table thread in
     let home = home-at table thread in
     row 11 (not (soundOf table))

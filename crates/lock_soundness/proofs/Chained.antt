@@ -1,7 +1,6 @@
 -- The test of a chain read as facts: where its links lead, and what holds of its threads.
 use Prim.Native.Nat.{ℕ, zero, suc, _≤_, _<_}
 use mathlib.Core.Path.{_≡_, refl}
-use mathlib.Core.Logic.{_≢_}
 use mathlib.Core.Bool.{Bool, true, false}
 use mathlib.Core.List.{List, [], _∷_}
 use native.Mathlib.Omega.{arith}
@@ -12,7 +11,7 @@ use Rattle.laws.specs.Count.{count}
 use Rattle.laws.proofs.Choice.{Equal, equal}
 use Rattle.chains.specs.Chain.{members, chain-test}
 use Rattle.chains.proofs.Chain.{Chain, chain-without-zero}
-use Rattle.chains.proofs.Test.{Passes, chain-test-reads, chain-test-of}
+use Rattle.chains.proofs.Test.{chain-test-reads, chain-test-of}
 use Rattle.lock_soundness.specs.Meaning.{follow}
 use Rattle.lock_soundness.proofs.Facts.{Reads}
 
@@ -72,18 +71,7 @@ module _ (fuel : ℕ) (next : ℕ → ℕ) (first : ℕ) where
             });
       }
 
-  -- two tests of one chain make a third that asks no more
-  pub test-joined : (a b c : ℕ → Bool) → ((n : ℕ) → n ≢ 0 → a n ≡ true → b n ≡ true → c n ≡ true)
-      → chain-test fuel next a first ≡ true → chain-test fuel next b first ≡ true → chain-test fuel next c first ≡ true
-  test-joined a b c join e f =
-      let left = chain-test-reads fuel next a first e in
-      let right = chain-test-reads fuel next b first f in
-      chain-test-of fuel next c first (members fuel next first)
-      (record {
-        chain = left .chain;
-        short = left .short;
-        good = λ n h. join n (real left n h) (left .good n h) (right .good n h);
-      })
-    where
-      real : Passes fuel next a first (members fuel next first) → (n : ℕ) → 0 < count n (members fuel next first) → n ≢ 0
-      real left n h e = omega (arith, chain-without-zero next first (members fuel next first) (left .chain), rw e at h)
+  -- no member is 0, the number that ends a chain
+  pub members-real : follow fuel next first ≡ 0 → Members (λ n. 1 ≤ n)
+  members-real leads zero h = absurd (omega (arith, chain-without-zero next first (members fuel next first) (leads-chain fuel next first leads), h))
+  members-real leads (suc n) h = omega arith

@@ -1,7 +1,7 @@
 -- Tests that pass just where a fact holds, put together as the tests are.
 use Prim.Native.Nat.{ℕ, _≤_, _<_}
 use mathlib.Core.Path.{_≡_, refl, sym, _∙_}
-use mathlib.Core.Logic.{_≢_, _⊎_, inl, inr}
+use mathlib.Core.Logic.{_⊎_, inl, inr}
 use mathlib.Core.Bool.{Bool, true, false, not}
 use native.Mathlib.Omega.{arith}
 use lib.Dec.{eqb, ltb, leb}
@@ -14,9 +14,6 @@ use Rattle.laws.proofs.Every.{all-at, all-of}
 pub record Reads (test : Bool) (Fact : Type 0) : Type 0 where
   pub read : test ≡ true → Fact
   pub make : Fact → test ≡ true
-
-pub reads-self : (test : Bool) → Reads test (test ≡ true)
-reads-self test = record { read = λ e. e; make = λ e. e }
 
 pub reads-map : {test : Bool} {P Q : Type 0} → Reads test P → (P → Q) → (Q → P) → Reads test Q
 reads-map known there back = record { read = λ e. there (known .read e); make = λ q. known .make (back q) }
@@ -96,6 +93,11 @@ reads-unless {a} {b} {P} {Q} p q = record { read = read a (p .read); make = make
     make : (a : Bool) → (P → a ≡ true) → ((P → ⊥) → Q) → either a b ≡ true
     make true known f = refl
     make false known f = q .make (f (λ x. false≢true (known x)))
+
+-- a test that is asked past a number alone
+pub reads-past : (n last : ℕ) {test : Bool} {P : Type 0} → Reads test P → Reads (either (leb n last) test) (last < n → P)
+reads-past n last known =
+    reads-map (reads-unless (reads-leb n last) known) (λ f past. f (λ inside. omega (arith, past, inside))) (λ f away. f (omega (arith, away)))
 
 pub reads-implies : {a b : Bool} {P Q : Type 0} → Reads a P → Reads b Q → Reads (pick a b true) (P → Q)
 reads-implies {a} {b} {P} {Q} p q = record { read = read a (p .make); make = make a (p .read) }

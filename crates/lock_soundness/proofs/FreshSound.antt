@@ -3,7 +3,6 @@ use Prim.Native.Nat.{ℕ, _+_, _-_, _≤_, _<_}
 use mathlib.Core.Path.{_≡_, refl, ap, _∙_}
 use mathlib.Core.Logic.{inl, inr}
 use mathlib.Core.Bool.{Bool, true, false}
-use mathlib.Core.List.{List}
 use native.Mathlib.Omega.{arith}
 use lib.Dec.{eqb, ltb}
 use lib.ListN.{length, getD, replicate, getD-replicate, length-replicate, List·getD-append}
@@ -17,17 +16,17 @@ use Rattle.chains.specs.Chain.{members}
 use Rattle.chains.proofs.Chain.{members-none}
 use Rattle.lock_word.specs.Read.{decodeOf, flatOf, reservedOf}
 use Rattle.lock_table.specs.Limits.{thread-limit, object-limit}
-use Rattle.lock_table.specs.Phase.{phaseNumberOf, carriedNumberOf}
-use Rattle.lock_table.specs.Record.{noThread, noObject, withWord}
-use Rattle.lock_table.specs.Access.{threadAt, objectAt, nextOf}
+use Rattle.lock_table.specs.Phase.{phaseNumberOf, carriedNumberOf, chainNamed}
+use Rattle.lock_table.specs.Record.{noThread, noObject, withWord, threadChain}
+use Rattle.lock_table.specs.Monitor.{firstIn}
+use Rattle.lock_table.specs.Access.{threadAt, objectAt, nextOf, phaseAt, carriedAt, firstAt}
 use Rattle.lock_table.specs.Fresh.{firstWordOf, freshObjectsOf, tableOf, freshOf}
 use Rattle.lock_table.specs.declared.record.ThreadRecord.{ThreadRecord}
 use Rattle.lock_table.specs.declared.record.ObjectRecord.{ObjectRecord}
 use Rattle.lock_table.specs.declared.record.Table.{Table}
 use Rattle.lock_table.proofs.Records.{object-in}
 use Rattle.lock_table.proofs.Walks.{next-none}
-use Rattle.lock_soundness.specs.Fields.{chainNamed, threadChain, firstIn}
-use Rattle.lock_soundness.specs.Sound.{soundOf, phaseAt, carriedAt, firstAt}
+use Rattle.lock_soundness.specs.Sound.{soundOf}
 use Rattle.lock_soundness.specs.Meaning.{chainAt, WordFits, SavesDepth, Sound}
 use Rattle.lock_soundness.proofs.Chained.{follow-none}
 use Rattle.lock_soundness.proofs.Reading.{sound-of}

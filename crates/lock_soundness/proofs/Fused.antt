@@ -1,62 +1,41 @@
 -- The order in which the code finds soundness out is of no account: `fused-is`.
-use Prim.Native.Nat.{ℕ, _-_, _≤_, _<_}
+use Prim.Native.Nat.{ℕ, _≤_, _<_}
 use mathlib.Core.Path.{_≡_, refl, sym, ap}
 use mathlib.Core.Logic.{_≢_, _⊎_, inl, inr}
 use mathlib.Core.Bool.{Bool, true, false}
 use native.Mathlib.Omega.{arith}
-use lib.Dec.{leb}
 use lib.ListN.{getD}
 use borrow.Author.Tests.{eq-eqb, ne-eqb, lt-ltb, le-ltb}
-use Rattle.laws.specs.Choice.{pick, both, within}
+use Rattle.laws.specs.Choice.{pick, both}
+use Rattle.laws.specs.Count.{count}
 use Rattle.laws.specs.Every.{all-up-to}
 use Rattle.laws.proofs.Choice.{equal?}
-use Rattle.laws.proofs.Every.{all-at, all-of}
-use Rattle.chains.specs.Chain.{chain-test}
+use Rattle.chains.specs.Chain.{members, chain-test}
 use Rattle.lock_word.specs.Read.{decodeOf}
-use Rattle.lock_table.specs.Limits.{thread-limit, object-limit}
-use Rattle.lock_table.specs.Phase.{phaseNumberOf}
-use Rattle.lock_table.specs.Record.{noObject}
-use Rattle.lock_table.specs.Access.{threadAt, objectAt, nextOf}
+use Rattle.lock_table.specs.Limits.{thread-limit, object-limit, depth-limit}
+use Rattle.lock_table.specs.Phase.{phaseNumberOf, chainNamed}
+use Rattle.lock_table.specs.Record.{noThread, noObject, threadChain}
+use Rattle.lock_table.specs.Monitor.{firstIn}
+use Rattle.lock_table.specs.Access.{threadAt, objectAt, nextOf, phaseAt, carriedAt, homeAt, firstAt}
 use Rattle.lock_table.specs.declared.record.Monitor.{Monitor}
 use Rattle.lock_table.specs.declared.record.ObjectRecord.{ObjectRecord}
 use Rattle.lock_table.specs.declared.record.Table.{Table}
 use Rattle.lock_table.proofs.Records.{object-in}
-use Rattle.lock_soundness.specs.Fields.{
-  sizesFit,
-  wordFits,
-  operationFits,
-  keptFits,
-  savedFits,
-  unheldFits,
-  chainNamed,
-  threadChain,
-  firstIn,
-  foundIn,
-  namesChain,
-  emptyThread,
-  emptyObject,
-  unusedFits,
+use Rattle.lock_table.proofs.Walks.{next-none}
+use Rattle.lock_soundness.specs.Sound.{foundIn, soundOf}
+use Rattle.lock_soundness.specs.Meaning.{
+  Within,
+  Each,
+  follow,
+  chainAt,
+  WordFits,
+  OperationFits,
+  ReservedFor,
+  SavesDepth,
+  UnheldFits,
+  UnusedFits,
+  Sound,
 }
-use Rattle.lock_soundness.specs.Sound.{
-  phaseAt,
-  carriedAt,
-  homeAt,
-  firstAt,
-  wordsValid,
-  operationsFit,
-  keptWordsFit,
-  savedDepthsFit,
-  holdersFit,
-  unheldMonitorsFit,
-  chainsEnd,
-  parkedFound,
-  chainsNamed,
-  pastThreadsEmpty,
-  pastObjectsEmpty,
-  unusedFieldsEmpty,
-  soundOf,
-}
-use Rattle.lock_soundness.specs.Meaning.{Each}
 use Rattle.lock_soundness.specs.Fused.{
   usedThreadFits,
   threadFits,
@@ -76,79 +55,84 @@ use Rattle.lock_soundness.proofs.Facts.{
   Reads,
   reads-map,
   reads-as,
-  reads-self,
+  reads-leb,
   reads-then,
   reads-first,
   reads-both,
-  reads-within,
   reads-guard,
+  reads-all,
   reads-used-and-past,
   reads-same,
 }
-use Rattle.lock_soundness.proofs.Clauses.{Clauses, clauses}
-use Rattle.lock_soundness.proofs.Chained.{test-joined}
-use Rattle.lock_soundness.proofs.RecordReading.{reads-sizes, reads-operation, reads-empty-thread, reads-empty-object, reads-past}
+use Rattle.lock_soundness.proofs.Chained.{reads-chain, members-real}
+use Rattle.lock_soundness.proofs.RecordReading.{
+  reads-sizes,
+  reads-word,
+  reads-operation,
+  reads-kept,
+  reads-saved,
+  reads-unheld,
+  reads-found,
+  reads-names,
+  reads-empty-thread,
+  reads-empty-object,
+  reads-unused,
+}
+use Rattle.lock_soundness.proofs.Reading.{sound-is}
 use Rattle.lock_soundness.proofs.Walks.{empty-passes}
 use Rattle.lock_soundness.proofs.Exactly.{parked-busy}
 
--- what the clauses ask of one thread, of one object, and of a chain
+-- what soundness says of one thread, of one object, and of a chain
 module _ (t : Table) where
-  abbrev ThreadClauses : ℕ → Type 0
-  ThreadClauses n =
-      (operationFits (t .objectcount) (phaseAt t n) (carriedAt t n) (threadAt t n) ≡ true)
-      × ((keptFits n (phaseAt t n) (threadAt t n) ≡ true)
-      × ((savedFits (phaseAt t n) (carriedAt t n) (threadAt t n) ≡ true) × (unusedFits (phaseAt t n) (carriedAt t n) (threadAt t n) ≡ true)))
+  abbrev ThreadSays : ℕ → Type 0
+  ThreadSays n =
+      (phaseAt t n ≢ 0 → OperationFits (t .objectcount) (phaseAt t n) (carriedAt t n) (threadAt t n))
+      × ((phaseAt t n ≡ 2 → ReservedFor n (threadAt t n .operation) (decodeOf (threadAt t n .kept)))
+      × ((SavesDepth (phaseAt t n) (carriedAt t n) → Within 1 depth-limit (threadAt t n .saved))
+      × UnusedFits (phaseAt t n) (carriedAt t n) (threadAt t n)))
 
   abbrev Found : ℕ → Type 0
-  Found n = foundIn (t .threadcount) (nextOf t) n (threadChain (threadAt t n)) (homeAt t n .monitor) ≡ true
+  Found n = threadChain (threadAt t n) ≢ 0 → 0 < count n (chainAt t (threadAt t n .object) (threadChain (threadAt t n)))
 
-  abbrev ObjectClauses : ℕ → Type 0
-  ObjectClauses o =
-      (wordFits (t .threadcount) o (decodeOf (objectAt t o .word)) ≡ true)
-      × ((leb (objectAt t o .monitor .holder) (t .threadcount) ≡ true) × (unheldFits (objectAt t o .monitor) ≡ true))
+  abbrev ObjectSays : ℕ → Type 0
+  ObjectSays o =
+      WordFits (t .threadcount) o (decodeOf (objectAt t o .word))
+      × ((objectAt t o .monitor .holder ≤ t .threadcount) × UnheldFits (objectAt t o .monitor))
 
-  abbrev ends : ℕ → Bool
-  ends first = chain-test (t .threadcount) (nextOf t) (λ n. within 1 (t .threadcount) n) first
+  abbrev ChainSays : ℕ → ℕ → ℕ → Type 0
+  ChainSays o chain first =
+      (follow (t .threadcount) (nextOf t) first ≡ 0)
+      × ((n : ℕ) → 0 < count n (members (t .threadcount) (nextOf t) first)
+      → Within 1 (t .threadcount) n × ((threadAt t n .object ≡ o) × (threadChain (threadAt t n) ≡ chain)))
 
-  abbrev named : ℕ → ℕ → ℕ → Bool
-  named o chain first = chain-test (t .threadcount) (nextOf t) (λ n. namesChain o chain (threadAt t n)) first
-
-  abbrev Walked : ℕ → Type 0
-  Walked o = (all-up-to 3 (λ chain. ends (firstAt t o chain)) ≡ true) × (all-up-to 3 (λ chain. named o chain (firstAt t o chain)) ≡ true)
+  abbrev ChainsSay : ℕ → Type 0
+  ChainsSay o = Each 3 (λ chain. ChainSays o chain (firstAt t o chain))
 
 -- each is what the code asks of the record
 module _ (t : Table) (few : t .threadcount ≤ thread-limit) (fewer : t .objectcount ≤ object-limit) where
-  -- one walk finds out what two clauses ask of a chain
   member : (o chain n : ℕ)
       → Reads (memberFits (t .threads) (t .threadcount) o chain n)
-      ((n ≤ t .threadcount) × ((n ≤ thread-limit) × (namesChain o chain (threadAt t n) ≡ true)))
+      ((n ≤ t .threadcount) × ((n ≤ thread-limit) × ((threadAt t n .object ≡ o) × (threadChain (threadAt t n) ≡ chain))))
   unfolding memberFits threadIn threadAt
-  member o chain n = reads-guard (t .threadcount) n (reads-guard thread-limit n (reads-self _))
+  member o chain n = reads-guard (t .threadcount) n (reads-guard thread-limit n (reads-names o chain (threadAt t n)))
 
-  walked : (o chain first : ℕ)
-      → Reads (chainPasses (t .threads) (t .threadcount) o chain first) ((ends t first ≡ true) × (named t o chain first ≡ true))
+  -- one walk finds out what two clauses ask of a chain
+  walked : (o chain first : ℕ) → Reads (chainPasses (t .threads) (t .threadcount) o chain first) (ChainSays t o chain first)
   unfolding chainPasses threadIn threadAt
   walked o chain first =
-      let inside : ℕ → Bool = within 1 (t .threadcount) in
-      let names : ℕ → Bool = λ n. namesChain o chain (threadAt t n) in
-      let fits : ℕ → Bool = memberFits (t .threads) (t .threadcount) o chain in
-      record {
-        read = λ e. (
-          join fits fits inside (λ n real m again. reads-within 1 (t .threadcount) n .make (omega (arith, real), member o chain n .read m .0)) e e,
-          join fits fits names (λ n real m again. member o chain n .read m .1 .1) e e,
-        );
-        make = λ (all-inside, all-named).
-            join inside names fits (λ n real low-high m. whole n (reads-within 1 (t .threadcount) n .read low-high) m) all-inside all-named;
-      }
-    where
-      join : (a b c : ℕ → Bool) → ((n : ℕ) → n ≢ 0 → a n ≡ true → b n ≡ true → c n ≡ true)
-          → chain-test (t .threadcount) (nextOf t) a first ≡ true → chain-test (t .threadcount) (nextOf t) b first ≡ true
-          → chain-test (t .threadcount) (nextOf t) c first ≡ true
-      join = test-joined (t .threadcount) (nextOf t) first
-
-      whole : (n : ℕ) → (1 ≤ n) × (n ≤ t .threadcount) → namesChain o chain (threadAt t n) ≡ true
-          → memberFits (t .threads) (t .threadcount) o chain n ≡ true
-      whole n (low, high) m = member o chain n .make (high, (omega (arith, high, few), m))
+      reads-map (reads-chain (t .threadcount) (nextOf t) first (memberFits (t .threads) (t .threadcount) o chain) (next-none t) (member o chain))
+      (λ (leads, good). (
+        leads,
+        λ n h.
+            let (inside, (held, names)) = good n h in
+            ((omega (arith, members-real (t .threadcount) (nextOf t) first leads n h), inside), names),
+      ))
+      (λ (leads, good). (
+        leads,
+        λ n h.
+            let ((low, high), names) = good n h in
+            (high, (omega (arith, high, few), names)),
+      ))
 
   -- an object's three chains, by number
   chains-by-number : (o : ℕ) (monitor : Monitor)
@@ -169,17 +153,8 @@ module _ (t : Table) (few : t .threadcount ≤ thread-limit) (fewer : t .objectc
       three false false true = refl
       three false false false = refl
 
-  walks : (o : ℕ) → Reads (chainsPass (t .threads) (t .threadcount) o (objectAt t o .monitor)) (Walked t o)
-  walks o =
-      rw (chains-by-number o (objectAt t o .monitor))
-      (record {
-        read = λ e. (
-          all-of 3 _ (λ chain low high. walked o chain (firstAt t o chain) .read (all-at 3 _ e chain low high) .0),
-          all-of 3 _ (λ chain low high. walked o chain (firstAt t o chain) .read (all-at 3 _ e chain low high) .1),
-        );
-        make = λ (inside, names).
-            all-of 3 _ (λ chain low high. walked o chain (firstAt t o chain) .make (all-at 3 _ inside chain low high, all-at 3 _ names chain low high));
-      })
+  walks : (o : ℕ) → Reads (chainsPass (t .threads) (t .threadcount) o (objectAt t o .monitor)) (ChainsSay t o)
+  walks o = rw (chains-by-number o (objectAt t o .monitor)) (reads-all 3 _ (λ chain. walked o chain (firstAt t o chain)))
 
   -- an object's record is where the code looks for it
   home-same : (o : ℕ) → 1 ≤ o → o ≤ object-limit → getD (t .objects) (objectPlace o) noObject ≡ objectAt t o
@@ -189,12 +164,12 @@ module _ (t : Table) (few : t .threadcount ≤ thread-limit) (fewer : t .objectc
       rw (ne-eqb o 0 some, le-ltb object-limit o high) (sym (object-in t o some high))
 
   -- that is where it looks for a parked thread, whose object is in range
-  found-same : (n : ℕ) → operationFits (t .objectcount) (phaseAt t n) (carriedAt t n) (threadAt t n) ≡ true
+  found-same : (n : ℕ) → ThreadSays t n
       → foundIn (t .threadcount) (nextIn (t .threads)) n (threadChain (threadAt t n))
       (getD (t .objects) (objectPlace (threadAt t n .object)) noObject .monitor)
       ≡ foundIn (t .threadcount) (nextOf t) n (threadChain (threadAt t n)) (homeAt t n .monitor)
   unfolding foundIn threadIn threadAt
-  found-same n fits = at (equal? (threadChain (threadAt t n)) 0)
+  found-same n says = at (equal? (threadChain (threadAt t n)) 0)
     where
       at : (threadChain (threadAt t n) ≡ 0) ⊎ (threadChain (threadAt t n) ≢ 0)
           → foundIn (t .threadcount) (nextIn (t .threads)) n (threadChain (threadAt t n))
@@ -202,98 +177,89 @@ module _ (t : Table) (few : t .threadcount ≤ thread-limit) (fewer : t .objectc
           ≡ foundIn (t .threadcount) (nextOf t) n (threadChain (threadAt t n)) (homeAt t n .monitor)
       at (inl none) = rw (eq-eqb (threadChain (threadAt t n)) 0 none)
       at (inr parked) =
-          let (low, high) = reads-operation (t .objectcount) (phaseAt t n) (carriedAt t n) (threadAt t n) .read fits (parked-busy (phaseAt t n) parked) .0 in
+          let (low, high) = says .0 (parked-busy (phaseAt t n) parked) .0 in
           ap (λ (home : ObjectRecord). foundIn (t .threadcount) (nextOf t) n (threadChain (threadAt t n)) (home .monitor))
           (home-same (threadAt t n .object) low (omega (arith, high, fewer)))
 
-  thread-used : (n : ℕ) → n ≤ t .threadcount → Reads (threadPasses t n) (ThreadClauses t n × Found t n)
+  thread-used : (n : ℕ) → n ≤ t .threadcount → Reads (threadPasses t n) (ThreadSays t n × Found t n)
   unfolding threadPasses threadFits usedThreadFits
   thread-used n inside =
       rw (le-ltb (t .threadcount) n inside)
-      (reads-then (reads-both (reads-self _) (reads-both (reads-self _) (reads-both (reads-self _) (reads-self _))))
-      (λ asked. reads-as (found-same n (asked .0)) (reads-self _)))
+      (reads-then
+      (reads-both (reads-operation (t .objectcount) (phaseAt t n) (carriedAt t n) (threadAt t n))
+      (reads-both (reads-kept n (phaseAt t n) (threadAt t n))
+      (reads-both (reads-saved (phaseAt t n) (carriedAt t n) (threadAt t n)) (reads-unused (phaseAt t n) (carriedAt t n) (threadAt t n)))))
+      (λ says. reads-as (found-same n says) (reads-found (t .threadcount) (nextOf t) n (threadChain (threadAt t n)) (homeAt t n .monitor))))
 
-  thread-past : (n : ℕ) → t .threadcount < n → Reads (threadPasses t n) (emptyThread (threadAt t n) ≡ true)
+  thread-past : (n : ℕ) → t .threadcount < n → Reads (threadPasses t n) (threadAt t n ≡ noThread)
   unfolding threadPasses threadFits foundIn chainNamed phaseNumberOf
   thread-past n past =
       rw (lt-ltb (t .threadcount) n past)
-      (reads-first (reads-self (emptyThread (threadAt t n)))
-      (λ e. rw (eq-eqb (threadChain (threadAt t n)) 0 (ap threadChain (reads-empty-thread (threadAt t n) .read e)))))
+      (reads-first (reads-empty-thread (threadAt t n)) (λ e. rw (eq-eqb (threadChain (threadAt t n)) 0 (ap threadChain e))))
 
-  object-used : (o : ℕ) → o ≤ t .objectcount → Reads (objectPasses t o) (ObjectClauses t o × Walked t o)
+  object-used : (o : ℕ) → o ≤ t .objectcount → Reads (objectPasses t o) (ObjectSays t o × ChainsSay t o)
   unfolding objectPasses objectFits usedObjectFits
   object-used o inside =
-      rw (le-ltb (t .objectcount) o inside) (reads-both (reads-both (reads-self _) (reads-both (reads-self _) (reads-self _))) (walks o))
+      rw (le-ltb (t .objectcount) o inside)
+      (reads-both
+      (reads-both (reads-word (t .threadcount) o (decodeOf (objectAt t o .word)))
+      (reads-both (reads-leb (objectAt t o .monitor .holder) (t .threadcount)) (reads-unheld (objectAt t o .monitor))))
+      (walks o))
 
-  object-past : (o : ℕ) → t .objectcount < o → Reads (objectPasses t o) (emptyObject (objectAt t o) ≡ true)
+  object-past : (o : ℕ) → t .objectcount < o → Reads (objectPasses t o) (objectAt t o ≡ noObject)
   unfolding objectPasses objectFits chainsPass chainPasses
   object-past o past =
-      rw (lt-ltb (t .objectcount) o past)
-      (reads-first (reads-self (emptyObject (objectAt t o)))
-      (λ e. rw (reads-empty-object (objectAt t o) .read e, none 1, none 2, none 3)))
+      rw (lt-ltb (t .objectcount) o past) (reads-first (reads-empty-object (objectAt t o)) (λ e. rw (e, none 1, none 2, none 3)))
     where
       none : (chain : ℕ) → chain-test (t .threadcount) (nextIn (t .threads)) (memberFits (t .threads) (t .threadcount) o chain) 0 ≡ true
       none chain = empty-passes (t .threadcount) (nextIn (t .threads)) (memberFits (t .threads) (t .threadcount) o chain)
 
   -- each record is in use or past the last, so that the two loops ask what the clauses ask
   threads-read : Reads (all-up-to thread-limit (threadPasses t))
-      (Each (t .threadcount) (λ n. ThreadClauses t n × Found t n) × Each thread-limit (λ n. t .threadcount < n → emptyThread (threadAt t n) ≡ true))
+      (Each (t .threadcount) (λ n. ThreadSays t n × Found t n) × Each thread-limit (λ n. t .threadcount < n → threadAt t n ≡ noThread))
   threads-read = reads-used-and-past thread-limit (t .threadcount) few thread-used thread-past
 
   objects-read : Reads (all-up-to object-limit (objectPasses t))
-      (Each (t .objectcount) (λ o. ObjectClauses t o × Walked t o) × Each object-limit (λ o. t .objectcount < o → emptyObject (objectAt t o) ≡ true))
+      (Each (t .objectcount) (λ o. ObjectSays t o × ChainsSay t o) × Each object-limit (λ o. t .objectcount < o → objectAt t o ≡ noObject))
   objects-read = reads-used-and-past object-limit (t .objectcount) fewer object-used object-past
 
 -- all of them
-fused-reads : (t : Table) → Reads (fusedOf t) (Clauses t)
-unfolding fusedOf wordsValid operationsFit keptWordsFit savedDepthsFit holdersFit unheldMonitorsFit
-    chainsEnd parkedFound chainsNamed pastThreadsEmpty pastObjectsEmpty unusedFieldsEmpty
+fused-reads : (t : Table) → Reads (fusedOf t) (Sound t)
+unfolding fusedOf
 fused-reads t =
     reads-map
-    (reads-then (reads-self (sizesFit (t .threadcount) (t .objectcount)))
-    (λ sizes.
-    let ((one, few), (some, fewer)) = reads-sizes (t .threadcount) (t .objectcount) .read sizes in
-    reads-both (threads-read t few fewer) (objects-read t few fewer)))
+    (reads-then (reads-sizes (t .threadcount) (t .objectcount))
+    (λ ((one, few), (some, fewer)). reads-both (threads-read t few fewer) (objects-read t few fewer)))
     (λ (sizes, ((threads, threads-past), (objects, objects-past))).
     record {
       sizes = sizes;
-      words = all-of (t .objectcount) _ (λ o low high. objects o low high .0 .0);
-      operations = all-of (t .threadcount) _ (λ n low high. threads n low high .0 .0);
-      kept-words = all-of (t .threadcount) _ (λ n low high. threads n low high .0 .1 .0);
-      saved-depths = all-of (t .threadcount) _ (λ n low high. threads n low high .0 .1 .1 .0);
-      holders = all-of (t .objectcount) _ (λ o low high. objects o low high .0 .1 .0);
-      unheld = all-of (t .objectcount) _ (λ o low high. objects o low high .0 .1 .1);
-      chains = all-of (t .objectcount) _ (λ o low high. objects o low high .1 .0);
-      parked = all-of (t .threadcount) _ (λ n low high. threads n low high .1);
-      named = all-of (t .objectcount) _ (λ o low high. objects o low high .1 .1);
-      threads-past = all-of thread-limit _ (λ n low high. reads-past n (t .threadcount) (reads-self _) .make (threads-past n low high));
-      objects-past = all-of object-limit _ (λ o low high. reads-past o (t .objectcount) (reads-self _) .make (objects-past o low high));
-      unused = all-of (t .threadcount) _ (λ n low high. threads n low high .0 .1 .1 .1);
+      words = λ o low high. objects o low high .0 .0;
+      operations = λ n low high. threads n low high .0 .0;
+      kept-words = λ n low high. threads n low high .0 .1 .0;
+      saved-depths = λ n low high. threads n low high .0 .1 .1 .0;
+      holders = λ o low high. objects o low high .0 .1 .0;
+      unheld = λ o low high. objects o low high .0 .1 .1;
+      chains-end = λ o low high chain first last. objects o low high .1 chain first last .0;
+      chains-inside = λ o low high chain first last n h. objects o low high .1 chain first last .1 n h .0;
+      parked = λ n low high. threads n low high .1;
+      no-others = λ o low high chain first last n h. objects o low high .1 chain first last .1 n h .1;
+      threads-past = threads-past;
+      objects-past = objects-past;
+      unused = λ n low high. threads n low high .0 .1 .1 .1;
     })
-    (λ c.
-    let thread : Each (t .threadcount) (λ n. ThreadClauses t n × Found t n) = λ n low high. (
-      (
-        all-at (t .threadcount) _ (c .operations) n low high,
-        (
-          all-at (t .threadcount) _ (c .kept-words) n low high,
-          (all-at (t .threadcount) _ (c .saved-depths) n low high, all-at (t .threadcount) _ (c .unused) n low high),
-        ),
-      ),
-      all-at (t .threadcount) _ (c .parked) n low high,
+    (λ s.
+    let thread : Each (t .threadcount) (λ n. ThreadSays t n × Found t n) = λ n low high. (
+      (s .operations n low high, (s .kept-words n low high, (s .saved-depths n low high, s .unused n low high))),
+      s .parked n low high,
     ) in
-    let object : Each (t .objectcount) (λ o. ObjectClauses t o × Walked t o) = λ o low high. (
-      (
-        all-at (t .objectcount) _ (c .words) o low high,
-        (all-at (t .objectcount) _ (c .holders) o low high, all-at (t .objectcount) _ (c .unheld) o low high),
+    let object : Each (t .objectcount) (λ o. ObjectSays t o × ChainsSay t o) = λ o low high. (
+      (s .words o low high, (s .holders o low high, s .unheld o low high)),
+      λ chain first last. (
+        s .chains-end o low high chain first last,
+        λ n h. (s .chains-inside o low high chain first last n h, s .no-others o low high chain first last n h),
       ),
-      (all-at (t .objectcount) _ (c .chains) o low high, all-at (t .objectcount) _ (c .named) o low high),
-    ) in (
-      c .sizes,
-      (
-        (thread, λ n low high. reads-past n (t .threadcount) (reads-self _) .read (all-at thread-limit _ (c .threads-past) n low high)),
-        (object, λ o low high. reads-past o (t .objectcount) (reads-self _) .read (all-at object-limit _ (c .objects-past) o low high)),
-      ),
-    ))
+    ) in
+    (s .sizes, ((thread, s .threads-past), (object, s .objects-past))))
 
 pub fused-is : (t : Table) → fusedOf t ≡ soundOf t
-fused-is t = reads-same (fused-reads t) (clauses t)
+fused-is t = reads-same (fused-reads t) (sound-is t)

@@ -1,6 +1,5 @@
 -- Laws of the definitions in specs/.
 pub mod Facts
-pub mod Clauses
 pub mod Chained
 pub mod RecordReading
 pub mod Reading

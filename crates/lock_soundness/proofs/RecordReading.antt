@@ -2,10 +2,8 @@
 use Prim.Native.Nat.{ℕ, _<_}
 use mathlib.Core.Path.{_≡_, refl, ap}
 use mathlib.Core.Logic.{_≢_}
-use mathlib.Core.Bool.{Bool}
 use native.Mathlib.Omega.{arith}
-use lib.Dec.{eqb, leb}
-use Rattle.laws.specs.Choice.{either}
+use lib.Dec.{eqb}
 use Rattle.laws.specs.Count.{count}
 use Rattle.chains.specs.Chain.{members}
 use Rattle.chains.proofs.Test.{in-chain-count}
@@ -15,8 +13,9 @@ use Rattle.lock_word.specs.declared.reading.Decoded.{Decoded}
 use Rattle.lock_word.specs.declared.reading.Decoded.the-variants.{Valid, Invalid}
 use Rattle.lock_table.specs.Limits.{thread-limit, object-limit, depth-limit}
 use Rattle.lock_table.specs.Operation.{operationNumberOf}
-use Rattle.lock_table.specs.Phase.{phaseNumberOf}
-use Rattle.lock_table.specs.Record.{noThread, noMonitor, noObject}
+use Rattle.lock_table.specs.Phase.{phaseNumberOf, chainNamed}
+use Rattle.lock_table.specs.Record.{noThread, noMonitor, noObject, threadChain, emptyThread, emptyMonitor, emptyObject}
+use Rattle.lock_table.specs.Monitor.{firstIn}
 use Rattle.lock_table.specs.declared.operation.Operation.{Operation}
 use Rattle.lock_table.specs.declared.operation.Operation.the-variants.{Idle, Enter, Exit, Wait, Notify, NotifyAll}
 use Rattle.lock_table.specs.declared.phase.Phase.{Phase}
@@ -41,7 +40,7 @@ use Rattle.lock_table.specs.declared.phase.Phase.the-variants.{
 use Rattle.lock_table.specs.declared.record.ThreadRecord.{ThreadRecord}
 use Rattle.lock_table.specs.declared.record.Monitor.{Monitor}
 use Rattle.lock_table.specs.declared.record.ObjectRecord.{ObjectRecord}
-use Rattle.lock_soundness.specs.Fields.{
+use Rattle.lock_soundness.specs.Sound.{
   sizesFit,
   wordFits,
   usesPhase,
@@ -53,14 +52,8 @@ use Rattle.lock_soundness.specs.Fields.{
   savesDepth,
   savedFits,
   unheldFits,
-  chainNamed,
-  threadChain,
-  firstIn,
   foundIn,
   namesChain,
-  emptyThread,
-  emptyMonitor,
-  emptyObject,
   unusedFits,
 }
 use Rattle.lock_soundness.specs.Meaning.{
@@ -243,11 +236,6 @@ reads-empty-object object =
     reads-map (reads-both (reads-eqb (object .word) 0) (reads-both (reads-not (object .flag)) (reads-empty-monitor (object .monitor))))
     (λ (word, (flag, monitor)). λ j. record { word = word j; monitor = monitor j; flag = flag j })
     (λ e. rw e (refl, (refl, refl)))
-
--- a test that is asked past a number alone
-pub reads-past : (n last : ℕ) {test : Bool} {P : Type 0} → Reads test P → Reads (either (leb n last) test) (last < n → P)
-reads-past n last known =
-    reads-map (reads-unless (reads-leb n last) known) (λ f past. f (λ inside. omega (arith, past, inside))) (λ f away. f (omega (arith, away)))
 
 pub reads-unused : (phase carried : ℕ) (thread : ThreadRecord) → Reads (unusedFits phase carried thread) (UnusedFits phase carried thread)
 unfolding unusedFits

@@ -8,12 +8,12 @@ use lib.ListN.{getD}
 use Rattle.laws.specs.Choice.{pick, both}
 use Rattle.laws.proofs.Choice.{Equal, equal, Below, below}
 use Rattle.lock_table.specs.Limits.{thread-limit, object-limit}
-use Rattle.lock_table.specs.Record.{noThread, noObject}
+use Rattle.lock_table.specs.Record.{noThread, noObject, threadChain}
 use Rattle.lock_table.specs.declared.record.ThreadRecord.{ThreadRecord}
 use Rattle.lock_table.specs.declared.record.ObjectRecord.{ObjectRecord}
 use Rattle.lock_table.specs.declared.record.Table.{Table}
 use Rattle.lock_table.proofs.Records.{thread-in, object-in}
-use Rattle.lock_soundness.specs.Fields.{threadChain, foundIn}
+use Rattle.lock_soundness.specs.Sound.{foundIn}
 use Rattle.lock_soundness.specs.Fused.{threadFits, objectFits, nextIn, chainsPass, objectPlace, threadPasses, objectPasses}
 
 -- the record in place is that of the number

@@ -12,7 +12,7 @@ use Rattle.chains.proofs.Turn.{in-chain-step}
 use Rattle.lock_table.specs.Limits.{thread-limit}
 use Rattle.lock_table.specs.Record.{noThread}
 use Rattle.lock_table.specs.declared.record.ThreadRecord.{ThreadRecord}
-use Rattle.lock_soundness.specs.Fields.{namesChain}
+use Rattle.lock_soundness.specs.Sound.{namesChain}
 use Rattle.lock_soundness.specs.Fused.{threadIn, nextIn, memberFits}
 
 -- a record in place is that of its number

@@ -3,7 +3,7 @@
 use Prim.Native.Nat.{ℕ, _-_}
 use mathlib.Core.Bool.{Bool, false}
 use mathlib.Core.List.{List}
-use lib.Dec.{eqb, ltb, leb}
+use lib.Dec.{eqb, ltb}
 use lib.ListN.{getD}
 use Rattle.laws.specs.Choice.{pick, both}
 use Rattle.laws.specs.Every.{all-up-to}
@@ -11,24 +11,22 @@ use Rattle.chains.specs.Chain.{chain-test}
 use Rattle.lock_word.specs.Read.{decodeOf}
 use Rattle.lock_table.specs.Limits.{thread-limit, object-limit}
 use Rattle.lock_table.specs.Phase.{phaseNumberOf, carriedNumberOf}
-use Rattle.lock_table.specs.Record.{noThread, noObject}
+use Rattle.lock_table.specs.Record.{noThread, noObject, threadChain, emptyThread, emptyObject}
 use Rattle.lock_table.specs.Access.{threadAt, objectAt}
 use Rattle.lock_table.specs.declared.record.ThreadRecord.{ThreadRecord}
 use Rattle.lock_table.specs.declared.record.Monitor.{Monitor}
 use Rattle.lock_table.specs.declared.record.ObjectRecord.{ObjectRecord}
 use Rattle.lock_table.specs.declared.record.Table.{Table}
-use Rattle.lock_soundness.specs.Fields.{
+use Rattle.lock_soundness.specs.Sound.{
   sizesFit,
   wordFits,
   operationFits,
   keptFits,
   savedFits,
+  holderFits,
   unheldFits,
-  threadChain,
   foundIn,
   namesChain,
-  emptyThread,
-  emptyObject,
   unusedFits,
 }
 
@@ -46,7 +44,7 @@ threadFits threads objects n thread =
 -- the fields of an object's record
 unfoldable pub usedObjectFits : ℕ → ℕ → ObjectRecord → Bool
 usedObjectFits threads o object =
-    both (wordFits threads o (decodeOf (object .word))) (both (leb (object .monitor .holder) threads) (unheldFits (object .monitor)))
+    both (wordFits threads o (decodeOf (object .word))) (both (holderFits threads (object .monitor)) (unheldFits (object .monitor)))
 
 unfoldable pub objectFits : ℕ → ℕ → ℕ → ObjectRecord → Bool
 objectFits threads objects o object = pick (ltb objects o) (emptyObject object) (usedObjectFits threads o object)

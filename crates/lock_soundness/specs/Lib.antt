@@ -1,5 +1,4 @@
 -- When a table is sound: document 01's clauses as tests and as propositions; and the order in which the code finds out.
-pub mod Fields
 pub mod Sound
 pub mod Meaning
 pub mod Fused

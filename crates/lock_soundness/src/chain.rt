@@ -6,7 +6,8 @@ use lock_table::THREADS;
 use lock_table::ThreadRecord;
 ghost use mathlib.Core.Path.{_≡_};
 ghost use Rattle.chains.specs.Chain.{in-chain};
-ghost use Rattle.lock_soundness.specs.Fields.{firstIn, foundIn, namesChain};
+ghost use Rattle.lock_table.specs.Monitor.{firstIn};
+ghost use Rattle.lock_soundness.specs.Sound.{foundIn, namesChain};
 ghost use Rattle.lock_soundness.specs.Fused.{nextIn, chainPasses, chainsPass};
 
 // The first thread of a chain: 1 entry, 2 contention, 3 waiting.

@@ -1,7 +1,6 @@
 // Tests joined.
 ghost use mathlib.Core.Path.{_≡_};
-ghost use Rattle.laws.specs.Choice.{within};
-ghost use Rattle.lock_soundness.specs.Fields.{implies};
+ghost use Rattle.laws.specs.Choice.{within, implies};
 
 // low <= number <= high
 pub fn within(low: u8, high: u8, number: u8) -> bool

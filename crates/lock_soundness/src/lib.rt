@@ -17,8 +17,7 @@ use thread::thread_fits;
 ghost use mathlib.Core.Path.{_≡_};
 ghost use Rattle.laws.specs.Every.{all-up-to};
 ghost use Rattle.lock_table.specs.Limits.{thread-limit, object-limit};
-ghost use Rattle.lock_soundness.specs.Fields.{sizesFit};
-ghost use Rattle.lock_soundness.specs.Sound.{soundOf};
+ghost use Rattle.lock_soundness.specs.Sound.{sizesFit, soundOf};
 ghost use Rattle.lock_soundness.specs.Fused.{objectPlace, threadPasses, objectPasses};
 
 fn sizes_fit(threads: u8, objects: u8) -> bool

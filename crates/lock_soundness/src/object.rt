@@ -5,7 +5,8 @@ use lock_table::ObjectRecord;
 use lock_word::Decoded;
 use lock_word::LockWord;
 ghost use mathlib.Core.Path.{_≡_};
-ghost use Rattle.lock_soundness.specs.Fields.{wordFits, unheldFits, emptyMonitor, emptyObject};
+ghost use Rattle.lock_table.specs.Record.{emptyMonitor, emptyObject};
+ghost use Rattle.lock_soundness.specs.Sound.{wordFits, unheldFits};
 ghost use Rattle.lock_soundness.specs.Fused.{usedObjectFits, objectFits};
 
 // A valid word, with its thread at most `threads`; a fat word names its own object.

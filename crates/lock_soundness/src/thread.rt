@@ -11,8 +11,10 @@ use lock_word::COUNT_LIMIT;
 use lock_word::Decoded;
 use lock_word::LockWord;
 ghost use mathlib.Core.Path.{_≡_};
-ghost use Rattle.lock_soundness.specs.Fields.{usesPhase, carriesPhase, operationFits, keptCountFits, reservedFor, keptFits, savesDepth};
-ghost use Rattle.lock_soundness.specs.Fields.{savedFits, chainNamed, threadChain, emptyThread, unusedFits};
+ghost use Rattle.lock_table.specs.Phase.{chainNamed};
+ghost use Rattle.lock_table.specs.Record.{threadChain, emptyThread};
+ghost use Rattle.lock_soundness.specs.Sound.{usesPhase, carriesPhase, operationFits, keptCountFits, reservedFor, keptFits};
+ghost use Rattle.lock_soundness.specs.Sound.{savesDepth, savedFits, unusedFits};
 ghost use Rattle.lock_soundness.specs.Fused.{usedThreadFits, threadFits};
 
 // The largest counts of a kept word: storing it adds one for enter and takes one off for exit.

@@ -17,15 +17,15 @@ use Rattle.lock_rules.specs.declared.ThreadState.the-variants.{Idle, Running}
 use Rattle.lock_rules.proofs.Tables.{ListThread, seen-from, seen-here}
 use Rattle.lock_rules.proofs.ListChains.{Chain, entry-chain, contention-chain, waiting-chain, times-in, seen-or-at}
 use Rattle.lock_table.specs.Limits.{thread-limit, object-limit}
-use Rattle.lock_table.specs.Phase.{phaseNumberOf}
-use Rattle.lock_table.specs.Record.{noThread, noMonitor, noObject}
-use Rattle.lock_table.specs.Access.{threadAt, objectAt, nextOf}
+use Rattle.lock_table.specs.Phase.{phaseNumberOf, chainNamed}
+use Rattle.lock_table.specs.Record.{noThread, noMonitor, noObject, threadChain}
+use Rattle.lock_table.specs.Monitor.{firstIn}
+use Rattle.lock_table.specs.Access.{threadAt, objectAt, nextOf, phaseAt, firstAt}
 use Rattle.lock_table.specs.declared.record.ThreadRecord.{ThreadRecord}
 use Rattle.lock_table.specs.declared.record.Table.{Table}
 use Rattle.lock_table.proofs.Records.{thread-none, thread-past}
 use Rattle.lock_perform.specs.State.{stateOf}
-use Rattle.lock_soundness.specs.Fields.{chainNamed, threadChain, firstIn}
-use Rattle.lock_soundness.specs.Sound.{phaseAt, firstAt, soundOf}
+use Rattle.lock_soundness.specs.Sound.{soundOf}
 use Rattle.lock_soundness.specs.Meaning.{Within, chainAt, Sound}
 use Rattle.lock_soundness.proofs.Chained.{leads-chain}
 use Rattle.lock_soundness.proofs.Reading.{sound-reads}

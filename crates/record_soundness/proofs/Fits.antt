@@ -28,10 +28,10 @@ use Rattle.lock_rules.specs.declared.ThreadState.the-variants.{Idle, Running, Q
 use Rattle.lock_rules.proofs.ListSound.{SuspensionFine, DoingFine, StateFine}
 use Rattle.lock_table.specs.Limits.{thread-limit, depth-limit}
 use Rattle.lock_table.specs.Operation.{operationNumberOf}
-use Rattle.lock_table.specs.Phase.{onwardNumberOf, phaseNumberOf, carriedNumberOf}
+use Rattle.lock_table.specs.Phase.{onwardNumberOf, phaseNumberOf, carriedNumberOf, chainNamed}
 use Rattle.lock_table.specs.declared.record.ThreadRecord.{ThreadRecord}
 use Rattle.lock_perform.specs.State.{doingRecordOf, carriedRecordOf, recordOf}
-use Rattle.lock_soundness.specs.Fields.{
+use Rattle.lock_soundness.specs.Sound.{
   usesPhase,
   carriesPhase,
   operationFits,
@@ -40,7 +40,6 @@ use Rattle.lock_soundness.specs.Fields.{
   keptFits,
   savesDepth,
   savedFits,
-  chainNamed,
   unusedFits,
 }
 use Rattle.lock_soundness.specs.Fused.{usedThreadFits}

@@ -6,7 +6,7 @@ use mathlib.Core.Bool.{Bool, true, not}
 use native.Mathlib.Omega.{arith}
 use lib.Dec.{T, eqb, ltb}
 use borrow.Author.Tests.{eqb-false, ltb-true, ne-eqb}
-use Rattle.laws.specs.Choice.{both, within}
+use Rattle.laws.specs.Choice.{both, within, implies}
 use Rattle.laws.proofs.Choice.{false≢true, both-first, both-second}
 use Rattle.lock_word.specs.Read.{decodeOf}
 use Rattle.lock_word.specs.Write.{encodeOf, reservedWord}
@@ -37,7 +37,7 @@ use Rattle.lock_table.specs.declared.phase.Phase.the-variants.{Waiting as Waiti
 use Rattle.lock_table.specs.declared.record.ThreadRecord.{ThreadRecord}
 use Rattle.lock_perform.specs.State.{threadWith, doingRecordOf, carriedRecordOf, recordOf, stateOf}
 use Rattle.lock_records.proofs.Written.{state-read, phase-written}
-use Rattle.lock_soundness.specs.Fields.{usesPhase, carriesPhase, operationFits, implies}
+use Rattle.lock_soundness.specs.Sound.{usesPhase, carriesPhase, operationFits}
 use Rattle.lock_soundness.specs.Meaning.{Within, KeptCountFits, ReservedFor, SavesDepth}
 use Rattle.lock_soundness.proofs.Facts.{reads-both, reads-ltb, reads-not}
 use Rattle.lock_soundness.proofs.RecordReading.{reads-operation}

@@ -15,8 +15,10 @@ use Rattle.lock_rules.proofs.Tables.{ListTable, states-at, seen-here}
 use Rattle.lock_rules.proofs.ListSound.{InTable, SoundTable}
 use Rattle.lock_rules.proofs.ListChains.{Chain, entry-chain, contention-chain, waiting-chain, chain-of, times-in, placed-in, member-at, member-in, short}
 use Rattle.lock_rules.proofs.ListChains.{out-of-chain}
-use Rattle.lock_table.specs.Record.{noThread}
-use Rattle.lock_table.specs.Access.{threadAt, objectAt, nextOf}
+use Rattle.lock_table.specs.Phase.{chainNamed}
+use Rattle.lock_table.specs.Record.{noThread, threadChain}
+use Rattle.lock_table.specs.Monitor.{firstIn}
+use Rattle.lock_table.specs.Access.{threadAt, objectAt, nextOf, phaseAt, firstAt}
 use Rattle.lock_table.specs.declared.record.ObjectRecord.{ObjectRecord}
 use Rattle.lock_table.specs.declared.record.Table.{Table}
 use Rattle.lock_table.proofs.Walks.{next-none}
@@ -25,8 +27,7 @@ use Rattle.lock_records.proofs.Numbering.{number, lists-of, list-at, by-number}
 use Rattle.lock_records.proofs.Written.{phase-written}
 use Rattle.lock_records.proofs.Represents.{thread-record, Represents, next-is}
 use Rattle.lock_records.proofs.Readings.{thread-is, home-is, first-is, word-is}
-use Rattle.lock_soundness.specs.Fields.{chainNamed, threadChain, firstIn}
-use Rattle.lock_soundness.specs.Sound.{phaseAt, firstAt, soundOf}
+use Rattle.lock_soundness.specs.Sound.{soundOf}
 use Rattle.lock_soundness.specs.Meaning.{Within, follow, chainAt, WordFits, UnheldFits, Sound}
 use Rattle.lock_soundness.proofs.Chained.{chain-leads}
 use Rattle.lock_soundness.proofs.Reading.{sound-of}

@@ -20,16 +20,16 @@ use Rattle.lock_rules.proofs.Tables.{ListTable, seen-idle}
 use Rattle.lock_rules.proofs.ListSound.{StateFine, WordFine, InTable, SoundTable}
 use Rattle.lock_rules.proofs.ListChains.{Chain, entry-chain, contention-chain, waiting-chain, chain-of}
 use Rattle.lock_table.specs.Limits.{thread-limit, object-limit, depth-limit}
-use Rattle.lock_table.specs.Record.{noThread, noObject}
-use Rattle.lock_table.specs.Access.{threadAt, objectAt, nextOf}
+use Rattle.lock_table.specs.Record.{noThread, noObject, threadChain}
+use Rattle.lock_table.specs.Monitor.{firstIn}
+use Rattle.lock_table.specs.Access.{threadAt, objectAt, nextOf, phaseAt, firstAt}
 use Rattle.lock_table.specs.declared.record.ObjectRecord.{ObjectRecord}
 use Rattle.lock_table.specs.declared.record.Table.{Table}
 use Rattle.lock_table.proofs.Records.{thread-none}
 use Rattle.lock_perform.specs.State.{recordOf, stateBy, stateOf}
 use Rattle.lock_records.proofs.Numbering.{number, lists-of, list-at, by-number}
 use Rattle.lock_records.proofs.Represents.{object-record, thread-record, Represents}
-use Rattle.lock_soundness.specs.Fields.{threadChain, firstIn}
-use Rattle.lock_soundness.specs.Sound.{phaseAt, firstAt, soundOf}
+use Rattle.lock_soundness.specs.Sound.{soundOf}
 use Rattle.lock_soundness.specs.Meaning.{Within, chainAt, UnheldFits, Sound}
 use Rattle.lock_soundness.proofs.Reading.{sound-reads}
 use Rattle.record_soundness.proofs.Naming.{chain-number, by-chain, one-chain, named-high, idle-or-busy}

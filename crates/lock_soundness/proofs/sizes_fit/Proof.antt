@@ -1,5 +1,5 @@
 -- `lock_soundness::sizes_fit` meets its contract: each way through the code is that of the definition.
-use Rattle.lock_soundness.specs.Fields.{sizesFit}
+use Rattle.lock_soundness.specs.Sound.{sizesFit}
 use Rattle.lock_soundness.proofs.sizes_fit.Statement.{statement}
 use Rattle.lock_soundness.proofs.sizes_fit.Tie as tie
 

@@ -1,6 +1,6 @@
 -- `lock_soundness::chain::found_in` meets its contract: each way through the code is that of the definition.
 use borrow.Author.Tests.{eq-eqb, ne-eqb}
-use Rattle.lock_soundness.specs.Fields.{foundIn}
+use Rattle.lock_soundness.specs.Sound.{foundIn}
 use Rattle.lock_soundness.proofs.chain.found_in.Statement.{statement}
 use Rattle.lock_soundness.proofs.chain.found_in.Tie as tie
 

@@ -1,5 +1,5 @@
 -- `lock_soundness::chain::names_chain` meets its contract: each way through the code is that of the definition.
-use Rattle.lock_soundness.specs.Fields.{namesChain}
+use Rattle.lock_soundness.specs.Sound.{namesChain}
 use Rattle.lock_soundness.proofs.chain.names_chain.Statement.{statement}
 use Rattle.lock_soundness.proofs.chain.names_chain.Tie as tie
 

@@ -1,6 +1,6 @@
 -- `lock_soundness::object::word_fits` meets its contract: each way through the code is that of the definition.
 use borrow.Author.Needs.{needs}
-use Rattle.lock_soundness.specs.Fields.{wordFits}
+use Rattle.lock_soundness.specs.Sound.{wordFits}
 use Rattle.lock_soundness.proofs.object.word_fits.Statement.{statement}
 use Rattle.lock_soundness.proofs.object.word_fits.Tie as tie
 

@@ -1,6 +1,6 @@
 -- `lock_soundness::thread::carries_phase` meets its contract: each way through the code is that of the definition.
 use borrow.Author.Needs.{needs}
-use Rattle.lock_soundness.specs.Fields.{carriesPhase}
+use Rattle.lock_soundness.specs.Sound.{carriesPhase}
 use Rattle.lock_soundness.proofs.thread.carries_phase.Statement.{statement}
 use Rattle.lock_soundness.proofs.thread.carries_phase.Tie as tie
 

@@ -1,6 +1,6 @@
 -- `lock_soundness::thread::kept_count_fits` meets its contract: each way through the code is that of the definition.
 use borrow.Author.Needs.{needs}
-use Rattle.lock_soundness.specs.Fields.{keptCountFits}
+use Rattle.lock_soundness.specs.Sound.{keptCountFits}
 use Rattle.lock_soundness.proofs.thread.kept_count_fits.Statement.{statement}
 use Rattle.lock_soundness.proofs.thread.kept_count_fits.Tie as tie
 

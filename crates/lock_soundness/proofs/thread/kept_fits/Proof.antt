@@ -1,6 +1,6 @@
 -- `lock_soundness::thread::kept_fits` meets its contract: each way through the code is that of the definition.
 use borrow.Author.Tests.{eq-eqb, ne-eqb}
-use Rattle.lock_soundness.specs.Fields.{keptFits}
+use Rattle.lock_soundness.specs.Sound.{keptFits}
 use Rattle.lock_soundness.proofs.thread.kept_fits.Statement.{statement}
 use Rattle.lock_soundness.proofs.thread.kept_fits.Tie as tie
 

@@ -1,5 +1,5 @@
 -- `lock_soundness::thread::operation_fits` meets its contract: each way through the code is that of the definition.
-use Rattle.lock_soundness.specs.Fields.{operationFits}
+use Rattle.lock_soundness.specs.Sound.{operationFits}
 use Rattle.lock_soundness.proofs.thread.operation_fits.Statement.{statement}
 use Rattle.lock_soundness.proofs.thread.operation_fits.Tie as tie
 

@@ -1,6 +1,6 @@
 -- `lock_soundness::thread::reserved_for` meets its contract: each way through the code is that of the definition.
 use borrow.Author.Needs.{needs}
-use Rattle.lock_soundness.specs.Fields.{reservedFor}
+use Rattle.lock_soundness.specs.Sound.{reservedFor}
 use Rattle.lock_soundness.proofs.thread.reserved_for.Statement.{statement}
 use Rattle.lock_soundness.proofs.thread.reserved_for.Tie as tie
 

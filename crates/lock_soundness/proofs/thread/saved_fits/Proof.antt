@@ -1,5 +1,5 @@
 -- `lock_soundness::thread::saved_fits` meets its contract: each way through the code is that of the definition.
-use Rattle.lock_soundness.specs.Fields.{savedFits}
+use Rattle.lock_soundness.specs.Sound.{savedFits}
 use Rattle.lock_soundness.proofs.thread.saved_fits.Statement.{statement}
 use Rattle.lock_soundness.proofs.thread.saved_fits.Tie as tie
 

@@ -1,5 +1,5 @@
 -- `lock_soundness::thread::unused_fits` meets its contract: each way through the code is that of the definition.
-use Rattle.lock_soundness.specs.Fields.{unusedFits}
+use Rattle.lock_soundness.specs.Sound.{unusedFits}
 use Rattle.lock_soundness.proofs.thread.unused_fits.Statement.{statement}
 use Rattle.lock_soundness.proofs.thread.unused_fits.Tie as tie
 

@@ -1,6 +1,6 @@
 -- `lock_soundness::thread::uses_phase` meets its contract: each way through the code is that of the definition.
 use borrow.Author.Needs.{needs}
-use Rattle.lock_soundness.specs.Fields.{usesPhase}
+use Rattle.lock_soundness.specs.Sound.{usesPhase}
 use Rattle.lock_soundness.proofs.thread.uses_phase.Statement.{statement}
 use Rattle.lock_soundness.proofs.thread.uses_phase.Tie as tie
 
