@@ -37,10 +37,10 @@ use Rattle.lock_perform.specs.declared.moving.Moved.{Moved}
 use Rattle.lock_engine.specs.Begin.{beginThread, beginObject, beginOperation, beginRanged, beginGated, beginOf}
 use Rattle.lock_engine.specs.Step.{settleOf, stepWord, stepThread, stepRanged, stepGated, stepOf}
 use Rattle.lock_engine.specs.declared.outcome.Outcome.{Outcome}
-use Rattle.lock_engine_c.specs.Reading.{isTable, tableOf, threadFrom, objectFrom}
+use Rattle.table_bytes.specs.Reading.{isTable, tableOf, threadFrom, objectFrom}
 use Rattle.lock_engine_c.specs.Calls.{eventBytes, begunOn, steppedOn}
-use Rattle.lock_engine_c.proofs.Places.{tabulate-length}
-use Rattle.lock_engine_c.proofs.ReadBack.{bytes-table, read-back}
+use Rattle.table_bytes.proofs.Places.{tabulate-length}
+use Rattle.table_bytes.proofs.ReadBack.{bytes-table, read-back}
 
 pub record Full (table : Table) : Type 0 where
   pub threads : length (table .threads) ≡ thread-limit

@@ -1,6 +1,4 @@
--- Laws of lists given place by place, and of the bytes of a table.
-pub mod Places
-pub mod Written
-pub mod ReadBack
+-- Laws of what the calls write and answer.
+pub mod FreshWritten
 pub mod FullTables
 pub mod Narrow

@@ -18,9 +18,9 @@ use Rattle.lock_engine.specs.Begin.{beginOf}
 use Rattle.lock_engine.specs.Step.{stepOf}
 use Rattle.lock_engine.specs.declared.outcome.Outcome.{Outcome}
 use Rattle.lock_records.specs.Agrees.{ownership-at}
-use Rattle.lock_engine_c.specs.Layout.{table-size}
-use Rattle.lock_engine_c.specs.Reading.{isTable, tableOf}
-use Rattle.lock_engine_c.specs.Writing.{bytesOf, keptOver}
+use Rattle.table_bytes.specs.Layout.{table-size}
+use Rattle.table_bytes.specs.Reading.{isTable, tableOf}
+use Rattle.table_bytes.specs.Writing.{bytesOf, keptOver}
 
 -- document 01's numbers that the calls themselves return
 abbrev pub not-sound : ℕ

@@ -1,6 +1,2 @@
--- The bytes of a table, and what each call makes of them.
-pub mod Layout
-pub mod Sequence
-pub mod Reading
-pub mod Writing
+-- What each call makes of the bytes of a table.
 pub mod Calls

@@ -1,8 +1,4 @@
 // The calls that change a table: a fresh one, a begin, a step. Each reads the bytes, asks the engine and writes what it gave back.
-use crate::layout::TABLE_SIZE;
-use crate::reading::is_table;
-use crate::reading::read_table;
-use crate::writing::write_table;
 use lock_engine::Outcome;
 use lock_engine::begin;
 use lock_engine::returned;
@@ -12,13 +8,17 @@ use lock_table::FreshAnswer;
 use lock_table::FreshTable;
 use lock_table::Table;
 use lock_table::fresh;
+use table_bytes::TABLE_SIZE;
+use table_bytes::is_table;
+use table_bytes::read_table;
+use table_bytes::write_table;
 ghost use mathlib.Core.Path.{_≡_};
 ghost use Rattle.lock_table.specs.Fresh.{freshReturnedOf};
 ghost use Rattle.lock_engine.specs.Begin.{beginOf};
 ghost use Rattle.lock_engine.specs.Step.{stepOf};
-ghost use Rattle.lock_engine_c.specs.Layout.{table-size};
-ghost use Rattle.lock_engine_c.specs.Reading.{isTable, tableOf};
-ghost use Rattle.lock_engine_c.specs.Writing.{keptOver};
+ghost use Rattle.table_bytes.specs.Layout.{table-size};
+ghost use Rattle.table_bytes.specs.Reading.{isTable, tableOf};
+ghost use Rattle.table_bytes.specs.Writing.{keptOver};
 ghost use Rattle.lock_engine_c.specs.Calls.{narrowOf, packedOf, outcomeAnswer, eventAnswer, eventBytes, eventOver};
 ghost use Rattle.lock_engine_c.specs.Calls.{begunOn, steppedOn, freshOn, has-size, madeOver, freshAnswer, freshBytes, freshOver};
 

@@ -1,10 +1,7 @@
 // The lock engine over a table that the caller lends as bytes, for C and Rust to link. Only numbers and byte slices cross the boundary, and no
 // call asks anything of them: bytes that are no table are answered 11 and left as they are.
 mod calls;
-mod layout;
 mod questions;
-mod reading;
-mod writing;
 
 pub use calls::duskclamp_begin;
 pub use calls::duskclamp_fresh;

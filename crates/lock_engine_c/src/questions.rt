@@ -1,7 +1,5 @@
 // Questions about a table, which change nothing. An answer has the returned number in bits 0 to 7, 0 where there is a value, and the value above.
 use crate::calls::narrow;
-use crate::reading::is_table;
-use crate::reading::read_table;
 use lock_table::Monitor;
 use lock_table::OBJECTS;
 use lock_table::ObjectRecord;
@@ -15,6 +13,8 @@ use lock_word::LockWord;
 use lock_word::Ownership;
 use lock_word::owner_by_word;
 use lock_word::read_word;
+use table_bytes::is_table;
+use table_bytes::read_table;
 ghost use mathlib.Core.Path.{_≡_};
 ghost use Rattle.lock_word.specs.Read.{decodeOf};
 ghost use Rattle.lock_word.specs.declared.reading.Decoded.the-variants.{Valid};

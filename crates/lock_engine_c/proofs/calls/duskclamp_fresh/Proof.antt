@@ -2,7 +2,7 @@
 use borrow.Author.Needs.{needs}
 use Rattle.lock_engine_c.specs.Calls.{freshOn}
 use Rattle.lock_engine_c.proofs.Narrow.{narrow-fresh}
-use Rattle.lock_engine_c.proofs.Written.{fresh-written}
+use Rattle.lock_engine_c.proofs.FreshWritten.{fresh-written}
 use Rattle.lock_engine_c.proofs.calls.duskclamp_fresh.Statement.{statement}
 use Rattle.lock_engine_c.proofs.calls.duskclamp_fresh.Tie as tie
 

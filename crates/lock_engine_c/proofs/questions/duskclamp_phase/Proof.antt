@@ -1,5 +1,5 @@
 -- `lock_engine_c::questions::duskclamp_phase` meets its contract: the question put to the table that the bytes say; a number is the same narrowed.
-use Rattle.lock_engine_c.specs.Reading.{isTable, tableOf}
+use Rattle.table_bytes.specs.Reading.{isTable, tableOf}
 use Rattle.lock_engine_c.proofs.Narrow.{narrow-phase}
 use Rattle.lock_engine_c.proofs.questions.duskclamp_phase.Statement.{statement}
 use Rattle.lock_engine_c.proofs.questions.duskclamp_phase.Tie as tie

@@ -1,5 +1,5 @@
 -- `lock_engine_c::questions::duskclamp_word` meets its contract: the question put to the table that the bytes say; a number is the same narrowed.
-use Rattle.lock_engine_c.specs.Reading.{isTable, tableOf}
+use Rattle.table_bytes.specs.Reading.{isTable, tableOf}
 use Rattle.lock_engine_c.proofs.Narrow.{narrow-word}
 use Rattle.lock_engine_c.proofs.questions.duskclamp_word.Statement.{statement}
 use Rattle.lock_engine_c.proofs.questions.duskclamp_word.Tie as tie

@@ -1,0 +1,9 @@
+// A table as bytes, each field at its place (specs/Layout.antt), the same on every machine.
+mod layout;
+mod reading;
+mod writing;
+
+pub use layout::TABLE_SIZE;
+pub use reading::is_table;
+pub use reading::read_table;
+pub use writing::write_table;
