@@ -7,12 +7,12 @@ use Rattle.lock_word.specs.Read.{decodeOf, flatOf, reservedOf, fatOf}
 use Rattle.lock_word.specs.Cases.{Case, AllHold, word-cases}
 use Rattle.lock_word.proofs.Cases.{word-cases-hold}
 use Rattle.lock_rules.specs.Rules.{decide, enter-look, exit-owned, go-in, go-in-again}
-use Rattle.lock_table.specs.Record.{emptyThread, emptyMonitor, emptyObject}
-use Rattle.lock_table.specs.Monitor.{firstIn}
 use Rattle.lock_table.specs.Access.{threadAt, setThread, objectAt, setObject}
 use Rattle.lock_table.specs.Fresh.{freshOf, freshReturnedOf, firstWordOf}
 use Rattle.lock_table.specs.Operation.{operationNumberOf}
-use Rattle.lock_table.specs.Phase.{phaseNumberOf, carriedNumberOf, chainNamed}
+use Rattle.lock_table.specs.Phase.{phaseNumberOf, carriedNumberOf}
+use Rattle.lock_table.specs.Empty.{emptyThread, emptyMonitor, emptyObject}
+use Rattle.lock_table.specs.Parked.{chainNamed, firstIn}
 use Rattle.lock_perform.specs.State.{stateBy, lookOf, goInOf, recordOf, doingRecordOf}
 use Rattle.lock_perform.specs.Sight.{seenOf}
 use Rattle.lock_perform.specs.Moving.{actionOf}

@@ -10,9 +10,8 @@ use Rattle.laws.specs.Choice.{pick, both}
 use Rattle.laws.specs.Count.{count, one-if}
 use Rattle.laws.proofs.Choice.{Equal, equal}
 use Rattle.chains.proofs.Chain.{Chain, chain-once}
-use Rattle.lock_table.specs.Phase.{chainNamed}
-use Rattle.lock_table.specs.Record.{threadChain}
-use Rattle.lock_table.specs.Access.{threadAt, nextOf, phaseAt, firstAt}
+use Rattle.lock_table.specs.Access.{threadAt, nextOf, phaseAt}
+use Rattle.lock_table.specs.Parked.{chainNamed, threadChain, firstAt}
 use Rattle.lock_table.specs.declared.record.Table.{Table}
 use Rattle.lock_soundness.specs.Meaning.{Within, chainAt, Sound}
 use Rattle.lock_soundness.proofs.Chained.{leads-chain}

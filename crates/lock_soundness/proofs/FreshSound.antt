@@ -16,11 +16,11 @@ use Rattle.chains.specs.Chain.{members}
 use Rattle.chains.proofs.Chain.{members-none}
 use Rattle.lock_word.specs.Read.{decodeOf, flatOf, reservedOf}
 use Rattle.lock_table.specs.Limits.{thread-limit, object-limit}
-use Rattle.lock_table.specs.Phase.{phaseNumberOf, carriedNumberOf, chainNamed}
-use Rattle.lock_table.specs.Record.{noThread, noObject, withWord, threadChain}
-use Rattle.lock_table.specs.Monitor.{firstIn}
-use Rattle.lock_table.specs.Access.{threadAt, objectAt, nextOf, phaseAt, carriedAt, firstAt}
+use Rattle.lock_table.specs.Phase.{phaseNumberOf, carriedNumberOf}
+use Rattle.lock_table.specs.Record.{noThread, noObject, withWord}
+use Rattle.lock_table.specs.Access.{threadAt, objectAt, nextOf, phaseAt, carriedAt}
 use Rattle.lock_table.specs.Fresh.{firstWordOf, freshObjectsOf, tableOf, freshOf}
+use Rattle.lock_table.specs.Parked.{chainNamed, threadChain, firstIn, firstAt}
 use Rattle.lock_table.specs.declared.record.ThreadRecord.{ThreadRecord}
 use Rattle.lock_table.specs.declared.record.ObjectRecord.{ObjectRecord}
 use Rattle.lock_table.specs.declared.record.Table.{Table}

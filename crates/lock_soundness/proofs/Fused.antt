@@ -13,10 +13,10 @@ use Rattle.laws.proofs.Choice.{equal?}
 use Rattle.chains.specs.Chain.{members, chain-test}
 use Rattle.lock_word.specs.Read.{decodeOf}
 use Rattle.lock_table.specs.Limits.{thread-limit, object-limit, depth-limit}
-use Rattle.lock_table.specs.Phase.{phaseNumberOf, chainNamed}
-use Rattle.lock_table.specs.Record.{noThread, noObject, threadChain}
-use Rattle.lock_table.specs.Monitor.{firstIn}
-use Rattle.lock_table.specs.Access.{threadAt, objectAt, nextOf, phaseAt, carriedAt, homeAt, firstAt}
+use Rattle.lock_table.specs.Phase.{phaseNumberOf}
+use Rattle.lock_table.specs.Record.{noThread, noObject}
+use Rattle.lock_table.specs.Access.{threadAt, objectAt, nextOf, phaseAt, carriedAt}
+use Rattle.lock_table.specs.Parked.{chainNamed, threadChain, firstIn, homeAt, firstAt}
 use Rattle.lock_table.specs.declared.record.Monitor.{Monitor}
 use Rattle.lock_table.specs.declared.record.ObjectRecord.{ObjectRecord}
 use Rattle.lock_table.specs.declared.record.Table.{Table}

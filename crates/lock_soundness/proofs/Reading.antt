@@ -5,8 +5,8 @@ use mathlib.Core.Bool.{Bool, true}
 use Rattle.laws.specs.Count.{count}
 use Rattle.lock_word.specs.Read.{decodeOf}
 use Rattle.lock_table.specs.Limits.{thread-limit, object-limit}
-use Rattle.lock_table.specs.Record.{threadChain}
-use Rattle.lock_table.specs.Access.{threadAt, objectAt, nextOf, phaseAt, carriedAt, homeAt, firstAt}
+use Rattle.lock_table.specs.Access.{threadAt, objectAt, nextOf, phaseAt, carriedAt}
+use Rattle.lock_table.specs.Parked.{threadChain, homeAt, firstAt}
 use Rattle.lock_table.specs.declared.record.Table.{Table}
 use Rattle.lock_table.proofs.Walks.{next-none}
 use Rattle.lock_soundness.specs.Sound.{every-chain, soundOf}

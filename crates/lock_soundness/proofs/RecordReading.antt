@@ -13,9 +13,10 @@ use Rattle.lock_word.specs.declared.reading.Decoded.{Decoded}
 use Rattle.lock_word.specs.declared.reading.Decoded.the-variants.{Valid, Invalid}
 use Rattle.lock_table.specs.Limits.{thread-limit, object-limit, depth-limit}
 use Rattle.lock_table.specs.Operation.{operationNumberOf}
-use Rattle.lock_table.specs.Phase.{phaseNumberOf, chainNamed}
-use Rattle.lock_table.specs.Record.{noThread, noMonitor, noObject, threadChain, emptyThread, emptyMonitor, emptyObject}
-use Rattle.lock_table.specs.Monitor.{firstIn}
+use Rattle.lock_table.specs.Phase.{phaseNumberOf}
+use Rattle.lock_table.specs.Record.{noThread, noMonitor, noObject}
+use Rattle.lock_table.specs.Empty.{emptyThread, emptyMonitor, emptyObject}
+use Rattle.lock_table.specs.Parked.{chainNamed, threadChain, firstIn}
 use Rattle.lock_table.specs.declared.operation.Operation.{Operation}
 use Rattle.lock_table.specs.declared.operation.Operation.the-variants.{Idle, Enter, Exit, Wait, Notify, NotifyAll}
 use Rattle.lock_table.specs.declared.phase.Phase.{Phase}

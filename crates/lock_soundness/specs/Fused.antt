@@ -11,8 +11,10 @@ use Rattle.chains.specs.Chain.{chain-test}
 use Rattle.lock_word.specs.Read.{decodeOf}
 use Rattle.lock_table.specs.Limits.{thread-limit, object-limit}
 use Rattle.lock_table.specs.Phase.{phaseNumberOf, carriedNumberOf}
-use Rattle.lock_table.specs.Record.{noThread, noObject, threadChain, emptyThread, emptyObject}
+use Rattle.lock_table.specs.Record.{noThread, noObject}
 use Rattle.lock_table.specs.Access.{threadAt, objectAt}
+use Rattle.lock_table.specs.Empty.{emptyThread, emptyObject}
+use Rattle.lock_table.specs.Parked.{threadChain}
 use Rattle.lock_table.specs.declared.record.ThreadRecord.{ThreadRecord}
 use Rattle.lock_table.specs.declared.record.Monitor.{Monitor}
 use Rattle.lock_table.specs.declared.record.ObjectRecord.{ObjectRecord}

@@ -12,9 +12,9 @@ use Rattle.lock_word.specs.declared.reading.LockWord.the-variants.{Free, Flat, 
 use Rattle.lock_word.specs.declared.reading.Decoded.{Decoded}
 use Rattle.lock_word.specs.declared.reading.Decoded.the-variants.{Valid, Invalid}
 use Rattle.lock_table.specs.Limits.{thread-limit, object-limit, depth-limit}
-use Rattle.lock_table.specs.Phase.{chainNamed}
-use Rattle.lock_table.specs.Record.{noThread, noObject, threadChain}
-use Rattle.lock_table.specs.Access.{threadAt, objectAt, nextOf, phaseAt, carriedAt, firstAt}
+use Rattle.lock_table.specs.Record.{noThread, noObject}
+use Rattle.lock_table.specs.Access.{threadAt, objectAt, nextOf, phaseAt, carriedAt}
+use Rattle.lock_table.specs.Parked.{chainNamed, threadChain, firstAt}
 use Rattle.lock_table.specs.declared.operation.Operation.{Operation}
 use Rattle.lock_table.specs.declared.operation.Operation.the-variants.{Idle, Enter, Exit, Wait, Notify, NotifyAll}
 use Rattle.lock_table.specs.declared.record.ThreadRecord.{ThreadRecord}

@@ -13,10 +13,9 @@ use Rattle.lock_word.specs.declared.reading.Decoded.{Decoded}
 use Rattle.lock_word.specs.declared.reading.Decoded.the-variants.{Valid, Invalid}
 use Rattle.lock_table.specs.Limits.{thread-limit, object-limit, depth-limit}
 use Rattle.lock_table.specs.Operation.{operationNumberOf}
-use Rattle.lock_table.specs.Phase.{chainNamed}
-use Rattle.lock_table.specs.Record.{emptyThread, emptyObject, threadChain}
-use Rattle.lock_table.specs.Monitor.{firstIn}
-use Rattle.lock_table.specs.Access.{threadAt, objectAt, nextOf, phaseAt, carriedAt, homeAt, firstAt}
+use Rattle.lock_table.specs.Access.{threadAt, objectAt, nextOf, phaseAt, carriedAt}
+use Rattle.lock_table.specs.Empty.{emptyThread, emptyObject}
+use Rattle.lock_table.specs.Parked.{chainNamed, threadChain, firstIn, homeAt, firstAt}
 use Rattle.lock_table.specs.declared.operation.Operation.{Operation}
 use Rattle.lock_table.specs.declared.operation.Operation.the-variants.{Idle, Enter, Exit, Wait, Notify, NotifyAll}
 use Rattle.lock_table.specs.declared.record.ThreadRecord.{ThreadRecord}

@@ -6,7 +6,7 @@ use lock_table::THREADS;
 use lock_table::ThreadRecord;
 ghost use mathlib.Core.Path.{_≡_};
 ghost use Rattle.chains.specs.Chain.{in-chain};
-ghost use Rattle.lock_table.specs.Monitor.{firstIn};
+ghost use Rattle.lock_table.specs.Parked.{firstIn};
 ghost use Rattle.lock_soundness.specs.Sound.{foundIn, namesChain};
 ghost use Rattle.lock_soundness.specs.Fused.{nextIn, chainPasses, chainsPass};
 

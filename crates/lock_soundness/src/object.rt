@@ -5,7 +5,7 @@ use lock_table::ObjectRecord;
 use lock_word::Decoded;
 use lock_word::LockWord;
 ghost use mathlib.Core.Path.{_≡_};
-ghost use Rattle.lock_table.specs.Record.{emptyMonitor, emptyObject};
+ghost use Rattle.lock_table.specs.Empty.{emptyMonitor, emptyObject};
 ghost use Rattle.lock_soundness.specs.Sound.{wordFits, unheldFits};
 ghost use Rattle.lock_soundness.specs.Fused.{usedObjectFits, objectFits};
 

@@ -7,7 +7,6 @@ use Rattle.laws.specs.Choice.{pick}
 use Rattle.lock_table.specs.Limits.{thread-limit, object-limit}
 use Rattle.lock_table.specs.Phase.{phaseNumberOf, carriedNumberOf}
 use Rattle.lock_table.specs.Record.{noThread, noObject}
-use Rattle.lock_table.specs.Monitor.{firstIn}
 use Rattle.lock_table.specs.declared.record.ThreadRecord.{ThreadRecord}
 use Rattle.lock_table.specs.declared.record.ObjectRecord.{ObjectRecord}
 use Rattle.lock_table.specs.declared.record.Table.{Table}
@@ -40,11 +39,3 @@ phaseAt table number = phaseNumberOf (threadAt table number .phase)
 
 abbrev pub carriedAt : Table → ℕ → ℕ
 carriedAt table number = carriedNumberOf (threadAt table number .phase)
-
--- the record of the object that a thread is at
-abbrev pub homeAt : Table → ℕ → ObjectRecord
-homeAt table number = objectAt table (threadAt table number .object)
-
--- the first thread of a chain of an object
-abbrev pub firstAt : Table → ℕ → ℕ → ℕ
-firstAt table object chain = firstIn (objectAt table object .monitor) chain

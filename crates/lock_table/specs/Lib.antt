@@ -5,6 +5,8 @@ pub mod Phase
 pub mod Record
 pub mod Access
 pub mod Whole
+pub mod Empty
+pub mod Parked
 pub mod Monitor
 pub mod Chain
 pub mod Fresh

@@ -1,16 +1,8 @@
--- What is done to a monitor (document 01, "Steps": going in, handing, inflating and moving each take a monitor and give it back altered), and the
--- first threads of its chains.
+-- What is done to a monitor (document 01, "Steps": going in, handing, inflating and moving each take a monitor and give it back altered).
 use Prim.Native.Nat.{ℕ}
-use lib.Dec.{eqb}
-use Rattle.laws.specs.Choice.{pick}
 use Rattle.chains.specs.Chain.{first-with}
 use Rattle.lock_table.specs.declared.record.Monitor.{Monitor}
 use Rattle.lock_table.specs.declared.monitor.Handed.{Handed}
-
--- the first thread of a chain: 1 entry, 2 contention, 3 waiting
-unfoldable pub firstIn : Monitor → ℕ → ℕ
-firstIn monitor chain =
-    pick (eqb chain 1) (monitor .entry) (pick (eqb chain 2) (monitor .contention) (pick (eqb chain 3) (monitor .waiting) 0))
 
 -- becoming holder
 abbrev pub heldBy : Monitor → ℕ → Monitor

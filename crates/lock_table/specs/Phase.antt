@@ -1,7 +1,5 @@
--- Document 01's number for each phase, the phase that a queued thread carries, and the chain that a phase names.
+-- Document 01's number for each phase, and the phase that a queued thread carries.
 use Prim.Native.Nat.{ℕ}
-use lib.Dec.{eqb}
-use Rattle.laws.specs.Choice.{pick}
 use Rattle.lock_table.specs.declared.phase.Onward.{Onward}
 use Rattle.lock_table.specs.declared.phase.Onward.the-variants.{ToCheck, ToTell, ToInflate, ToResume}
 use Rattle.lock_table.specs.declared.phase.Phase.{Phase}
@@ -72,7 +70,3 @@ carriedNumberOf Inflate = 0
 carriedNumberOf GiveUp = 0
 carriedNumberOf Waiting = 0
 carriedNumberOf Resume = 0
-
--- the chain of its object that a parked thread's phase names: 1 entry, 2 contention, 3 waiting; 0 where a phase names none
-unfoldable pub chainNamed : ℕ → ℕ
-chainNamed phase = pick (eqb phase 5) 1 (pick (eqb phase 8) 2 (pick (eqb phase 14) 3 0))

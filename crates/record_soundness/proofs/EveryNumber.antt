@@ -17,10 +17,10 @@ use Rattle.lock_rules.specs.declared.ThreadState.the-variants.{Idle, Running}
 use Rattle.lock_rules.proofs.Tables.{ListThread, seen-from, seen-here}
 use Rattle.lock_rules.proofs.ListChains.{Chain, entry-chain, contention-chain, waiting-chain, times-in, seen-or-at}
 use Rattle.lock_table.specs.Limits.{thread-limit, object-limit}
-use Rattle.lock_table.specs.Phase.{phaseNumberOf, chainNamed}
-use Rattle.lock_table.specs.Record.{noThread, noMonitor, noObject, threadChain}
-use Rattle.lock_table.specs.Monitor.{firstIn}
-use Rattle.lock_table.specs.Access.{threadAt, objectAt, nextOf, phaseAt, firstAt}
+use Rattle.lock_table.specs.Phase.{phaseNumberOf}
+use Rattle.lock_table.specs.Record.{noThread, noMonitor, noObject}
+use Rattle.lock_table.specs.Access.{threadAt, objectAt, nextOf, phaseAt}
+use Rattle.lock_table.specs.Parked.{chainNamed, threadChain, firstIn, firstAt}
 use Rattle.lock_table.specs.declared.record.ThreadRecord.{ThreadRecord}
 use Rattle.lock_table.specs.declared.record.Table.{Table}
 use Rattle.lock_table.proofs.Records.{thread-none, thread-past}

@@ -28,7 +28,8 @@ use Rattle.lock_rules.specs.declared.ThreadState.the-variants.{Idle, Running, Q
 use Rattle.lock_rules.proofs.ListSound.{SuspensionFine, DoingFine, StateFine}
 use Rattle.lock_table.specs.Limits.{thread-limit, depth-limit}
 use Rattle.lock_table.specs.Operation.{operationNumberOf}
-use Rattle.lock_table.specs.Phase.{onwardNumberOf, phaseNumberOf, carriedNumberOf, chainNamed}
+use Rattle.lock_table.specs.Phase.{onwardNumberOf, phaseNumberOf, carriedNumberOf}
+use Rattle.lock_table.specs.Parked.{chainNamed}
 use Rattle.lock_table.specs.declared.record.ThreadRecord.{ThreadRecord}
 use Rattle.lock_perform.specs.State.{doingRecordOf, carriedRecordOf, recordOf}
 use Rattle.lock_soundness.specs.Sound.{

@@ -18,7 +18,7 @@ use Rattle.lock_rules.specs.declared.Doing.the-variants.{WaitInflate, WaitGiveU
 use Rattle.lock_rules.specs.declared.ThreadState.{ThreadState}
 use Rattle.lock_rules.specs.declared.ThreadState.the-variants.{Idle, Running, Queued, Contending, Waiting}
 use Rattle.lock_rules.proofs.ListChains.{Chain, entry-chain, contention-chain, waiting-chain, times-in}
-use Rattle.lock_table.specs.Phase.{chainNamed}
+use Rattle.lock_table.specs.Parked.{chainNamed}
 
 -- 1 entry, 2 contention, 3 waiting
 abbrev pub chain-number : Chain → ℕ

@@ -15,10 +15,9 @@ use Rattle.lock_rules.proofs.Tables.{ListTable, states-at, seen-here}
 use Rattle.lock_rules.proofs.ListSound.{InTable, SoundTable}
 use Rattle.lock_rules.proofs.ListChains.{Chain, entry-chain, contention-chain, waiting-chain, chain-of, times-in, placed-in, member-at, member-in, short}
 use Rattle.lock_rules.proofs.ListChains.{out-of-chain}
-use Rattle.lock_table.specs.Phase.{chainNamed}
-use Rattle.lock_table.specs.Record.{noThread, threadChain}
-use Rattle.lock_table.specs.Monitor.{firstIn}
-use Rattle.lock_table.specs.Access.{threadAt, objectAt, nextOf, phaseAt, firstAt}
+use Rattle.lock_table.specs.Record.{noThread}
+use Rattle.lock_table.specs.Access.{threadAt, objectAt, nextOf, phaseAt}
+use Rattle.lock_table.specs.Parked.{chainNamed, threadChain, firstIn, firstAt}
 use Rattle.lock_table.specs.declared.record.ObjectRecord.{ObjectRecord}
 use Rattle.lock_table.specs.declared.record.Table.{Table}
 use Rattle.lock_table.proofs.Walks.{next-none}

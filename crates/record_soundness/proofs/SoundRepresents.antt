@@ -20,9 +20,9 @@ use Rattle.lock_rules.proofs.Tables.{ListTable, seen-idle}
 use Rattle.lock_rules.proofs.ListSound.{StateFine, WordFine, InTable, SoundTable}
 use Rattle.lock_rules.proofs.ListChains.{Chain, entry-chain, contention-chain, waiting-chain, chain-of}
 use Rattle.lock_table.specs.Limits.{thread-limit, object-limit, depth-limit}
-use Rattle.lock_table.specs.Record.{noThread, noObject, threadChain}
-use Rattle.lock_table.specs.Monitor.{firstIn}
-use Rattle.lock_table.specs.Access.{threadAt, objectAt, nextOf, phaseAt, firstAt}
+use Rattle.lock_table.specs.Record.{noThread, noObject}
+use Rattle.lock_table.specs.Access.{threadAt, objectAt, nextOf, phaseAt}
+use Rattle.lock_table.specs.Parked.{threadChain, firstIn, firstAt}
 use Rattle.lock_table.specs.declared.record.ObjectRecord.{ObjectRecord}
 use Rattle.lock_table.specs.declared.record.Table.{Table}
 use Rattle.lock_table.proofs.Records.{thread-none}

@@ -1,6 +1,6 @@
 -- `lock_soundness::chain::first_in` meets its contract: each way through the code is that of the definition.
 use borrow.Author.Tests.{eq-eqb, ne-eqb}
-use Rattle.lock_table.specs.Monitor.{firstIn}
+use Rattle.lock_table.specs.Parked.{firstIn}
 use Rattle.lock_soundness.proofs.chain.first_in.Statement.{statement}
 use Rattle.lock_soundness.proofs.chain.first_in.Tie as tie
 

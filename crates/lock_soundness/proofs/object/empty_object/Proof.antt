@@ -1,5 +1,5 @@
 -- `lock_soundness::object::empty_object` meets its contract: each way through the code is that of the definition.
-use Rattle.lock_table.specs.Record.{emptyObject}
+use Rattle.lock_table.specs.Empty.{emptyObject}
 use Rattle.lock_soundness.proofs.object.empty_object.Statement.{statement}
 use Rattle.lock_soundness.proofs.object.empty_object.Tie as tie
 

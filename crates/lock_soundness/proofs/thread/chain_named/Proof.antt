@@ -1,6 +1,6 @@
 -- `lock_soundness::thread::chain_named` meets its contract: each way through the code is that of the definition.
 use borrow.Author.Tests.{eq-eqb, ne-eqb}
-use Rattle.lock_table.specs.Phase.{chainNamed}
+use Rattle.lock_table.specs.Parked.{chainNamed}
 use Rattle.lock_soundness.proofs.thread.chain_named.Statement.{statement}
 use Rattle.lock_soundness.proofs.thread.chain_named.Tie as tie
 

@@ -1,5 +1,5 @@
 -- `lock_soundness::thread::empty_thread` meets its contract: each way through the code is that of the definition.
-use Rattle.lock_table.specs.Record.{emptyThread}
+use Rattle.lock_table.specs.Empty.{emptyThread}
 use Rattle.lock_soundness.proofs.thread.empty_thread.Statement.{statement}
 use Rattle.lock_soundness.proofs.thread.empty_thread.Tie as tie
 
