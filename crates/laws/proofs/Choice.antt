@@ -21,6 +21,13 @@ pub by-test : {A : Type 0} (P : A → Type 0) (b : Bool) {x y : A} → (b ≡ tr
 by-test P true yes-case no-case = yes-case refl
 by-test P false yes-case no-case = no-case refl
 
+-- the same, with what the test says there
+pub by-equal : {A : Type 0} (P : A → Type 0) (a b : ℕ) {x y : A} → (a ≡ b → P x) → (a ≢ b → P y) → P (pick (eqb a b) x y)
+by-equal P a b same other = by-test P (eqb a b) (λ e. same (eqb-true a b e)) (λ e. other (eqb-false a b e))
+
+pub by-below : {A : Type 0} (P : A → Type 0) (a b : ℕ) {x y : A} → (a < b → P x) → (b ≤ a → P y) → P (pick (ltb a b) x y)
+by-below P a b under over = by-test P (ltb a b) (λ e. under (ltb-true a b e)) (λ e. over (ltb-false a b e))
+
 pub pick-same {ℓ} : {A : Type ℓ} (b : Bool) (x : A) → pick b x x ≡ x
 pick-same true x = refl
 pick-same false x = refl

@@ -1,18 +1,16 @@
--- A test of a whole range or table, read at each of its places, made from all of them, and one turn of the loop that computes it.
-use Prim.Native.Nat.{ℕ, zero, suc, _+_, _-_, _≤_, _<_}
-use mathlib.Core.Path.{_≡_, refl, sym, _∙_, subst}
+-- A test of a whole range, read at each of its numbers, made from all of them, and one turn of the loop that computes it.
+use Prim.Native.Nat.{ℕ, zero, suc, _-_, _≤_, _<_}
+use mathlib.Core.Path.{_≡_, refl}
 use mathlib.Core.Bool.{Bool, true, false}
-use mathlib.Core.List.{List, [], _∷_}
 use native.Mathlib.Omega.{arith}
 use native.Mathlib.Numerals.{sub-one}
-use native.Mathlib.Nat.{add-zero, zero-add, add-suc, suc-add, le-of-suc-le-suc, not-suc-le-zero, lt-irrefl}
+use native.Mathlib.Nat.{not-suc-le-zero, lt-irrefl}
 use lib.Arith.{le-of-le-suc-ne}
 use lib.Dec.{eqb}
-use lib.ListN.{length, getD}
 use borrow.Author.Tests.{eqb-true, eqb-false}
-use Rattle.laws.specs.Choice.{pick, both}
-use Rattle.laws.specs.Every.{all-up-to, every-entry}
-use Rattle.laws.proofs.Choice.{split, false≢true, both-first, both-second}
+use Rattle.laws.specs.Choice.{pick}
+use Rattle.laws.specs.Every.{all-up-to}
+use Rattle.laws.proofs.Choice.{split, false≢true}
 
 pub all-at : (n : ℕ) (test : ℕ → Bool) → all-up-to n test ≡ true → (i : ℕ) → 1 ≤ i → i ≤ n → test i ≡ true
 unfolding all-up-to
@@ -38,16 +36,3 @@ pub all-end : {n : ℕ} → n ≤ 0 → (test : ℕ → Bool) → all-up-to n te
 unfolding all-up-to
 all-end {n = zero} h test = refl
 all-end {n = suc n} h test = absurd (not-suc-le-zero h)
-
--- a table's rule from its one computed test
-entry-from : (test : ℕ → ℕ → Bool) (xs : List ℕ) (place : ℕ) → every-entry test place xs ≡ true
-    → (k : ℕ) → k < length xs → test (place + k) (getD xs k 0) ≡ true
-entry-from test [] place t k h = absurd (not-suc-le-zero h)
-entry-from test (x ∷ xs) place t zero h =
-    subst (λ (m : ℕ). test m x ≡ true) (sym (add-zero place)) (both-first (test place x) (every-entry test (suc place) xs) t)
-entry-from test (x ∷ xs) place t (suc k) h =
-    subst (λ (m : ℕ). test m (getD xs k 0) ≡ true) (suc-add place k ∙ sym (add-suc place k))
-    (entry-from test xs (suc place) (both-second (test place x) (every-entry test (suc place) xs) t) k (le-of-suc-le-suc h))
-
-pub entry-at : (test : ℕ → ℕ → Bool) (xs : List ℕ) → every-entry test 0 xs ≡ true → (k : ℕ) → k < length xs → test k (getD xs k 0) ≡ true
-entry-at test xs t k h = subst (λ (m : ℕ). test m (getD xs k 0) ≡ true) (zero-add k) (entry-from test xs 0 t k h)

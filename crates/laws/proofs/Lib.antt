@@ -3,3 +3,5 @@ pub mod Choice
 pub mod Update
 pub mod Count
 pub mod Every
+pub mod Sequence
+pub mod Facts

@@ -2,8 +2,10 @@
 use Prim.Native.Nat.{ℕ}
 use mathlib.Core.Path.{_≡_, refl, sym, fun-ext}
 use mathlib.Core.Logic.{_≢_, _⊎_, inl, inr}
+use mathlib.Core.Bool.{Bool, true, false}
 use lib.Dec.{eqb}
 use borrow.Author.Tests.{eq-eqb, ne-eqb}
+use Rattle.laws.specs.Choice.{pick}
 use Rattle.laws.specs.Update.{update}
 use Rattle.laws.proofs.Choice.{equal?}
 
@@ -22,3 +24,13 @@ update-id f place value e = fun-ext (λ n. at n (equal? n place))
     at : (n : ℕ) → (n ≡ place) ⊎ (n ≢ place) → update f place value n ≡ f n
     at n (inl q) = rw (q, update-same f place value) (sym e)
     at n (inr away) = update-other f place value n away
+
+-- a function of each value
+pub update-map : {A B : Type 0} (each : A → B) (f : ℕ → A) (place : ℕ) (value : A) (n : ℕ)
+    → each (update f place value n) ≡ update (λ m. each (f m)) place (each value) n
+unfolding update
+update-map each f place value n = at (eqb n place)
+  where
+    at : (here : Bool) → each (pick here value (f n)) ≡ pick here (each value) (each (f n))
+    at true = refl
+    at false = refl

@@ -3,3 +3,4 @@ pub mod Choice
 pub mod Update
 pub mod Count
 pub mod Every
+pub mod Sequence

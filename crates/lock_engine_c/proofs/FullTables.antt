@@ -8,6 +8,7 @@ use lib.Dec.{eqb}
 use lib.ListN.{length}
 use Rattle.laws.specs.Choice.{within}
 use Rattle.laws.proofs.Choice.{by-test}
+use Rattle.laws.proofs.Sequence.{tabulate-length}
 use Rattle.lock_word.specs.Read.{decodeOf}
 use Rattle.lock_word.specs.declared.reading.Decoded.{Decoded}
 use Rattle.lock_word.specs.declared.reading.Decoded.the-variants.{Valid, Invalid}
@@ -39,7 +40,6 @@ use Rattle.lock_engine.specs.Step.{settleOf, stepWord, stepThread, stepRanged, 
 use Rattle.lock_engine.specs.declared.outcome.Outcome.{Outcome}
 use Rattle.table_bytes.specs.Reading.{isTable, tableOf, threadFrom, objectFrom}
 use Rattle.lock_engine_c.specs.Calls.{eventBytes, begunOn, steppedOn}
-use Rattle.table_bytes.proofs.Places.{tabulate-length}
 use Rattle.table_bytes.proofs.ReadBack.{bytes-table, read-back}
 
 pub record Full (table : Table) : Type 0 where

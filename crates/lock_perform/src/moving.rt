@@ -2,7 +2,6 @@
 use lock_rules::ChainAction;
 use lock_table::Monitor;
 use lock_table::Onward;
-use lock_table::Operation;
 use lock_table::Phase;
 use lock_table::Table;
 use lock_table::ThreadRecord;

@@ -1,14 +1,13 @@
 -- "From a fresh table 11 and 20 never occur" (document 01, "Steps"): of 11, that no step of a schedule meets a word that is none.
 use Prim.Native.Nat.{ℕ, _≤_}
 use mathlib.Core.Path.{_≡_, refl, sym, subst}
-use mathlib.Core.Logic.{_≢_}
 use mathlib.Core.Bool.{Bool, true, false}
 use mathlib.Core.List.{List, [], _∷_}
 use native.Mathlib.Omega.{arith}
 use borrow.Author.Tests.{le-leb}
 use Rattle.laws.specs.Choice.{pick, within}
 use Rattle.laws.proofs.Choice.{by-test}
-use Rattle.lock_rules.specs.Events.{Event, Begin, Step, Reply, Answered, Shown, returned}
+use Rattle.lock_rules.specs.Events.{Event, Begin, Step, Answered}
 use Rattle.lock_rules.specs.Feed.{Plain, OperationLog, feed, blank, EndsRight}
 use Rattle.lock_rules.specs.Numbers.{asked-for}
 use Rattle.lock_rules.specs.Operations.{Operation, Asked, Unknown, Known}

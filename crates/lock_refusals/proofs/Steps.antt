@@ -24,7 +24,7 @@ use Rattle.lock_perform.specs.State.{doingRecordOf, carriedRecordOf, recordOf, 
 use Rattle.lock_perform.specs.Sight.{sightOf}
 use Rattle.lock_soundness.specs.Sound.{soundOf}
 use Rattle.lock_soundness.specs.Meaning.{Within, WordFits}
-use Rattle.lock_soundness.proofs.Facts.{reads-within}
+use Rattle.laws.proofs.Facts.{reads-within}
 use Rattle.lock_soundness.proofs.Reading.{sound-reads}
 use Rattle.lock_engine.specs.Outcome.{refusalNumberOf}
 use Rattle.lock_engine.specs.Step.{stepOf, stepGated, stepRanged, stepThread, stepWord}

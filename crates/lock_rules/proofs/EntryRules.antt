@@ -7,6 +7,7 @@ use mathlib.Core.List.{List, [], _∷_, _++_}
 use native.Mathlib.Omega.{arith}
 use lib.Dec.{T}
 use Rattle.laws.specs.Update.{update}
+use Rattle.laws.proofs.Choice.{by-below, by-equal}
 use Rattle.laws.proofs.Count.{count-joined}
 use Rattle.lock_rules.specs.Limits.{depth-limit}
 use Rattle.lock_rules.specs.Ownership.{owner-of}
@@ -31,7 +32,7 @@ use Rattle.lock_rules.proofs.Tables.{fresh}
 use Rattle.lock_rules.proofs.Invariant.{holding, nothing-saved, phase-row, leaving?, InChains, Unreserved, FlatOf, NotOwn, ReliesOn, Relies}
 use Rattle.lock_rules.proofs.Invariant.{Logged, woken?, SavedIs, MonitorOk, FlagOk, Invariant}
 use Rattle.lock_rules.proofs.OtherThreads.{others-flag, others-taken, others-joined-entry, others-joined-contention}
-use Rattle.lock_rules.proofs.SharedFacts.{by-below, by-equal, unstranded-moved, unstranded-held, unstranded-joined, unheld, monitor-handed}
+use Rattle.lock_rules.proofs.SharedFacts.{unstranded-moved, unstranded-held, unstranded-joined, unheld, monitor-handed}
 use Rattle.lock_rules.proofs.SharedFacts.{owner-shallow, fat-owner, fat-unowned, first-commit, same-monitor}
 use Rattle.lock_rules.proofs.Refinement.{plain-at, Actor, Self, Stepping, Right, nothing-committed, refine}
 use Rattle.lock_rules.proofs.RuleShapes.{ended-self, end-refines, depth-refines, hand-refines, inflate-refines}

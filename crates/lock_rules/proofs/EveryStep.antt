@@ -1,5 +1,6 @@
 -- Every step of a thread that is neither idle nor parked keeps the invariant and commits as the plain monitor does.
 use mathlib.Core.Path.{_≡_, refl}
+use Rattle.laws.proofs.Choice.{by-equal}
 use Rattle.lock_rules.specs.Rules.{holder-only, enter-check, enter-try, exit-tell, exit-leave, wait-inflate, wait-give-up, wait-resume, decide}
 use Rattle.lock_rules.specs.Operations.{Operation}
 use Rattle.lock_rules.specs.Operations.{Enter, Exit, Wait}
@@ -10,7 +11,6 @@ use Rattle.lock_rules.specs.declared.Doing.the-variants.{WaitGiveUp, Wai
 use Rattle.lock_rules.specs.declared.Action.{Action}
 use Rattle.lock_rules.proofs.Objects.{ListObject, sight-of}
 use Rattle.lock_rules.proofs.Invariant.{phase-row}
-use Rattle.lock_rules.proofs.SharedFacts.{by-equal}
 use Rattle.lock_rules.proofs.Refinement.{Actor, Stepping, Right}
 use Rattle.lock_rules.proofs.LookRules.{enter-look-refines, exit-look-refines, wait-look-refines}
 use Rattle.lock_rules.proofs.NotifyRules.{notify-look-refines, notify-all-look-refines}

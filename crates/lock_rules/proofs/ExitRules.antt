@@ -8,6 +8,7 @@ use native.Mathlib.Omega.{arith}
 use lib.Dec.{T}
 use Rattle.laws.specs.Update.{update}
 use Rattle.laws.specs.Count.{count}
+use Rattle.laws.proofs.Choice.{by-equal}
 use Rattle.laws.proofs.Update.{update-same, update-other}
 use Rattle.laws.proofs.Count.{count-other}
 use Rattle.lock_rules.specs.Actions.{go-on}
@@ -27,7 +28,7 @@ use Rattle.lock_rules.proofs.Invariant.{phase-row, leaving?, in-entry, 
 use Rattle.lock_rules.proofs.Reliances.{is-queued}
 use Rattle.lock_rules.proofs.Membership.{not-first}
 use Rattle.lock_rules.proofs.OtherThreads.{others-told}
-use Rattle.lock_rules.proofs.SharedFacts.{by-equal, unstranded-empty, unstranded-joined, flag-down, owner-shallow, first-queued}
+use Rattle.lock_rules.proofs.SharedFacts.{unstranded-empty, unstranded-joined, flag-down, owner-shallow, first-queued}
 use Rattle.lock_rules.proofs.SharedFacts.{contender-busy, same-monitor}
 use Rattle.lock_rules.proofs.Refinement.{Actor, Stepping, Right, nothing-committed, refine}
 use Rattle.lock_rules.proofs.RuleShapes.{go-on-refines, ended-self, hand-refines}

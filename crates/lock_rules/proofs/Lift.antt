@@ -10,7 +10,7 @@ use lib.Dec.{T, eqb}
 use Rattle.laws.specs.Choice.{pick}
 use Rattle.laws.specs.Update.{update}
 use Rattle.laws.proofs.Choice.{equal?, Equal, equal}
-use Rattle.laws.proofs.Update.{update-same, update-other}
+use Rattle.laws.proofs.Update.{update-same, update-other, update-map}
 use Rattle.laws.proofs.Count.{count-none}
 use Rattle.lock_rules.specs.Rules.{begun}
 use Rattle.lock_rules.specs.Operations.{Operation}
@@ -125,14 +125,6 @@ inv-begin operation t object states o ghost z inv e =
             (λ k. absurd (first-stays operation k)) (inv .whole .unstranded);
       };
     }
-
-pub update-map : {A B : Type 0} (f : A → B) (g : ℕ → A) (i : ℕ) (v : A) (t : ℕ) → f (update g i v t) ≡ update (λ u. f (g u)) i (f v) t
-unfolding update
-update-map f g i v t = at (eqb t i)
-  where
-    at : (b : Bool) → f (pick b v (g t)) ≡ pick b (f v) (f (g t))
-    at true = refl
-    at false = refl
 
 world-begin : (table : ListTable) (plain : Plain) (operation : Operation) (t o : ℕ) → t ≢ 0 → table .threads t .state ≡ Idle → World table plain
     → World (begin-at table operation t o) (fed-begin plain t o (Known operation))

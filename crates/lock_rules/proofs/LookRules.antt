@@ -10,7 +10,7 @@ use lib.ListN.{length}
 use Rattle.laws.specs.Choice.{pick, both}
 use Rattle.laws.specs.Update.{update}
 use Rattle.laws.specs.Count.{count}
-use Rattle.laws.proofs.Choice.{Equal, equal}
+use Rattle.laws.proofs.Choice.{Equal, equal, by-equal, by-below}
 use Rattle.laws.proofs.Update.{update-same}
 use Rattle.laws.proofs.Count.{count-none}
 use Rattle.lock_rules.specs.Limits.{count-limit}
@@ -33,7 +33,7 @@ use Rattle.lock_rules.proofs.Commits.{commit-enter, commit-enter-again,
 use Rattle.lock_rules.proofs.Objects.{with-word, with-depth, ListObject, object-of, empty, sight-of, object-owner, owned-depth}
 use Rattle.lock_rules.proofs.Invariant.{all-committed, nothing-saved, phase-row, Seated, ReliesOn, MonitorOk, FlagOk, Unstranded}
 use Rattle.lock_rules.proofs.OtherThreads.{Others, others-word, others-depth}
-use Rattle.lock_rules.proofs.SharedFacts.{by-equal, by-below, keeps-taken, keeps-flat, keeps-freed, keeps-anonymous, keeps-deflated}
+use Rattle.lock_rules.proofs.SharedFacts.{keeps-taken, keeps-flat, keeps-freed, keeps-anonymous, keeps-deflated}
 use Rattle.lock_rules.proofs.SharedFacts.{unstranded-empty, fat-owned, reserved-owned, first-commit, none, same-monitor}
 use Rattle.lock_rules.proofs.Refinement.{plain-at, Actor, Stepping, Right, refine}
 use Rattle.lock_rules.proofs.RuleShapes.{move-refines, go-on-refines, owner-only-refines, word-refines, depth-refines}

@@ -9,6 +9,7 @@ use lib.Dec.{T}
 use Rattle.laws.specs.Choice.{pick}
 use Rattle.laws.specs.Update.{update}
 use Rattle.laws.specs.Count.{count}
+use Rattle.laws.proofs.Choice.{by-equal}
 use Rattle.laws.proofs.Count.{count-none}
 use Rattle.lock_rules.specs.Limits.{depth-limit}
 use Rattle.lock_rules.specs.Actions.{keep-object, go-on, finish-word, finish-depth, inflate}
@@ -38,7 +39,7 @@ use Rattle.lock_rules.proofs.Invariant.{ThreadOk, MonitorOk, FlagOk, Un
 use Rattle.lock_rules.proofs.Reliances.{KeepsReliance}
 use Rattle.lock_rules.proofs.Membership.{not-first}
 use Rattle.lock_rules.proofs.OtherThreads.{Others, inflated, others-word, others-depth, others-ghost, others-handed, others-inflated}
-use Rattle.lock_rules.proofs.SharedFacts.{by-equal, unstranded-moved, monitor-handed, fat-owner, first-commit, idle-handed, idle-admitted}
+use Rattle.lock_rules.proofs.SharedFacts.{unstranded-moved, monitor-handed, fat-owner, first-commit, idle-handed, idle-admitted}
 use Rattle.lock_rules.proofs.SharedFacts.{first-queued, same-monitor}
 use Rattle.lock_rules.proofs.Refinement.{known, Actor, Self, Stepping, plain-at, Right, Alike, moved, nothing-committed, refine}
 

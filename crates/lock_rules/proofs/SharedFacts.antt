@@ -1,17 +1,17 @@
 -- Facts that the rules share: what a new word owes to the others, when contenders are not stranded, who owns, and who stays idle.
-use Prim.Native.Nat.{_≤_, ℕ, zero, suc, _+_, _<_}
+use Prim.Native.Nat.{ℕ, zero, suc, _+_, _<_}
 use mathlib.Core.Path.{_≡_, refl, sym, ap, _∙_}
 use mathlib.Core.Logic.{_≢_, _⊎_, inl, inr}
 use mathlib.Core.Bool.{Bool, true, false}
 use mathlib.Core.List.{List, [], _∷_}
 use native.Mathlib.Omega.{arith}
-use lib.Dec.{ltb, T, eqb}
+use lib.Dec.{T, eqb}
 use lib.ListN.{length}
-use borrow.Author.Tests.{eqb-true, eqb-false, ltb-true, ltb-false, eq-eqb, ne-eqb}
+use borrow.Author.Tests.{eq-eqb, ne-eqb}
 use Rattle.laws.specs.Choice.{pick}
 use Rattle.laws.specs.Update.{update}
 use Rattle.laws.specs.Count.{count}
-use Rattle.laws.proofs.Choice.{by-test, equal?, Equal, equal}
+use Rattle.laws.proofs.Choice.{equal?, Equal, equal}
 use Rattle.laws.proofs.Update.{update-same, update-other}
 use Rattle.laws.proofs.Count.{count-same}
 use Rattle.lock_rules.specs.Ownership.{owner-of}
@@ -27,13 +27,6 @@ use Rattle.lock_rules.proofs.Perform.{enter-queue, entered≢nil, hande
 use Rattle.lock_rules.proofs.Invariant.{unreserved, seat, telling?, leaving?, in-entry, in-contention, in-waiting, Ghost, ThreadOk}
 use Rattle.lock_rules.proofs.Invariant.{MonitorOk, FlagOk, Told, Unstranded, Invariant}
 use Rattle.lock_rules.proofs.Reliances.{KeepsReliance}
-
--- either side of a test, with what the test says there
-pub by-equal : {A : Type 0} (P : A → Type 0) (a b : ℕ) {x y : A} → (a ≡ b → P x) → (a ≢ b → P y) → P (pick (eqb a b) x y)
-by-equal P a b same other = by-test P (eqb a b) (λ e. same (eqb-true a b e)) (λ e. other (eqb-false a b e))
-
-pub by-below : {A : Type 0} (P : A → Type 0) (a b : ℕ) {x y : A} → (a < b → P x) → (b ≤ a → P y) → P (pick (ltb a b) x y)
-by-below P a b under over = by-test P (ltb a b) (λ e. under (ltb-true a b e)) (λ e. over (ltb-false a b e))
 
 -- what a new word owes to another thread t than the one that steps
 module _ (state : ThreadState) (thread t holder : ℕ) (n : t ≢ thread) where

@@ -6,6 +6,7 @@ use mathlib.Core.Bool.{Bool, true, false}
 use native.Mathlib.Omega.{arith}
 use lib.Dec.{eqb, ltb}
 use Rattle.laws.specs.Choice.{pick, both}
+use Rattle.laws.proofs.Choice.{by-equal, by-below}
 use Rattle.lock_rules.specs.Limits.{depth-limit, count-limit}
 use Rattle.lock_rules.specs.Ownership.{owner-of}
 use Rattle.lock_rules.specs.Actions.{keep-object, go-on, finish-word, finish-depth, let-go, inflate, raise-flag}
@@ -35,7 +36,7 @@ use Rattle.lock_rules.specs.declared.Effect.{Effect}
 use Rattle.lock_rules.specs.declared.Action.{Action}
 use Rattle.lock_rules.specs.declared.Action.the-variants.{Unruled, Do}
 use Rattle.lock_rules.proofs.Invariant.{in-entry, in-contention, in-waiting}
-use Rattle.lock_rules.proofs.SharedFacts.{by-equal, by-below, fat-owned, reserved-owned}
+use Rattle.lock_rules.proofs.SharedFacts.{fat-owned, reserved-owned}
 use Rattle.lock_rules.proofs.ListSound.{SuspensionFine, DoingFine, StateFine, WordFine}
 
 abbrev pub InNone : ThreadState → Type 0

@@ -7,7 +7,7 @@ use native.Mathlib.Omega.{arith}
 use lib.Dec.{T, eqb}
 use Rattle.laws.specs.Choice.{pick}
 use Rattle.laws.specs.Update.{update}
-use Rattle.laws.proofs.Choice.{Equal, equal}
+use Rattle.laws.proofs.Choice.{Equal, equal, by-equal, by-below}
 use Rattle.lock_rules.specs.Limits.{count-limit}
 use Rattle.lock_rules.specs.Ownership.{owner-of}
 use Rattle.lock_rules.specs.Rules.{enter-store, exit-store, cancel}
@@ -25,7 +25,7 @@ use Rattle.lock_rules.proofs.Commits.{commit-enter, commit-enter-again,
 use Rattle.lock_rules.proofs.Objects.{object-of, sight-of}
 use Rattle.lock_rules.proofs.Invariant.{anything, phase-row, leaving?, MonitorOk, FlagOk, Unstranded, monitor-of}
 use Rattle.lock_rules.proofs.OtherThreads.{beside, others-word, others-cancelled}
-use Rattle.lock_rules.proofs.SharedFacts.{by-equal, by-below, keeps-anonymous, keeps-reserved, unstranded-empty, reserved-owner}
+use Rattle.lock_rules.proofs.SharedFacts.{keeps-anonymous, keeps-reserved, unstranded-empty, reserved-owner}
 use Rattle.lock_rules.proofs.SharedFacts.{reserved-unowned, first-commit, idle-update, same-monitor}
 use Rattle.lock_rules.proofs.Refinement.{plain-at, Actor, Stepping, Right, Alike, moved, nothing-committed, refine}
 use Rattle.lock_rules.proofs.RuleShapes.{go-on-refines, word-refines}

@@ -5,6 +5,7 @@ use mathlib.Core.Bool.{Bool, true, false}
 use mathlib.Core.List.{List, [], _∷_, _++_}
 use native.Mathlib.Omega.{arith}
 use Rattle.laws.specs.Update.{update}
+use Rattle.laws.proofs.Choice.{by-equal}
 use Rattle.laws.proofs.Update.{update-same, update-other}
 use Rattle.laws.proofs.Count.{count-joined}
 use Rattle.lock_rules.specs.Rules.{wait-inflate, wait-give-up, wait-resume}
@@ -19,7 +20,7 @@ use Rattle.lock_rules.specs.PlainMonitor.{finished, give-up}
 use Rattle.lock_rules.proofs.Commits.{commit-give-up, commit-resume}
 use Rattle.lock_rules.proofs.Objects.{with-waiting, object-of, sight-of}
 use Rattle.lock_rules.proofs.OtherThreads.{others-joined-waiting, others-ghost}
-use Rattle.lock_rules.proofs.SharedFacts.{by-equal, fat-owner, fat-unowned, first-commit, second-commit, same-monitor}
+use Rattle.lock_rules.proofs.SharedFacts.{fat-owner, fat-unowned, first-commit, second-commit, same-monitor}
 use Rattle.lock_rules.proofs.Refinement.{plain-at, Actor, Stepping, Right, nothing-committed}
 use Rattle.lock_rules.proofs.RuleShapes.{depth-refines, hand-refines, inflate-refines}
 

@@ -21,7 +21,7 @@ use Rattle.lock_records.proofs.Claim.{schedule-represents, schedule-agrees}
 use Rattle.lock_records.proofs.Ruled.{schedule-ruled}
 use Rattle.record_soundness.proofs.RepresentedSound.{represented-sound}
 use Rattle.record_soundness.proofs.SoundRepresents.{sound-represents}
-use Rattle.lock_schedule.specs.Schedule.{eventOf, replyShown, finalOf, shownOf}
+use Rattle.lock_schedule.specs.Schedule.{eventOf, finalOf, shownOf}
 use Rattle.lock_schedule.specs.Demand.{DemandThree, SoundKept}
 use Rattle.lock_schedule.proofs.Turns.{turn-of, event-is-turn}
 

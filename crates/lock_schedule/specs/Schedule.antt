@@ -1,5 +1,4 @@
 -- A schedule is a list of events, refused ones too; each gets the table that the last one gave back (document 01, "Plain monitors").
-use Prim.Native.Nat.{ℕ}
 use mathlib.Core.Bool.{Bool}
 use mathlib.Core.List.{List, [], _∷_}
 use Rattle.lock_rules.specs.Events.{Event, Begin, Step, Reply as ShownReply, Begun as ShownBegun, Refused as ShownRefused, Answered as ShownAnswered, Shown}

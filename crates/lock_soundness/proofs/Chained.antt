@@ -13,7 +13,7 @@ use Rattle.chains.specs.Chain.{members, chain-test}
 use Rattle.chains.proofs.Chain.{Chain, chain-without-zero}
 use Rattle.chains.proofs.Test.{chain-test-reads, chain-test-of}
 use Rattle.lock_soundness.specs.Meaning.{follow}
-use Rattle.lock_soundness.proofs.Facts.{Reads}
+use Rattle.laws.proofs.Facts.{Reads}
 
 -- from 0 all links lead to 0
 pub follow-none : (links : ℕ) (next : ℕ → ℕ) → next 0 ≡ 0 → follow links next 0 ≡ 0

@@ -51,7 +51,7 @@ use Rattle.lock_soundness.specs.Fused.{
   objectPasses,
   fusedOf,
 }
-use Rattle.lock_soundness.proofs.Facts.{
+use Rattle.laws.proofs.Facts.{
   Reads,
   reads-map,
   reads-as,

@@ -1,5 +1,4 @@
 -- Laws of the definitions in specs/.
-pub mod Facts
 pub mod Chained
 pub mod RecordReading
 pub mod Reading

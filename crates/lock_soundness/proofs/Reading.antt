@@ -11,7 +11,7 @@ use Rattle.lock_table.specs.declared.record.Table.{Table}
 use Rattle.lock_table.proofs.Walks.{next-none}
 use Rattle.lock_soundness.specs.Sound.{every-chain, soundOf}
 use Rattle.lock_soundness.specs.Meaning.{Within, Each, follow, chainAt, Sound}
-use Rattle.lock_soundness.proofs.Facts.{Reads, reads-map, reads-leb, reads-both, reads-within, reads-past, reads-all}
+use Rattle.laws.proofs.Facts.{Reads, reads-map, reads-leb, reads-both, reads-within, reads-past, reads-all}
 use Rattle.lock_soundness.proofs.Chained.{reads-chain}
 use Rattle.lock_soundness.proofs.RecordReading.{
   reads-sizes,

@@ -69,7 +69,7 @@ use Rattle.lock_soundness.specs.Meaning.{
   UnheldFits,
   UnusedFits,
 }
-use Rattle.lock_soundness.proofs.Facts.{
+use Rattle.laws.proofs.Facts.{
   Reads,
   reads-map,
   reads-never,

@@ -4,7 +4,7 @@ use mathlib.Core.Path.{_≡_, sym, ap, _∙_}
 use mathlib.Core.List.{List, [], _∷_, _++_, append-assoc}
 use native.Mathlib.Omega.{arith}
 use native.Mathlib.Numerals.{add-one}
-use lib.ListN.{length, set, replicate, length-replicate, replicate-append-replicate}
+use lib.ListN.{set, replicate, length-replicate, replicate-append-replicate}
 use lib.Seq.{set-at}
 
 abbrev pub filled : {A : Type 0} → ℕ → A → A → ℕ → List A

@@ -1,5 +1,4 @@
 -- The tests that a record is empty.
-use Prim.Native.Nat.{ℕ}
 use mathlib.Core.Bool.{Bool, not}
 use lib.Dec.{eqb}
 use Rattle.laws.specs.Choice.{both}

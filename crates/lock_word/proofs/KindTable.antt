@@ -1,31 +1,16 @@
--- The rule of the constant table of 256, by one computed test over all low bytes; and that a word is read by the entry of its low byte,
--- which has the word's own bits 0 to 7.
-use mathlib.Core.Path.{_≡_, _∙_}
-use mathlib.Core.List.{List}
-use mathlib.Core.Bool.{Bool, true}
-use Prim.Native.Nat.{ℕ, _*_, _+_, _/_, _%_, _<_, _≤_}
+-- A word is read by the entry that the constant table of 256 has for its low byte, which has the word's own bits 0 to 7.
+use mathlib.Core.Path.{_≡_}
+use Prim.Native.Nat.{ℕ, _/_, _%_, _<_, _≤_}
 use native.Mathlib.Omega.{arith}
 use native.Mathlib.Nat.{mod-mod, lt-irrefl}
 use lib.Dec.{eqb, lit<}
 use lib.Arith.{mod-mul, digits-div, digits-mod}
-use lib.ListN.{length, getD}
-use borrow.Author.Tests.{eqb-true, ne-eqb}
-use Rattle.laws.specs.Choice.{pick}
-use Rattle.laws.specs.Every.{every-entry}
+use borrow.Author.Tests.{ne-eqb}
 use Rattle.laws.proofs.Choice.{split, above-zero}
-use Rattle.laws.proofs.Every.{entry-at}
 use Rattle.lock_word.specs.Layout.{first-beyond, number-unit, counts}
 use Rattle.lock_word.specs.Read.{decodeOf}
 use Rattle.lock_word.specs.KindTable.{kind-of, table-count-of, packedOf, byKindOf}
 use Rattle.lock_word.specs.declared.reading.Decoded.the-variants.{Invalid}
-
--- the test of one entry
-abbrev pub right : ℕ → ℕ → Bool
-right low entry = eqb entry (packedOf low)
-
--- a table that passes the test at every entry has the packed kind and count of each low byte
-pub entry-rule : (table : List ℕ) → every-entry right 0 table ≡ true → (low : ℕ) → low < length table → getD table low 0 ≡ packedOf low
-entry-rule table passes low h = eqb-true (getD table low 0) (packedOf low) (entry-at right table passes low h)
 
 low-kind : (word : ℕ) → kind-of (word % number-unit) ≡ kind-of word
 unfolding kind-of

@@ -5,7 +5,6 @@ use Rattle.laws.specs.Choice.{pick}
 use Rattle.lock_word.specs.Layout.{shape-field, reserved-field, count-field, below-number-field, number-field, rest-field}
 use Rattle.lock_word.specs.declared.reading.ThreadNumber.{ThreadNumber}
 use Rattle.lock_word.specs.declared.reading.MonitorNumber.{MonitorNumber}
-use Rattle.lock_word.specs.declared.reading.LockWord.{LockWord}
 use Rattle.lock_word.specs.declared.reading.LockWord.the-variants.{Free, Flat, Anonymous, Reserved, Fat}
 use Rattle.lock_word.specs.declared.reading.Decoded.{Decoded}
 use Rattle.lock_word.specs.declared.reading.Decoded.the-variants.{Valid, Invalid}

@@ -45,7 +45,7 @@ use Rattle.lock_soundness.specs.Sound.{
 }
 use Rattle.lock_soundness.specs.Fused.{usedThreadFits}
 use Rattle.lock_soundness.specs.Meaning.{Within, OperationFits, ReservedFor, SavesDepth, UnusedFits}
-use Rattle.lock_soundness.proofs.Facts.{Reads, reads-map, reads-both, reads-within}
+use Rattle.laws.proofs.Facts.{Reads, reads-map, reads-both, reads-within}
 use Rattle.lock_soundness.proofs.RecordReading.{reads-operation, reads-kept, reads-saved, reads-unused}
 use Rattle.record_soundness.proofs.Naming.{running-names-none}
 

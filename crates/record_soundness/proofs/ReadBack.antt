@@ -39,7 +39,7 @@ use Rattle.lock_perform.specs.State.{threadWith, doingRecordOf, carriedRecordOf
 use Rattle.lock_records.proofs.Written.{state-read, phase-written}
 use Rattle.lock_soundness.specs.Sound.{usesPhase, carriesPhase, operationFits}
 use Rattle.lock_soundness.specs.Meaning.{Within, KeptCountFits, ReservedFor, SavesDepth}
-use Rattle.lock_soundness.proofs.Facts.{reads-both, reads-ltb, reads-not}
+use Rattle.laws.proofs.Facts.{reads-both, reads-ltb, reads-not}
 use Rattle.lock_soundness.proofs.RecordReading.{reads-operation}
 use Rattle.record_soundness.proofs.Fits.{ThreadFits}
 

@@ -26,7 +26,6 @@ use Rattle.replay_session.specs.Known.{soundBy, soundSession, runKnown, 
 use Rattle.replay_session.specs.declared.session.Stage.{Stage}
 use Rattle.replay_session.specs.declared.session.Stage.the-variants.{Opening, Running, Over}
 use Rattle.replay_session.specs.declared.session.Session.{Session}
-use Rattle.replay_session.specs.declared.reacting.Reaction.{Reaction}
 
 run-known : (table : Table) (line : Line) → runKnown table line (soundOf table) ≡ runOf table line
 unfolding runKnown runOf beginOf stepOf

@@ -1,6 +1,6 @@
 -- The session of a replay and what each line does to it (document 01, "The replay program"), by the engine's own begin and step.
 use Prim.Native.Nat.{ℕ}
-use mathlib.Core.Bool.{Bool, true, false}
+use mathlib.Core.Bool.{false}
 use lib.Dec.{leb}
 use Rattle.laws.specs.Choice.{pick}
 use Rattle.lock_table.specs.Access.{threadAt, objectAt}
@@ -9,7 +9,6 @@ use Rattle.lock_table.specs.Fresh.{freshOf}
 use Rattle.lock_table.specs.declared.record.Table.{Table}
 use Rattle.lock_table.specs.declared.fresh_table.FreshAnswer.{FreshAnswer}
 use Rattle.lock_table.specs.declared.fresh_table.FreshAnswer.the-variants.{Made, SizeOutOfRange}
-use Rattle.lock_table.specs.declared.fresh_table.FreshTable.{FreshTable}
 use Rattle.lock_perform.specs.Moving.{threadNumberOf}
 use Rattle.lock_engine.specs.Outcome.{returnedOf, wokenOf}
 use Rattle.lock_engine.specs.Begin.{beginOf}

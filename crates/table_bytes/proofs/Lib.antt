@@ -1,4 +1,3 @@
--- Laws of lists given place by place, and of the bytes of a table.
-pub mod Places
+-- Laws of the bytes of a table.
 pub mod Written
 pub mod ReadBack

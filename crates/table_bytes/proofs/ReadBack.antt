@@ -7,7 +7,10 @@ use lib.Arith.{mod-mul, digits-div, digits-mod}
 use lib.Dec.{eqb, leb, lit<}
 use lib.ListN.{length, getD}
 use borrow.Author.Tests.{eq-eqb, lt-ltb, le-ltb}
+use Rattle.laws.specs.Sequence.{tabulate}
 use Rattle.laws.proofs.Choice.{both-of}
+use Rattle.laws.proofs.Every.{all-of}
+use Rattle.laws.proofs.Sequence.{tabulate-length, tabulate-at, tabulate-all}
 use Rattle.lock_table.specs.Limits.{thread-limit, object-limit}
 use Rattle.lock_table.specs.Operation.{operationNumberOf, operationFromOf}
 use Rattle.lock_table.specs.Phase.{phaseNumberOf, carriedNumberOf, onwardNumberOf}
@@ -38,11 +41,9 @@ use Rattle.lock_table.specs.declared.record.ThreadRecord.{ThreadRecord}
 use Rattle.lock_table.specs.declared.record.ObjectRecord.{ObjectRecord}
 use Rattle.lock_table.specs.declared.record.Table.{Table}
 use Rattle.table_bytes.specs.Layout.{table-size, threads-start, objects-start, thread-start, object-start}
-use Rattle.table_bytes.specs.Sequence.{tabulate}
 use Rattle.table_bytes.specs.Reading.{byteAt, halfOf, wordOf, onwardFrom, laterPhaseFrom, phaseFrom, threadFrom, objectFrom, tableOf}
 use Rattle.table_bytes.specs.Reading.{carriedKnown, threadKnown, objectKnown, isTable}
 use Rattle.table_bytes.specs.Writing.{threadByte, flagByte, objectByte, byteOf, bytesOf}
-use Rattle.table_bytes.proofs.Places.{all-below-of, tabulate-length, tabulate-at, tabulate-all}
 
 -- numbers and the bytes that they are made of
 half-back : (n : ℕ) → halfOf (n % 256) (n / 256) ≡ n
@@ -262,8 +263,8 @@ module _ (table : Table) where
   unfolding isTable
   bytes-table =
       both-of (eq-eqb (length (bytesOf table)) table-size bytes-long)
-      (both-of (all-below-of thread-limit (threadKnown (bytesOf table)) thread-known)
-      (all-below-of object-limit (objectKnown (bytesOf table)) object-known))
+      (both-of (all-of thread-limit (λ n. threadKnown (bytesOf table) (n - 1)) (λ n low high. thread-known (n - 1) (omega (arith, low, high))))
+      (all-of object-limit (λ o. objectKnown (bytesOf table) (o - 1)) (λ o low high. object-known (o - 1) (omega (arith, low, high)))))
 
   count-back : byteAt (bytesOf table) 0 ≡ table .threadcount
   unfolding byteOf

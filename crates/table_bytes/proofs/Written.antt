@@ -10,13 +10,13 @@ use lib.ListN.{length, getD, set, length-set}
 use lib.Seq.{getD-set-same, getD-set-other}
 use borrow.Author.Tests.{eqb-true, eqb-false, ltb-true, ltb-false, eq-eqb}
 use Rattle.laws.specs.Choice.{pick}
+use Rattle.laws.specs.Sequence.{patched}
 use Rattle.laws.proofs.Choice.{split, both-first}
+use Rattle.laws.proofs.Sequence.{patched-length, patched-inside, patched-outside, tabulate-all}
 use Rattle.lock_table.specs.declared.record.Table.{Table}
 use Rattle.table_bytes.specs.Layout.{threads-start, threads-size, objects-start, objects-size, table-size}
-use Rattle.table_bytes.specs.Sequence.{patched}
 use Rattle.table_bytes.specs.Reading.{isTable}
 use Rattle.table_bytes.specs.Writing.{threadsByte, objectsByte, byteOf, bytesOf, writtenOver, keptOver}
-use Rattle.table_bytes.proofs.Places.{patched-length, patched-inside, patched-outside, tabulate-all}
 
 module _ (bytes : List ℕ) (table : Table) (long : length bytes ≡ table-size) where
   sized : List ℕ

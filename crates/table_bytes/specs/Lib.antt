@@ -1,5 +1,4 @@
 -- The bytes of a table: which byte is which, what bytes say, and the bytes of a table.
 pub mod Layout
-pub mod Sequence
 pub mod Reading
 pub mod Writing

@@ -5,6 +5,8 @@ use mathlib.Core.List.{List}
 use lib.Dec.{eqb, leb}
 use lib.ListN.{length, getD}
 use Rattle.laws.specs.Choice.{pick, both, either}
+use Rattle.laws.specs.Every.{all-below}
+use Rattle.laws.specs.Sequence.{tabulate}
 use Rattle.lock_table.specs.Limits.{thread-limit, object-limit}
 use Rattle.lock_table.specs.Operation.{operationFromOf}
 use Rattle.lock_table.specs.declared.phase.Onward.{Onward}
@@ -34,7 +36,6 @@ use Rattle.lock_table.specs.declared.record.Table.{Table}
 use Rattle.table_bytes.specs.Layout.{threadcount-at, objectcount-at, table-size, thread-start, object-start}
 use Rattle.table_bytes.specs.Layout.{operation-at, object-at, phase-at, carried-at, kept-at, saved-at, next-at}
 use Rattle.table_bytes.specs.Layout.{word-at, flag-at, holder-at, depth-at, entry-at, contention-at, waiting-at}
-use Rattle.table_bytes.specs.Sequence.{tabulate, all-below}
 
 -- a byte; 0 past the end
 abbrev pub byteAt : List ℕ → ℕ → ℕ

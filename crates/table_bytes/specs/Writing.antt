@@ -5,6 +5,7 @@ use mathlib.Core.List.{List}
 use lib.Dec.{eqb, ltb}
 use lib.ListN.{length, getD, set}
 use Rattle.laws.specs.Choice.{pick}
+use Rattle.laws.specs.Sequence.{tabulate, patched}
 use Rattle.lock_table.specs.Operation.{operationNumberOf}
 use Rattle.lock_table.specs.Phase.{phaseNumberOf, carriedNumberOf}
 use Rattle.lock_table.specs.Record.{noThread, noObject}
@@ -14,7 +15,6 @@ use Rattle.lock_table.specs.declared.record.Table.{Table}
 use Rattle.table_bytes.specs.Layout.{threadcount-at, objectcount-at, threads-start, threads-size, objects-start, objects-size, record-size, table-size}
 use Rattle.table_bytes.specs.Layout.{operation-at, object-at, phase-at, carried-at, kept-at, saved-at}
 use Rattle.table_bytes.specs.Layout.{word-at, flag-at, holder-at, depth-at, entry-at, contention-at}
-use Rattle.table_bytes.specs.Sequence.{tabulate, patched}
 
 -- a thread record's byte at an offset; next is the last
 unfoldable pub threadByte : ThreadRecord → ℕ → ℕ

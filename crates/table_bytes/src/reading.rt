@@ -33,7 +33,8 @@ use lock_table::operation_from;
 ghost use mathlib.Core.Path.{_≡_};
 ghost use Prim.Native.Nat.{_<_};
 ghost use Rattle.lock_table.specs.Limits.{thread-limit, object-limit};
-ghost use Rattle.table_bytes.specs.Sequence.{tabulate, all-below};
+ghost use Rattle.laws.specs.Every.{all-below};
+ghost use Rattle.laws.specs.Sequence.{tabulate};
 ghost use Rattle.table_bytes.specs.Reading.{byteAt, halfOf, wordOf, halfAt, wordAt, onwardFrom, laterPhaseFrom, phaseFrom};
 ghost use Rattle.table_bytes.specs.Reading.{threadFrom, objectFrom, tableOf, carriedKnown, threadKnown, objectKnown, isTable};
 

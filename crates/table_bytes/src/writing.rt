@@ -29,7 +29,7 @@ ghost use mathlib.Core.Path.{_≡_};
 ghost use Prim.Native.Nat.{_/_, _%_};
 ghost use lib.ListN.{length};
 ghost use Rattle.table_bytes.specs.Layout.{threads-start, threads-size, objects-start, objects-size, table-size};
-ghost use Rattle.table_bytes.specs.Sequence.{patched};
+ghost use Rattle.laws.specs.Sequence.{patched};
 ghost use Rattle.table_bytes.specs.Writing.{threadByte, flagByte, objectByte, threadsByte, objectsByte, writtenOver, keptOver};
 
 fn low_byte(number: u32) -> u8

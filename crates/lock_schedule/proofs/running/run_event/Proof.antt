@@ -4,7 +4,7 @@ use mathlib.Core.Path.{_≡_, sym, ap, _∙_}
 use mathlib.Core.Bool.{Bool}
 use borrow.Author.Tests.{eq-eqb, ne-eqb}
 use Rattle.laws.specs.Choice.{pick}
-use Rattle.lock_rules.specs.Events.{Event, Begin, Step}
+use Rattle.lock_rules.specs.Events.{Begin, Step}
 use Rattle.lock_table.specs.declared.record.Table.{Table}
 use Rattle.lock_engine.specs.Begin.{beginOf}
 use Rattle.lock_engine.specs.Step.{stepOf}

@@ -1,8 +1,6 @@
 -- `lock_word::reading::read_word` meets its contract: a word below bit 23 is read by the table's entry for its low byte.
-use mathlib.Core.Path.{sym, _∙_, ap}
-use Prim.Native.Nat.{ℕ, _/_, _%_}
+use mathlib.Core.Path.{sym}
 use borrow.Author.Needs.{needs}
-use Rattle.lock_word.specs.KindTable.{byKindOf}
 use Rattle.lock_word.proofs.KindTable.{beyond, read-by-entry}
 use Rattle.lock_word.proofs.reading.read_word.Statement.{statement}
 use Rattle.lock_word.proofs.reading.read_word.Tie as tie

@@ -4,9 +4,9 @@ use mathlib.Core.Path.{_≡_, refl}
 use native.Mathlib.Omega.{arith}
 use borrow.Author.Needs.{needs}
 use borrow.Author.Tests.{not-true, not-false}
-use Rattle.table_bytes.specs.Sequence.{all-below}
+use Rattle.laws.specs.Every.{all-below}
+use Rattle.laws.proofs.Every.{all-step, all-end}
 use Rattle.table_bytes.specs.Reading.{objectKnown}
-use Rattle.table_bytes.proofs.Places.{all-below-step, all-below-end}
 use Rattle.table_bytes.proofs.reading.objects_known.Statement.{statement}
 use Rattle.table_bytes.proofs.reading.objects_known.Tie as tie
 
@@ -20,14 +20,14 @@ unknown : tie.Need-returns Inv-loop μ-loop
 unknown c =
     let call = c .before in
     let turn = call .before in
-    simp (turn .before .loop .inv .1, all-below-step (turn .loop-test .taken), ← call .object-known .ensures, not-true (call .object-known .result) (c .if1 .taken))
+    simp (turn .before .loop .inv .1, all-step (turn .loop-test .taken), ← call .object-known .ensures, not-true (call .object-known .result) (c .if1 .taken))
 
 loop-again : tie.Need-loop-again Inv-loop μ-loop
 loop-again c =
     let call = c .before in
     let turn = call .before in (
       omega (arith, turn .before .loop .inv .0),
-      simp (turn .before .loop .inv .1, all-below-step (turn .loop-test .taken), ← call .object-known .ensures, not-false (call .object-known .result) (c .if1 .left)),
+      simp (turn .before .loop .inv .1, all-step (turn .loop-test .taken), ← call .object-known .ensures, not-false (call .object-known .result) (c .if1 .left)),
     )
 
 pub objects-known-spec : {M : Type 1} → statement M
@@ -42,4 +42,4 @@ objects-known-spec =
     unknown
     (λ c. omega arith)
     loop-again
-    (λ c. simp (c .before .loop .inv .1, all-below-end (c .loop-test .left))))
+    (λ c. simp (c .before .loop .inv .1, all-end (c .loop-test .left))))

@@ -5,11 +5,11 @@ use mathlib.Core.List.{List}
 use native.Mathlib.Omega.{arith}
 use borrow.Author.Needs.{needs}
 use lib.ListN.{set, replicate, length-replicate}
+use Rattle.laws.specs.Sequence.{patched}
+use Rattle.laws.proofs.Sequence.{patched-none, patched-next-front, patched-all}
 use Rattle.lock_table.specs.Record.{noThread}
 use Rattle.lock_table.specs.declared.record.ThreadRecord.{ThreadRecord}
-use Rattle.table_bytes.specs.Sequence.{patched}
 use Rattle.table_bytes.specs.Reading.{threadFrom}
-use Rattle.table_bytes.proofs.Places.{patched-none, patched-next-front, patched-all}
 use Rattle.table_bytes.proofs.reading.threads_from.Statement.{statement}
 use Rattle.table_bytes.proofs.reading.threads_from.Tie as tie
 

@@ -4,10 +4,10 @@ use mathlib.Core.Path.{_≡_, ap, _∙_}
 use mathlib.Core.List.{List}
 use native.Mathlib.Omega.{arith}
 use lib.ListN.{length, set}
+use Rattle.laws.specs.Sequence.{patched}
+use Rattle.laws.proofs.Sequence.{patched-none, patched-next, patched-length}
 use Rattle.table_bytes.specs.Layout.{objects-start, objects-size}
-use Rattle.table_bytes.specs.Sequence.{patched}
 use Rattle.table_bytes.specs.Writing.{objectsByte}
-use Rattle.table_bytes.proofs.Places.{patched-none, patched-next, patched-length}
 use Rattle.table_bytes.proofs.writing.put_objects.Statement.{statement}
 use Rattle.table_bytes.proofs.writing.put_objects.Tie as tie
 

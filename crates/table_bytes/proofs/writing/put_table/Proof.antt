@@ -2,8 +2,8 @@
 use mathlib.Core.Path.{ap, _∙_}
 use borrow.Author.Needs.{needs}
 use lib.ListN.{length, length-set}
+use Rattle.laws.proofs.Sequence.{patched-length}
 use Rattle.table_bytes.specs.Layout.{objects-start, objects-size}
-use Rattle.table_bytes.proofs.Places.{patched-length}
 use Rattle.table_bytes.proofs.writing.put_table.Statement.{statement}
 use Rattle.table_bytes.proofs.writing.put_table.Tie as tie
 

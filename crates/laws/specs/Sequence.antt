@@ -1,19 +1,12 @@
--- Lists given place by place, and tests of every place. Places count from 0.
+-- Lists given place by place. Places count from 0.
 use Prim.Native.Nat.{ℕ, zero, suc, _+_}
-use mathlib.Core.Bool.{Bool, true, false}
 use mathlib.Core.List.{List, [], _∷_}
 use lib.ListN.{set}
-use Rattle.laws.specs.Choice.{pick}
 
 -- f 0, f 1, and so on: n of them
 unfoldable pub tabulate : {A : Type 0} → ℕ → (ℕ → A) → List A
 tabulate zero f = []
 tabulate (suc n) f = f zero ∷ tabulate n (λ (i : ℕ). f (suc i))
-
--- the test passes at each of the places below n
-unfoldable pub all-below : ℕ → (ℕ → Bool) → Bool
-all-below zero test = true
-all-below (suc n) test = pick (test n) (all-below n test) false
 
 -- the list with n places from `start` on given by f
 unfoldable pub patched : {A : Type 0} → ℕ → ℕ → (ℕ → A) → List A → List A

@@ -1,34 +1,17 @@
--- Lists given place by place and tests of every place: one turn of the loops that compute them, and what stands at each place.
-use Prim.Native.Nat.{ℕ, zero, suc, _+_, _-_, _≤_, _<_}
+-- Lists given place by place: one turn of the loop that computes them, and what stands at each place.
+use Prim.Native.Nat.{ℕ, zero, suc, _+_, _≤_, _<_}
 use mathlib.Core.Path.{_≡_, refl, ap, sym, _∙_}
-use mathlib.Core.Bool.{Bool, true, false}
 use mathlib.Core.Logic.{_≢_}
 use mathlib.Core.List.{List}
 use native.Mathlib.Omega.{arith}
-use native.Mathlib.Numerals.{sub-one, add-one}
+use native.Mathlib.Numerals.{add-one}
 use native.Mathlib.Nat.{not-suc-le-zero, le-of-suc-le-suc, zero-add}
 use lib.Dec.{eqb}
 use lib.ListN.{length, getD, set, length-set}
 use lib.Seq.{getD-set-same, getD-set-other, ext-getD}
 use borrow.Author.Tests.{eqb-true, eqb-false}
-use Rattle.laws.specs.Choice.{pick}
 use Rattle.laws.proofs.Choice.{split}
-use Rattle.table_bytes.specs.Sequence.{tabulate, all-below, patched}
-
-pub all-below-step : {n : ℕ} → 0 < n → (test : ℕ → Bool) → all-below n test ≡ pick (test (n - 1)) (all-below (n - 1) test) false
-unfolding all-below
-all-below-step {n = zero} some test = absurd (not-suc-le-zero some)
-all-below-step {n = suc n} some test = simp sub-one
-
-pub all-below-end : {n : ℕ} → n ≤ 0 → (test : ℕ → Bool) → all-below n test ≡ true
-unfolding all-below
-all-below-end {n = zero} none test = refl
-all-below-end {n = suc n} none test = absurd (not-suc-le-zero none)
-
-pub all-below-of : (n : ℕ) (test : ℕ → Bool) → ((i : ℕ) → i < n → test i ≡ true) → all-below n test ≡ true
-unfolding all-below
-all-below-of zero test each = refl
-all-below-of (suc n) test each = simp (each n (omega arith)) (all-below-of n test (λ i low. each i (omega arith)))
+use Rattle.laws.specs.Sequence.{tabulate, patched}
 
 module _ {A : Type 0} where
   pub tabulate-length : (n : ℕ) (f : ℕ → A) → length (tabulate n f) ≡ n
