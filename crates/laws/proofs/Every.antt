@@ -1,15 +1,15 @@
 -- A test of a whole range, read at each of its numbers, made from all of them, and one turn of the loop that computes it.
 use Prim.Native.Nat.{ℕ, zero, suc, _-_, _≤_, _<_}
-use mathlib.Core.Path.{_≡_, refl}
+use mathlib.Core.Path.{_≡_, refl, subst}
 use mathlib.Core.Bool.{Bool, true, false}
 use native.Mathlib.Omega.{arith}
 use native.Mathlib.Numerals.{sub-one}
-use native.Mathlib.Nat.{not-suc-le-zero, lt-irrefl}
+use native.Mathlib.Nat.{le-of-suc-le-suc, not-suc-le-zero, lt-irrefl}
 use lib.Arith.{le-of-le-suc-ne}
 use lib.Dec.{eqb}
 use borrow.Author.Tests.{eqb-true, eqb-false}
 use Rattle.laws.specs.Choice.{pick}
-use Rattle.laws.specs.Every.{all-up-to}
+use Rattle.laws.specs.Every.{all-up-to, all-below}
 use Rattle.laws.proofs.Choice.{split, false≢true}
 
 pub all-at : (n : ℕ) (test : ℕ → Bool) → all-up-to n test ≡ true → (i : ℕ) → 1 ≤ i → i ≤ n → test i ≡ true
@@ -36,3 +36,24 @@ pub all-end : {n : ℕ} → n ≤ 0 → (test : ℕ → Bool) → all-up-to n te
 unfolding all-up-to
 all-end {n = zero} h test = refl
 all-end {n = suc n} h test = absurd (not-suc-le-zero h)
+
+-- the same of places that count from 0
+pub all-below-at : (n : ℕ) (test : ℕ → Bool) → all-below n test ≡ true → (i : ℕ) → i < n → test i ≡ true
+all-below-at n test passes i low =
+    let place : suc i - 1 ≡ i = omega arith in
+    subst (λ (k : ℕ). test k ≡ true) place (all-at n (λ k. test (k - 1)) passes (suc i) (omega arith) (omega (arith, low)))
+
+-- facts of the first n numbers, one by one
+abbrev pub Facts : ℕ → (ℕ → Type 0) → Type 0
+Facts zero Fact = Unit
+Facts (suc n) Fact = Fact zero × Facts n (λ i. Fact (suc i))
+
+-- a list of them ends with `tt`
+infixr 5 _and_
+abbrev pub _and_ : {A B : Type 0} → A → B → A × B
+first and rest = (first, rest)
+
+pub each-below : (n : ℕ) (Fact : ℕ → Type 0) → Facts n Fact → (i : ℕ) → i < n → Fact i
+each-below zero Fact facts i low = absurd (not-suc-le-zero low)
+each-below (suc n) Fact facts zero low = facts .0
+each-below (suc n) Fact facts (suc i) low = each-below n (λ k. Fact (suc k)) (facts .1) i (le-of-suc-le-suc low)

@@ -25,6 +25,13 @@ module _ {A : Type 0} where
   tabulate-at (suc n) f none zero low = refl
   tabulate-at (suc n) f none (suc i) low = tabulate-at n (λ (k : ℕ). f (suc k)) none i (le-of-suc-le-suc low)
 
+  -- what holds of each, and of the one that stands for those past the end, holds wherever the list is read
+  pub tabulate-every : (n : ℕ) (f : ℕ → A) (Fact : A → Type 0) → ((i : ℕ) → Fact (f i)) → (none : A) → Fact none → (i : ℕ) → Fact (getD (tabulate n f) i none)
+  unfolding tabulate
+  tabulate-every zero f Fact holds none past i = past
+  tabulate-every (suc n) f Fact holds none past zero = holds zero
+  tabulate-every (suc n) f Fact holds none past (suc i) = tabulate-every n (λ (k : ℕ). f (suc k)) Fact (λ k. holds (suc k)) none past i
+
   -- a list is given by what stands at its places
   pub tabulate-all : (n : ℕ) (f : ℕ → A) (none : A) (list : List A) → length list ≡ n → ((i : ℕ) → i < n → getD list i none ≡ f i)
       → list ≡ tabulate n f

@@ -2,3 +2,4 @@
 pub mod FreshWritten
 pub mod FullTables
 pub mod Narrow
+pub mod RefusedBytes

@@ -1,3 +1,4 @@
 -- Laws of the bytes of a table.
 pub mod Written
 pub mod ReadBack
+pub mod SameBytes

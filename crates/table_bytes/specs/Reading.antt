@@ -1,5 +1,5 @@
 -- What bytes say of a table, and whether they are one.
-use Prim.Native.Nat.{ℕ, _+_, _*_}
+use Prim.Native.Nat.{ℕ, _+_, _*_, _<_}
 use mathlib.Core.Bool.{Bool}
 use mathlib.Core.List.{List}
 use lib.Dec.{eqb, leb}
@@ -40,6 +40,10 @@ use Rattle.table_bytes.specs.Layout.{word-at, flag-at, holder-at, depth-
 -- a byte; 0 past the end
 abbrev pub byteAt : List ℕ → ℕ → ℕ
 byteAt bytes at = getD bytes at 0
+
+-- what the code has: each number fits a byte
+abbrev pub AreBytes : List ℕ → Type 0
+AreBytes bytes = (i : ℕ) → byteAt bytes i < 256
 
 -- two and four bytes, the lowest first
 abbrev pub halfOf : ℕ → ℕ → ℕ
