@@ -1,2 +1,3 @@
 -- The laws of events.
 pub mod Cases
+pub mod Known

@@ -8,6 +8,7 @@ use native.Mathlib.Omega.{arith}
 use Rattle.laws.proofs.Choice.{by-test}
 use Rattle.lock_rules.specs.Events.{Event, Begin as BeginEvent, Step as StepEvent}
 use Rattle.lock_table.specs.Limits.{thread-limit, object-limit}
+use Rattle.lock_table.specs.Access.{threadAt}
 use Rattle.lock_table.specs.Fresh.{freshOf}
 use Rattle.lock_table.specs.Whole.{Whole}
 use Rattle.lock_table.specs.declared.record.Table.{Table}
@@ -17,32 +18,39 @@ use Rattle.lock_soundness.specs.Sound.{soundOf}
 use Rattle.lock_soundness.proofs.FreshSound.{fresh-sound}
 use Rattle.lock_engine.specs.Begin.{beginGated, beginOf}
 use Rattle.lock_engine.specs.Step.{stepGated, stepOf}
+use Rattle.lock_engine.specs.declared.outcome.Outcome.{Outcome}
+use Rattle.lock_engine.proofs.Known.{begin-known, step-known}
 use Rattle.lock_schedule.specs.Schedule.{eventOf}
 use Rattle.lock_schedule.proofs.Theorem.{sound-kept}
 use Rattle.replay_lines.specs.declared.reading.Line.{Line}
 use Rattle.replay_lines.specs.declared.reading.Line.the-variants.{Header, Begin, Step, Malformed}
-use Rattle.replay_session.specs.Session.{openedBy, openOf, runOf, reactBy, reactOf}
+use Rattle.replay_session.specs.Session.{openedBy, openOf, afterEvent, runOf, reactBy, reactOf}
 use Rattle.replay_session.specs.Known.{soundBy, soundSession, runKnown, reactWith, reactKnown}
 use Rattle.replay_session.specs.declared.session.Stage.{Stage}
 use Rattle.replay_session.specs.declared.session.Stage.the-variants.{Opening, Running, Over}
 use Rattle.replay_session.specs.declared.session.Session.{Session}
 
-run-known : (table : Table) (line : Line) → runKnown table line (soundOf table) ≡ runOf table line
-unfolding runKnown runOf beginOf stepOf
-run-known table (Header threads objects reserved) = refl
-run-known table (Begin operation thread object) = refl
-run-known table (Step thread) = refl
-run-known table Malformed = refl
+run-known : (table : Table) {issound : Bool} → issound ≡ soundOf table → (line : Line) → runKnown table line issound ≡ runOf table line
+unfolding runKnown runOf
+run-known table known (Header threads objects reserved) = refl
+run-known table known (Begin operation thread object) =
+    let number = threadNumberOf thread in
+    let place = threadNumberOf object in
+    ap (λ (outcome : Outcome). afterEvent outcome number place) (begin-known table known number operation place)
+run-known table known (Step thread) =
+    let number = threadNumberOf thread in
+    ap (λ (outcome : Outcome). afterEvent outcome number (threadAt table number .object)) (step-known table known number)
+run-known table known Malformed = refl
 
-react-with : (stage : Stage) (table : Table) (line : Line) → reactWith stage table line (soundBy stage table) ≡ reactBy stage table line
+react-with : (stage : Stage) (table : Table) {issound : Bool} → issound ≡ soundBy stage table → (line : Line) → reactWith stage table line issound ≡ reactBy stage table line
 unfolding reactWith reactBy soundBy
-react-with Opening table line = refl
-react-with Running table line = run-known table line
-react-with Over table line = refl
+react-with Opening table known line = refl
+react-with Running table known line = run-known table known line
+react-with Over table known line = refl
 
 -- known as it is, soundness is what every event would have found
 pub react-known : (session : Session) (line : Line) {issound : Bool} → issound ≡ soundSession session → reactKnown session line issound ≡ reactOf session line
-react-known session line known = ap (reactKnown session line) known ∙ react-with (session .stage) (session .table) line
+react-known session line known = react-with (session .stage) (session .table) known line
 
 -- an unsound table is left alone
 refused-same : (table : Table) (event : Event) → soundOf table ≡ false → eventOf table event .table ≡ table
