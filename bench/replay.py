@@ -3,8 +3,12 @@
 
     bench/replay.py [EVENTS THREADS OBJECTS]
 
-Needs target/bin/replay (rt check replay) and the release build of tests/reference in target/cargo. The schedule is made by make_schedule of
-tests/reference: all threads collide over one object. Runs alternate; printed are the least user times of seven runs each, by event, and their ratio.
+Needs target/bin/replay (rt check replay) and the reference program in target/cargo:
+
+    CARGO_TARGET_DIR=target/cargo cargo build --offline --release --manifest-path tests/reference/Cargo.toml
+
+The schedule is made by make_schedule of tests/reference: all threads collide over one object. Runs alternate; printed are the least user times of seven
+runs each, by event, and their ratio.
 """
 import os
 import resource

@@ -52,7 +52,7 @@ fn take_part(start: Stream, buffer: &mut [u8], held: usize, out: &mut [u8]) -> H
     let drained = drain(start, &buffer[..held], out);
     let stream = drained.stream;
     let from = drained.from;
-    replay_stream::keep_rest(buffer, from, held);
+    replay_buffer::keep_rest(buffer, from, held);
     Held {
         stream: stream,
         held: held - from,

@@ -1,3 +1,2 @@
 -- The laws of the definitions in specs/.
 pub mod Turned
-pub mod MovedDown

@@ -1,3 +1,2 @@
 -- What the stream's functions promise.
 pub mod Stream
-pub mod Keeping

@@ -2,7 +2,6 @@
 // A line that is too long for any form is answered at once, so that a part of fixed size is always enough.
 mod feeding;
 mod finishing;
-mod keeping;
 mod turn;
 
 pub use feeding::Progress;
@@ -12,4 +11,3 @@ pub use feeding::fresh_stream;
 pub use finishing::END_ROOM;
 pub use finishing::Finish;
 pub use finishing::end_input;
-pub use keeping::keep_rest;

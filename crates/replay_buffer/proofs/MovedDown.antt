@@ -6,7 +6,7 @@ use native.Mathlib.Numerals.{add-one}
 use native.Mathlib.Omega.{arith}
 use lib.ListN.{length, take, drop, getD, set, length-drop, take-append-drop}
 use lib.Seq.{take-suc, take-suc-set, drop-set-lt, getD-drop, drop-drop}
-use Rattle.replay_stream.specs.Keeping.{movedDown}
+use Rattle.replay_buffer.specs.Keeping.{movedDown}
 
 -- after `done` moves
 pub record Moved (from done : ℕ) (before now : List ℕ) : Type 0 where

@@ -1,10 +1,10 @@
--- `replay_stream::keeping::move_down` meets its contract: one byte a turn, each read before its place is written.
+-- `replay_buffer::keeping::move_down` meets its contract: one byte a turn, each read before its place is written.
 use Prim.Native.Nat.{_-_, _≤_}
 use native.Mathlib.Omega.{arith}
 use borrow.Author.Needs.{needs}
-use Rattle.replay_stream.proofs.MovedDown.{Moved, moved-first, moved-next, moved-all}
-use Rattle.replay_stream.proofs.keeping.move_down.Statement.{statement}
-use Rattle.replay_stream.proofs.keeping.move_down.Tie as tie
+use Rattle.replay_buffer.proofs.MovedDown.{Moved, moved-first, moved-next, moved-all}
+use Rattle.replay_buffer.proofs.keeping.move_down.Statement.{statement}
+use Rattle.replay_buffer.proofs.keeping.move_down.Tie as tie
 
 abbrev Inv-loop : tie.InvT-loop
 Inv-loop buffer₀ from count done₀ buffer done = (done ≤ count) × Moved from done buffer₀ buffer

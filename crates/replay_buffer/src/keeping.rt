@@ -2,7 +2,7 @@
 ghost use mathlib.Core.Path.{_≡_};
 ghost use Prim.Native.Nat.{_+_, _≤_};
 ghost use lib.ListN.{length};
-ghost use Rattle.replay_stream.specs.Keeping.{keptOf, movedDown};
+ghost use Rattle.replay_buffer.specs.Keeping.{keptOf, movedDown};
 
 fn move_down(buffer: &mut [u8], from: usize, count: usize)
     requires { ⌜ from + count ≤ length (now buffer) ⌝ }

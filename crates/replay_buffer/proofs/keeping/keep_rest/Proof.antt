@@ -1,9 +1,9 @@
--- `replay_stream::keeping::keep_rest` meets its contract: each way through the code is that of the definition.
+-- `replay_buffer::keeping::keep_rest` meets its contract: each way through the code is that of the definition.
 use borrow.Author.Needs.{needs}
 use borrow.Author.Tests.{le-ltb, lt-ltb}
-use Rattle.replay_stream.specs.Keeping.{keptOf}
-use Rattle.replay_stream.proofs.keeping.keep_rest.Statement.{statement}
-use Rattle.replay_stream.proofs.keeping.keep_rest.Tie as tie
+use Rattle.replay_buffer.specs.Keeping.{keptOf}
+use Rattle.replay_buffer.proofs.keeping.keep_rest.Statement.{statement}
+use Rattle.replay_buffer.proofs.keeping.keep_rest.Tie as tie
 
 pub keep-rest-spec : {M : Type 1} → statement M
 unfolding keptOf

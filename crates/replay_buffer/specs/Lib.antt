@@ -1,0 +1,2 @@
+-- What the buffer holds after its rest was kept.
+pub mod Keeping
