@@ -14,7 +14,7 @@ use Rattle.lock_table.specs.Phase.{phaseNumberOf, carriedNumberOf}
 use Rattle.lock_table.specs.Empty.{emptyThread, emptyMonitor, emptyObject}
 use Rattle.lock_table.specs.Parked.{chainNamed, firstIn}
 use Rattle.lock_perform.specs.State.{stateBy, lookOf, goInOf, recordOf, doingRecordOf}
-use Rattle.lock_perform.specs.Sight.{seenOf}
+use Rattle.lock_word.specs.Meaning.{seenOf}
 use Rattle.lock_perform.specs.Moving.{actionOf}
 use Rattle.lock_perform.specs.Perform.{wordAfter}
 use Rattle.lock_soundness.specs.Sound.{
@@ -32,9 +32,9 @@ use Rattle.lock_soundness.specs.Sound.{
   unusedFits,
   soundOf,
 }
-use Rattle.lock_engine.specs.Outcome.{returnedOf, answerNumberOf}
-use Rattle.lock_engine.specs.Step.{stepOf, stepGated, stepRanged, stepThread, stepWord, settleOf}
-use Rattle.lock_engine.specs.Cases.{engine-cases, all-cases}
+use Rattle.lock_engine.specs.Outcome.{returnedOf}
+use Rattle.lock_engine.specs.Step.{stepOf, stepTrusting, stepRanged, stepThread, stepWord, settleOf}
+use Rattle.lock_engine.specs.Cases.{engine-cases, NineCases}
 
 both-hold : (rows more : List Case) → AllHold rows → AllHold more → AllHold (rows ++ more)
 both-hold [] more p q = q
@@ -44,7 +44,7 @@ engine-cases-hold : AllHold engine-cases
 unfolding all-up-to members chain-test decodeOf flatOf reservedOf fatOf decide enter-look exit-owned go-in go-in-again threadAt setThread objectAt
     setObject freshOf freshReturnedOf firstWordOf operationNumberOf phaseNumberOf carriedNumberOf stateBy lookOf goInOf recordOf doingRecordOf seenOf
     actionOf wordAfter sizesFit wordFits usesPhase carriesPhase operationFits keptFits savesDepth savedFits unheldFits chainNamed firstIn foundIn
-    namesChain emptyThread emptyMonitor emptyObject unusedFits soundOf returnedOf answerNumberOf stepOf stepGated stepRanged stepThread stepWord
+    namesChain emptyThread emptyMonitor emptyObject unusedFits soundOf returnedOf stepOf stepTrusting stepRanged stepThread stepWord
     settleOf
 engine-cases-hold = (
   (refl, refl, refl, refl),
@@ -54,5 +54,5 @@ engine-cases-hold = (
   ),
 )
 
-pub cases-hold : AllHold all-cases
-cases-hold = both-hold word-cases engine-cases word-cases-hold engine-cases-hold
+pub cases-hold : NineCases
+cases-hold = (both-hold word-cases engine-cases word-cases-hold engine-cases-hold, refl)

@@ -52,9 +52,9 @@ beginRanged table thread operation object inrange =
     pick inrange (beginOperation table thread (operationFromOf operation) object (within 1 (table .objectcount) object)) (refuseOf table NoSuchThread)
 
 -- 11: table not sound
-unfoldable pub beginGated : Table → ℕ → ℕ → ℕ → Bool → Outcome
-beginGated table thread operation object issound =
+unfoldable pub beginTrusting : Table → ℕ → ℕ → ℕ → Bool → Outcome
+beginTrusting table thread operation object issound =
     pick issound (beginRanged table thread operation object (within 1 (table .threadcount) thread)) (refuseOf table NotSound)
 
 unfoldable pub beginOf : Table → ℕ → ℕ → ℕ → Outcome
-beginOf table thread operation object = beginGated table thread operation object (soundOf table)
+beginOf table thread operation object = beginTrusting table thread operation object (soundOf table)

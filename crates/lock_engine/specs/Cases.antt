@@ -3,7 +3,7 @@ use Prim.Native.Nat.{ℕ}
 use mathlib.Core.Path.{_≡_}
 use mathlib.Core.Bool.{false}
 use mathlib.Core.List.{List, [], _∷_, _++_}
-use Rattle.lock_word.specs.Cases.{Case, word-cases}
+use Rattle.lock_word.specs.Cases.{Case, AllHold, case-numbers, word-cases}
 use Rattle.lock_rules.specs.declared.Doing.the-variants.{EnterLook, EnterGoIn, ExitLook}
 use Rattle.lock_rules.specs.declared.Doing.{Doing}
 use Rattle.lock_rules.specs.declared.ThreadState.the-variants.{Running}
@@ -48,3 +48,7 @@ engine-cases =
 
 abbrev pub all-cases : List Case
 all-cases = word-cases ++ engine-cases
+
+-- every row holds, and no row of K1 to K9 is missing
+abbrev pub NineCases : Type 0
+NineCases = AllHold all-cases × (case-numbers all-cases ≡ 1 ∷ 1 ∷ 2 ∷ 3 ∷ 4 ∷ 6 ∷ 5 ∷ 5 ∷ 7 ∷ 7 ∷ 8 ∷ 9 ∷ 9 ∷ [])

@@ -1,8 +1,8 @@
 -- The replies and document 01's numbers for them ("Returned first").
 use Prim.Native.Nat.{ℕ}
 use mathlib.Core.Bool.{false}
-use Rattle.lock_rules.specs.declared.Answer.{Answer}
-use Rattle.lock_rules.specs.declared.Answer.the-variants.{GoneOn, Finished, Parked, NotOwner, TooDeep, NoRule}
+use Rattle.lock_rules.specs.Numbers.{returned-of, woken-of}
+use Rattle.lock_rules.specs.declared.Answer.the-variants.{GoneOn}
 use Rattle.lock_table.specs.declared.record.Table.{Table}
 use Rattle.lock_engine.specs.declared.outcome.Refusal.{Refusal}
 use Rattle.lock_engine.specs.declared.outcome.Refusal.the-variants.{
@@ -27,32 +27,16 @@ refusalNumberOf ThreadIdle = 15
 refusalNumberOf ThreadParked = 16
 refusalNumberOf NoSuchOperation = 17
 
-unfoldable pub answerNumberOf : Answer → ℕ
-answerNumberOf GoneOn = 0
-answerNumberOf (Finished woken) = 1
-answerNumberOf Parked = 2
-answerNumberOf NotOwner = 18
-answerNumberOf TooDeep = 19
-answerNumberOf NoRule = 20
-
--- "with it, threads woken by notify, else 0"
-unfoldable pub answerWokenOf : Answer → ℕ
-answerWokenOf GoneOn = 0
-answerWokenOf (Finished woken) = woken
-answerWokenOf Parked = 0
-answerWokenOf NotOwner = 0
-answerWokenOf TooDeep = 0
-answerWokenOf NoRule = 0
-
+-- "begun, or gone on"
 unfoldable pub returnedOf : Reply → ℕ
-returnedOf Begun = 0
+returnedOf Begun = returned-of GoneOn
 returnedOf (Refused refusal) = refusalNumberOf refusal
-returnedOf (Answered answer) = answerNumberOf answer
+returnedOf (Answered answer) = returned-of answer
 
 unfoldable pub wokenOf : Reply → ℕ
-wokenOf Begun = 0
+wokenOf Begun = woken-of GoneOn
 wokenOf (Refused refusal) = 0
-wokenOf (Answered answer) = answerWokenOf answer
+wokenOf (Answered answer) = woken-of answer
 
 -- refused: the table is the same
 abbrev pub refuseOf : Table → Refusal → Outcome

@@ -55,8 +55,8 @@ unfoldable pub stepRanged : Table → ℕ → Bool → Outcome
 stepRanged table thread inrange = pick inrange (stepRecord table thread (threadAt table thread)) (refuseOf table NoSuchThread)
 
 -- 11: table not sound
-unfoldable pub stepGated : Table → ℕ → Bool → Outcome
-stepGated table thread issound = pick issound (stepRanged table thread (within 1 (table .threadcount) thread)) (refuseOf table NotSound)
+unfoldable pub stepTrusting : Table → ℕ → Bool → Outcome
+stepTrusting table thread issound = pick issound (stepRanged table thread (within 1 (table .threadcount) thread)) (refuseOf table NotSound)
 
 unfoldable pub stepOf : Table → ℕ → Outcome
-stepOf table thread = stepGated table thread (soundOf table)
+stepOf table thread = stepTrusting table thread (soundOf table)

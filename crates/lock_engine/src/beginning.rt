@@ -13,7 +13,7 @@ use lock_table::operation_from;
 use lock_table::set_thread;
 use lock_table::thread_at;
 ghost use mathlib.Core.Path.{_≡_};
-ghost use Rattle.lock_engine.specs.Begin.{begunOf, acceptOf, beginThread, beginObject, beginOperation, beginRanged, beginGated, beginOf};
+ghost use Rattle.lock_engine.specs.Begin.{begunOf, acceptOf, beginThread, beginObject, beginOperation, beginRanged, beginTrusting, beginOf};
 
 fn begun(operation: Operation, object: u8) -> ThreadRecord
     ensures { λ r. ⌜ r ≡ begunOf operation object ⌝ }
@@ -117,8 +117,8 @@ fn begin_ranged(table: Table, thread: u8, operation: u8, object: u8, inrange: bo
 }
 
 // 11. For a caller that knows whether the table is sound.
-pub fn begin_gated(table: Table, thread: u8, operation: u8, object: u8, issound: bool) -> Outcome
-    ensures { λ r. ⌜ r ≡ beginGated table thread operation object issound ⌝ }
+pub fn begin_trusting(table: Table, thread: u8, operation: u8, object: u8, issound: bool) -> Outcome
+    ensures { λ r. ⌜ r ≡ beginTrusting table thread operation object issound ⌝ }
 {
     if issound {
         let inrange = (1 <= thread) & (thread <= table.threadcount);
@@ -131,7 +131,7 @@ pub fn begin_gated(table: Table, thread: u8, operation: u8, object: u8, issound:
 pub fn begin(table: Table, thread: u8, operation: u8, object: u8) -> Outcome
     ensures { λ r. ⌜ r ≡ beginOf table thread operation object ⌝ }
 {
-    begin_gated(
+    begin_trusting(
         table,
         thread,
         operation,

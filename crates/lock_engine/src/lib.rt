@@ -5,11 +5,12 @@ mod outcome;
 mod stepping;
 
 pub use beginning::begin;
-pub use beginning::begin_gated;
+pub use beginning::begin_trusting;
 pub use outcome::Outcome;
 pub use outcome::Refusal;
 pub use outcome::Reply;
+pub use outcome::refusal_number;
 pub use outcome::returned;
 pub use outcome::woken;
 pub use stepping::step;
-pub use stepping::step_gated;
+pub use stepping::step_trusting;

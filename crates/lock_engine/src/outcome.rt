@@ -2,7 +2,8 @@
 use lock_rules::Answer;
 use lock_table::Table;
 ghost use mathlib.Core.Path.{_≡_};
-ghost use Rattle.lock_engine.specs.Outcome.{refusalNumberOf, answerNumberOf, answerWokenOf, returnedOf, wokenOf, refuseOf};
+ghost use Rattle.lock_rules.specs.Numbers.{returned-of, woken-of};
+ghost use Rattle.lock_engine.specs.Outcome.{refusalNumberOf, returnedOf, wokenOf, refuseOf};
 
 // The refusals before any rule.
 pub enum Refusal {
@@ -37,7 +38,8 @@ pub struct Outcome {
     pub commits: bool,
 }
 
-fn refusal_number(refusal: Refusal) -> u8
+// The number of a refusal before any rule.
+pub fn refusal_number(refusal: Refusal) -> u8
     ensures { λ r. ⌜ r ≡ refusalNumberOf refusal ⌝ }
 {
     match refusal {
@@ -52,7 +54,7 @@ fn refusal_number(refusal: Refusal) -> u8
 }
 
 fn answer_number(answer: Answer) -> u8
-    ensures { λ r. ⌜ r ≡ answerNumberOf answer ⌝ }
+    ensures { λ r. ⌜ r ≡ returned-of answer ⌝ }
 {
     match answer {
         Answer::GoneOn => 0,
@@ -65,7 +67,7 @@ fn answer_number(answer: Answer) -> u8
 }
 
 fn answer_woken(answer: Answer) -> u8
-    ensures { λ r. ⌜ r ≡ answerWokenOf answer ⌝ }
+    ensures { λ r. ⌜ r ≡ woken-of answer ⌝ }
 {
     match answer {
         Answer::GoneOn => 0,

@@ -19,7 +19,7 @@ use lock_table::thread_at;
 use lock_word::Decoded;
 use lock_word::read_word;
 ghost use mathlib.Core.Path.{_≡_};
-ghost use Rattle.lock_engine.specs.Step.{settleOf, stepWord, stepRunning, stepThread, stepRecord, stepRanged, stepGated, stepOf};
+ghost use Rattle.lock_engine.specs.Step.{settleOf, stepWord, stepRunning, stepThread, stepRecord, stepRanged, stepTrusting, stepOf};
 
 // The action carried out, or 20.
 fn settle(table: Table, thread: u8, number: u8, object: ObjectRecord, action: Action) -> Outcome
@@ -107,8 +107,8 @@ fn step_ranged(table: Table, thread: u8, inrange: bool) -> Outcome
 }
 
 // 11. For a caller that knows whether the table is sound.
-pub fn step_gated(table: Table, thread: u8, issound: bool) -> Outcome
-    ensures { λ r. ⌜ r ≡ stepGated table thread issound ⌝ }
+pub fn step_trusting(table: Table, thread: u8, issound: bool) -> Outcome
+    ensures { λ r. ⌜ r ≡ stepTrusting table thread issound ⌝ }
 {
     if issound {
         return step_ranged(table, thread, (1 <= thread) & (thread <= table.threadcount));
@@ -120,5 +120,5 @@ pub fn step_gated(table: Table, thread: u8, issound: bool) -> Outcome
 pub fn step(table: Table, thread: u8) -> Outcome
     ensures { λ r. ⌜ r ≡ stepOf table thread ⌝ }
 {
-    step_gated(table, thread, lock_soundness::sound(table))
+    step_trusting(table, thread, lock_soundness::sound(table))
 }

@@ -35,8 +35,8 @@ use Rattle.lock_soundness.specs.Sound.{soundOf}
 use Rattle.lock_perform.specs.State.{stateOf}
 use Rattle.lock_perform.specs.Moving.{actionOf}
 use Rattle.lock_perform.specs.declared.moving.Moved.{Moved}
-use Rattle.lock_engine.specs.Begin.{beginThread, beginObject, beginOperation, beginRanged, beginGated, beginOf}
-use Rattle.lock_engine.specs.Step.{settleOf, stepWord, stepThread, stepRanged, stepGated, stepOf}
+use Rattle.lock_engine.specs.Begin.{beginThread, beginObject, beginOperation, beginRanged, beginTrusting, beginOf}
+use Rattle.lock_engine.specs.Step.{settleOf, stepWord, stepThread, stepRanged, stepTrusting, stepOf}
 use Rattle.lock_engine.specs.declared.outcome.Outcome.{Outcome}
 use Rattle.table_bytes.specs.Reading.{isTable, tableOf, threadFrom, objectFrom}
 use Rattle.lock_engine_c.specs.Calls.{eventBytes, begunOn, steppedOn}
@@ -114,8 +114,8 @@ module _ {table : Table} (full : Full table) where
   full-ranged thread true = full-state thread (threadAt table thread .object) (stateOf (threadAt table thread))
   full-ranged thread false = full
 
-  full-gated : (thread : ℕ) (issound : Bool) → GivesFull (stepGated table thread issound)
-  unfolding stepGated
+  full-gated : (thread : ℕ) (issound : Bool) → GivesFull (stepTrusting table thread issound)
+  unfolding stepTrusting
   full-gated thread true = full-ranged thread (within 1 (table .threadcount) thread)
   full-gated thread false = full
 
@@ -152,8 +152,8 @@ module _ {table : Table} (full : Full table) where
       full-begin-operation thread (operationFromOf operation) object (within 1 (table .objectcount) object)
   full-begin-ranged thread operation object false = full
 
-  full-begin-gated : (thread operation object : ℕ) (issound : Bool) → GivesFull (beginGated table thread operation object issound)
-  unfolding beginGated
+  full-begin-gated : (thread operation object : ℕ) (issound : Bool) → GivesFull (beginTrusting table thread operation object issound)
+  unfolding beginTrusting
   full-begin-gated thread operation object true = full-begin-ranged thread operation object (within 1 (table .threadcount) thread)
   full-begin-gated thread operation object false = full
 

@@ -2,12 +2,13 @@
 use Prim.Native.Nat.{ℕ, _+_, _*_}
 use mathlib.Core.Bool.{Bool, not}
 use mathlib.Core.List.{List}
-use lib.Dec.{eqb, ltb, leb}
+use lib.Dec.{eqb, leb}
 use lib.ListN.{length}
 use Rattle.laws.specs.Choice.{pick, both, within}
 use Rattle.lock_table.specs.Access.{threadAt, objectAt}
 use Rattle.lock_table.specs.Fresh.{freshOf, freshReturnedOf}
 use Rattle.lock_table.specs.Limits.{thread-limit, object-limit}
+use Rattle.lock_table.specs.Ownership.{ownership-at}
 use Rattle.lock_table.specs.Phase.{phaseNumberOf}
 use Rattle.lock_table.specs.declared.fresh_table.FreshAnswer.{FreshAnswer}
 use Rattle.lock_table.specs.declared.fresh_table.FreshAnswer.the-variants.{Made, SizeOutOfRange}
@@ -17,7 +18,6 @@ use Rattle.lock_engine.specs.Outcome.{returnedOf, wokenOf}
 use Rattle.lock_engine.specs.Begin.{beginOf}
 use Rattle.lock_engine.specs.Step.{stepOf}
 use Rattle.lock_engine.specs.declared.outcome.Outcome.{Outcome}
-use Rattle.lock_records.specs.Agrees.{ownership-at}
 use Rattle.table_bytes.specs.Layout.{table-size}
 use Rattle.table_bytes.specs.Reading.{isTable, tableOf}
 use Rattle.table_bytes.specs.Writing.{bytesOf, keptOver}
@@ -31,10 +31,6 @@ no-such-thread = 12
 
 abbrev pub no-such-object : ℕ
 no-such-object = 13
-
--- a number as the code hands it to the engine; 255 stands for all that are larger, which changes no answer (proofs/Narrow.antt)
-unfoldable pub narrowOf : ℕ → ℕ
-narrowOf number = pick (ltb 255 number) 255 number
 
 -- the returned number, the woken number and whether the event is a committing step, packed: bits 0 to 7, bits 8 to 15, bit 16
 unfoldable pub packedOf : ℕ → ℕ → Bool → ℕ

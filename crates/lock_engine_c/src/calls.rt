@@ -8,6 +8,7 @@ use lock_table::FreshAnswer;
 use lock_table::FreshTable;
 use lock_table::Table;
 use lock_table::fresh;
+use lock_table::narrow;
 use table_bytes::TABLE_SIZE;
 use table_bytes::is_table;
 use table_bytes::read_table;
@@ -19,7 +20,7 @@ ghost use Rattle.lock_engine.specs.Step.{stepOf};
 ghost use Rattle.table_bytes.specs.Layout.{table-size};
 ghost use Rattle.table_bytes.specs.Reading.{isTable, tableOf};
 ghost use Rattle.table_bytes.specs.Writing.{keptOver};
-ghost use Rattle.lock_engine_c.specs.Calls.{narrowOf, packedOf, outcomeAnswer, eventAnswer, eventBytes, eventOver};
+ghost use Rattle.lock_engine_c.specs.Calls.{packedOf, outcomeAnswer, eventAnswer, eventBytes, eventOver};
 ghost use Rattle.lock_engine_c.specs.Calls.{begunOn, steppedOn, freshOn, has-size, madeOver, freshAnswer, freshBytes, freshOver};
 
 // Document 01's number for bytes that are no table.
@@ -28,16 +29,6 @@ const NOT_SOUND: u32 = 11;
 const WOKEN_UNIT: u32 = 256;
 
 const COMMITS_UNIT: u32 = 65536;
-
-// A number as the engine takes it: 255 stands for all larger ones, and is no thread or object of a sound table and no operation.
-pub fn narrow(number: u32) -> u8
-    ensures { λ r. ⌜ r ≡ narrowOf number ⌝ }
-{
-    if 255 < number {
-        return 255;
-    }
-    number as u8
-}
 
 fn packed(returned: u8, woken: u8, commits: bool) -> u32
     ensures { λ r. ⌜ r ≡ packedOf returned woken commits ⌝ }

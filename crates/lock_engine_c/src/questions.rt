@@ -1,24 +1,15 @@
 // Questions about a table, which change nothing. An answer has the returned number in bits 0 to 7, 0 where there is a value, and the value above.
-use crate::calls::narrow;
-use lock_table::Monitor;
 use lock_table::OBJECTS;
-use lock_table::ObjectRecord;
 use lock_table::THREADS;
 use lock_table::Table;
+use lock_table::narrow;
 use lock_table::object_at;
+use lock_table::ownership_at;
 use lock_table::phase_number;
 use lock_table::thread_at;
-use lock_word::Decoded;
-use lock_word::LockWord;
-use lock_word::Ownership;
-use lock_word::owner_by_word;
-use lock_word::read_word;
 use table_bytes::is_table;
 use table_bytes::read_table;
 ghost use mathlib.Core.Path.{_≡_};
-ghost use Rattle.lock_word.specs.Read.{decodeOf};
-ghost use Rattle.lock_word.specs.declared.reading.Decoded.the-variants.{Valid};
-ghost use Rattle.lock_records.specs.Agrees.{held-by, ownership-in};
 ghost use Rattle.lock_engine_c.specs.Calls.{saidOf, phaseIn, wordIn, ownerIn, depthIn, phaseAnswer, wordAnswer, ownerAnswer, depthAnswer};
 
 const NOT_SOUND: u64 = 11;
@@ -41,52 +32,6 @@ fn said(istable: bool, inrange: bool, refusal: u8, value: u32) -> u64
     NOT_SOUND
 }
 
-fn held_by(monitor: Monitor) -> Ownership
-    ensures { λ r. ⌜ r ≡ held-by monitor ⌝ }
-{
-    if monitor.depth == 0 {
-        return Ownership {
-            thread: 0,
-            depth: 0,
-        };
-    }
-    Ownership {
-        thread: monitor.holder as u16,
-        depth: monitor.depth,
-    }
-}
-
-fn ownership_by(meaning: LockWord, monitor: Monitor) -> Ownership
-    ensures { λ r. ⌜ r ≡ ownership-in (Valid meaning) monitor ⌝ }
-{
-    match meaning {
-        LockWord::Free => owner_by_word(LockWord::Free),
-        LockWord::Flat(thread, count) => owner_by_word(LockWord::Flat(thread, count)),
-        LockWord::Anonymous => owner_by_word(LockWord::Anonymous),
-        LockWord::Reserved(thread, count) => owner_by_word(LockWord::Reserved(thread, count)),
-        LockWord::Fat(_) => held_by(monitor),
-    }
-}
-
-fn ownership(decoded: Decoded, monitor: Monitor) -> Ownership
-    ensures { λ r. ⌜ r ≡ ownership-in decoded monitor ⌝ }
-{
-    let Decoded::Valid(meaning) = decoded else {
-        return Ownership {
-            thread: 0,
-            depth: 0,
-        };
-    };
-    ownership_by(meaning, monitor)
-}
-
-fn ownership_of(object: ObjectRecord) -> Ownership
-    ensures { λ r. ⌜ r ≡ ownership-in (decodeOf (object .word)) (object .monitor) ⌝ }
-{
-    let monitor = object.monitor;
-    ownership(read_word(object.word), monitor)
-}
-
 fn phase_in(istable: bool, table: Table, number: u8) -> u64
     ensures { λ r. ⌜ r ≡ phaseIn istable table number ⌝ }
 {
@@ -107,7 +52,7 @@ fn word_in(istable: bool, table: Table, number: u8) -> u64
 fn owner_in(istable: bool, table: Table, number: u8) -> u64
     ensures { λ r. ⌜ r ≡ ownerIn istable table number ⌝ }
 {
-    let found = ownership_of(object_at(table, number));
+    let found = ownership_at(table, number);
     let inrange = ((1 <= number) & (number <= table.objectcount)) & (number <= OBJECTS);
     said(istable, inrange, NO_SUCH_OBJECT, found.thread as u32)
 }
@@ -115,7 +60,7 @@ fn owner_in(istable: bool, table: Table, number: u8) -> u64
 fn depth_in(istable: bool, table: Table, number: u8) -> u64
     ensures { λ r. ⌜ r ≡ depthIn istable table number ⌝ }
 {
-    let found = ownership_of(object_at(table, number));
+    let found = ownership_at(table, number);
     let inrange = ((1 <= number) & (number <= table.objectcount)) & (number <= OBJECTS);
     said(istable, inrange, NO_SUCH_OBJECT, found.depth as u32)
 }

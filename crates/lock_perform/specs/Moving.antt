@@ -1,11 +1,12 @@
 -- What the chain actions of the rules do to the table's threads and to the monitor of the step's object (document 01, "Steps").
 use Prim.Native.Nat.{ℕ}
-use lib.Dec.{eqb, ltb}
+use lib.Dec.{eqb}
 use Rattle.laws.specs.Choice.{pick}
 use Rattle.lock_rules.specs.declared.ChainAction.{ChainAction}
 use Rattle.lock_rules.specs.declared.ChainAction.the-variants.{Stay, JoinEntry, Contend, GiveUp, HandOver, AdmitContenders, TellFirst}
 use Rattle.lock_rules.specs.declared.ChainAction.the-variants.{WakeFirst, WakeAll, SendBack}
 use Rattle.lock_table.specs.Limits.{thread-limit}
+use Rattle.lock_table.specs.Narrow.{narrowOf}
 use Rattle.lock_table.specs.Access.{threadAt, setThread, nextOf}
 use Rattle.lock_table.specs.Monitor.{handOf, joinEntry, joinContention, joinWaiting, admitContenders, tellFirst, wakeFirst, wakeAll}
 use Rattle.lock_table.specs.Chain.{hangOf, handFirstOf, queueFirstOf, queueAllOf}
@@ -19,8 +20,8 @@ use Rattle.lock_perform.specs.declared.moving.Moved.{Moved}
 -- hand: the first of the entry chain leaves it, becomes holder at depth 0 and takes its carried phase
 abbrev pub handOver : Moved → Moved
 handOver moved =
-    let first = moved .monitor .entry in
-    record { table = handFirstOf (moved .table) first; monitor = handOf (moved .monitor) (nextOf (moved .table) first) .monitor }
+    let handed = handOf (moved .monitor) (nextOf (moved .table) (moved .monitor .entry)) in
+    record { table = handFirstOf (moved .table) (handed .thread); monitor = handed .monitor }
 
 -- a thread joins a chain at the end
 abbrev pub joinEntryOf : Moved → ℕ → Moved
@@ -49,23 +50,19 @@ wakeAllOf moved =
 -- tell: the first contender goes to entry carrying 6; notify: the first waiter, carrying 15
 abbrev pub tellOf : Moved → Moved
 tellOf moved =
-    let first = moved .monitor .contention in
+    let told = tellFirst (moved .monitor) (nextOf (moved .table) (moved .monitor .contention)) in
     record {
-      table = hangOf (queueFirstOf (moved .table) first ToCheck) (moved .monitor .entry) first;
-      monitor = tellFirst (moved .monitor) (nextOf (moved .table) first) .monitor;
+      table = hangOf (queueFirstOf (moved .table) (told .thread) ToCheck) (moved .monitor .entry) (told .thread);
+      monitor = told .monitor;
     }
 
 abbrev pub wakeFirstOf : Moved → Moved
 wakeFirstOf moved =
-    let first = moved .monitor .waiting in
+    let woken = wakeFirst (moved .monitor) (nextOf (moved .table) (moved .monitor .waiting)) in
     record {
-      table = hangOf (queueFirstOf (moved .table) first ToResume) (moved .monitor .entry) first;
-      monitor = wakeFirst (moved .monitor) (nextOf (moved .table) first) .monitor;
+      table = hangOf (queueFirstOf (moved .table) (woken .thread) ToResume) (moved .monitor .entry) (woken .thread);
+      monitor = woken .monitor;
     }
-
--- a number read in a word as a thread's: no table has a thread above 255
-unfoldable pub threadNumberOf : ℕ → ℕ
-threadNumberOf number = pick (ltb 255 number) 0 number
 
 -- cancel: the word's thread, if in phase 2 on this object, goes back to 1; its kept word falls out of use
 abbrev pub lookAgainOf : ThreadRecord → ThreadRecord
@@ -108,4 +105,4 @@ actionOf AdmitContenders thread object moved = admitOf moved
 actionOf TellFirst thread object moved = tellOf moved
 actionOf WakeFirst thread object moved = wakeFirstOf moved
 actionOf WakeAll thread object moved = wakeAllOf moved
-actionOf (SendBack number) thread object moved = sendBackOf moved object (threadNumberOf number)
+actionOf (SendBack number) thread object moved = sendBackOf moved object (narrowOf number)

@@ -3,27 +3,13 @@ use Prim.Native.Nat.{ℕ}
 use lib.Dec.{eqb}
 use Rattle.chains.specs.Chain.{chain-length}
 use Rattle.lock_word.specs.declared.reading.LockWord.{LockWord}
-use Rattle.lock_word.specs.declared.reading.LockWord.the-variants.{Free, Flat, Anonymous, Reserved, Fat}
-use Rattle.lock_rules.specs.declared.WordSeen.{WordSeen}
-use Rattle.lock_rules.specs.declared.WordSeen.the-variants.{
-  Free as SeenFree,
-  Flat as SeenFlat,
-  Anonymous as SeenAnonymous,
-  Reserved as SeenReserved,
-  Fat as SeenFat,
-}
+use Rattle.lock_word.specs.declared.meaning.WordSeen.{WordSeen}
+use Rattle.lock_word.specs.Meaning.{seenOf}
 use Rattle.lock_rules.specs.declared.Sight.{Sight}
 use Rattle.lock_table.specs.Limits.{thread-limit}
 use Rattle.lock_table.specs.Access.{nextOf}
 use Rattle.lock_table.specs.declared.record.ObjectRecord.{ObjectRecord}
 use Rattle.lock_table.specs.declared.record.Table.{Table}
-
-unfoldable pub seenOf : LockWord → WordSeen
-seenOf Free = SeenFree
-seenOf (Flat thread count) = SeenFlat (thread .0) count
-seenOf Anonymous = SeenAnonymous
-seenOf (Reserved thread count) = SeenReserved (thread .0) count
-seenOf (Fat monitor) = SeenFat
 
 abbrev pub sightWith : ObjectRecord → WordSeen → ℕ → Sight
 sightWith object word waiters =

@@ -1,6 +1,7 @@
 -- A thread's record read as what the thread is doing, and written: "fields of a thread that its phase does not use are 0".
 use Prim.Native.Nat.{ℕ}
-use Rattle.lock_word.specs.Layout.{count-field}
+use Rattle.lock_word.specs.Read.{decodeOf}
+use Rattle.lock_word.specs.Meaning.{keptCountOf}
 use Rattle.lock_word.specs.Write.{reservedWord}
 use Rattle.lock_rules.specs.declared.Suspension.{Suspension}
 use Rattle.lock_rules.specs.declared.Carried.{Carried}
@@ -79,7 +80,7 @@ stateBy WaitingPhase operation count suspension = Waiting suspension
 stateBy Resume operation count suspension = Running (WaitResume suspension)
 
 abbrev pub stateOf : ThreadRecord → ThreadState
-stateOf thread = stateBy (thread .phase) (thread .operation) (count-field (thread .kept)) (record { depth = thread .saved })
+stateOf thread = stateBy (thread .phase) (thread .operation) (keptCountOf (decodeOf (thread .kept))) (record { depth = thread .saved })
 
 abbrev pub threadWith : Operation → ℕ → Phase → ℕ → ℕ → ℕ → ThreadRecord
 threadWith operation object phase kept saved next =

@@ -6,7 +6,6 @@ mod sighting;
 mod state;
 
 pub use moving::Moved;
-pub use moving::thread_number;
 pub use performing::perform;
 pub use sighting::sight;
 pub use state::read_thread;

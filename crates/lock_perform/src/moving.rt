@@ -7,13 +7,14 @@ use lock_table::Table;
 use lock_table::ThreadRecord;
 use lock_table::hand_first;
 use lock_table::hang;
+use lock_table::narrow;
 use lock_table::queue_all;
 use lock_table::queue_first;
 use lock_table::set_thread;
 use lock_table::thread_at;
 ghost use mathlib.Core.Path.{_≡_};
 ghost use Rattle.lock_table.specs.Access.{nextOf};
-ghost use Rattle.lock_perform.specs.Moving.{handOver, joinEntryOf, joinContentionOf, joinWaitingOf, admitOf, tellOf, wakeFirstOf, wakeAllOf, threadNumberOf, lookAgainOf, backFrom, sentBackOf, sendBackOf, actionOf};
+ghost use Rattle.lock_perform.specs.Moving.{handOver, joinEntryOf, joinContentionOf, joinWaitingOf, admitOf, tellOf, wakeFirstOf, wakeAllOf, lookAgainOf, backFrom, sentBackOf, sendBackOf, actionOf};
 
 pub struct Moved {
     pub table: Table,
@@ -36,7 +37,7 @@ fn hand_over(moved: Moved) -> Moved
     let handed = monitor.hand(next_of(table, monitor.entry));
     let after = handed.monitor;
     Moved {
-        table: hand_first(table, monitor.entry),
+        table: hand_first(table, handed.thread),
         monitor: after,
     }
 }
@@ -115,9 +116,9 @@ fn tell_first(moved: Moved) -> Moved
     let after = told.monitor;
     Moved {
         table: hang(
-            queue_first(table, monitor.contention, Onward::ToCheck),
+            queue_first(table, told.thread, Onward::ToCheck),
             monitor.entry,
-            monitor.contention,
+            told.thread,
         ),
         monitor: after,
     }
@@ -132,22 +133,12 @@ fn wake_first(moved: Moved) -> Moved
     let after = woken.monitor;
     Moved {
         table: hang(
-            queue_first(table, monitor.waiting, Onward::ToResume),
+            queue_first(table, woken.thread, Onward::ToResume),
             monitor.entry,
-            monitor.waiting,
+            woken.thread,
         ),
         monitor: after,
     }
-}
-
-// A number of any source as a record's; one that no table can have is nobody's.
-pub fn thread_number(number: u16) -> u8
-    ensures { λ r. ⌜ r ≡ threadNumberOf number ⌝ }
-{
-    if 255 < number {
-        return 0;
-    }
-    number as u8
 }
 
 fn look_again(thread: ThreadRecord) -> ThreadRecord
@@ -223,6 +214,6 @@ pub fn act_on_chains(action: ChainAction, thread: u8, object: u8, moved: Moved) 
         ChainAction::TellFirst => tell_first(moved),
         ChainAction::WakeFirst => wake_first(moved),
         ChainAction::WakeAll => wake_all(moved),
-        ChainAction::SendBack(number) => send_back(moved, object, thread_number(number)),
+        ChainAction::SendBack(number) => send_back(moved, object, narrow(number as u32)),
     }
 }

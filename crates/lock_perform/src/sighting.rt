@@ -1,26 +1,15 @@
 // What a rule sees of its object.
 use lock_rules::Sight;
-use lock_rules::WordSeen;
 use lock_table::ObjectRecord;
 use lock_table::THREADS;
 use lock_table::Table;
 use lock_word::LockWord;
+use lock_word::WordSeen;
+use lock_word::seen_word;
 ghost use mathlib.Core.Path.{_≡_};
 ghost use Rattle.chains.specs.Chain.{chain-length};
 ghost use Rattle.lock_table.specs.Access.{nextOf};
-ghost use Rattle.lock_perform.specs.Sight.{seenOf, sightWith, sightOf};
-
-fn seen_word(word: LockWord) -> WordSeen
-    ensures { λ r. ⌜ r ≡ seenOf word ⌝ }
-{
-    match word {
-        LockWord::Free => WordSeen::Free,
-        LockWord::Flat(thread, count) => WordSeen::Flat(thread.value(), count),
-        LockWord::Anonymous => WordSeen::Anonymous,
-        LockWord::Reserved(thread, count) => WordSeen::Reserved(thread.value(), count),
-        LockWord::Fat(_) => WordSeen::Fat,
-    }
-}
+ghost use Rattle.lock_perform.specs.Sight.{sightWith, sightOf};
 
 // How many threads are in the chain from `first` on.
 fn length_from(table: Table, first: u8) -> u8

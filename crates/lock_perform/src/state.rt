@@ -108,7 +108,7 @@ pub fn read_thread(thread: ThreadRecord) -> ThreadState
     state(
         phase,
         operation,
-        lock_word::count_of(thread.kept),
+        lock_word::kept_count(lock_word::read_word(thread.kept)),
         suspension,
     )
 }

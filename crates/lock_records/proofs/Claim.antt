@@ -10,11 +10,11 @@ use Rattle.laws.specs.Choice.{pick, both, either}
 use Rattle.laws.proofs.Choice.{by-test, pick-same, false≢true, Equal, equal}
 use Rattle.chains.specs.Chain.{members}
 use Rattle.chains.proofs.Links.{Links}
-use Rattle.lock_word.specs.Meaning.{unowned, ownershipOf}
 use Rattle.lock_word.specs.declared.reading.Decoded.the-variants.{Valid}
-use Rattle.lock_word.specs.declared.meaning.Ownership.{Ownership}
 use Rattle.lock_rules.specs.Numbers.{phase-of-doing, phase-of}
-use Rattle.lock_rules.specs.Ownership.{owner-of, depth-of}
+use Rattle.lock_word.specs.Meaning.{owner-of, depth-of, ownershipOf}
+use Rattle.lock_word.proofs.Ownership.{owned-both}
+use Rattle.lock_word.specs.declared.meaning.Ownership.{Ownership}
 use Rattle.lock_rules.specs.Status.{is-woken, parked-for-entry, unparked, unfinished}
 use Rattle.lock_rules.specs.Events.{Event}
 use Rattle.lock_rules.specs.Feed.{Plain, feed-all, blank}
@@ -24,8 +24,8 @@ use Rattle.lock_rules.specs.declared.Doing.the-variants.{ExitStore, ExitGoIn, E
 use Rattle.lock_rules.specs.declared.Doing.the-variants.{WaitInflate, WaitGiveUp, WaitResume, NotifyLook, NotifyAllLook}
 use Rattle.lock_rules.specs.declared.ThreadState.{ThreadState}
 use Rattle.lock_rules.specs.declared.ThreadState.the-variants.{Idle, Running, Queued, Contending, Waiting}
-use Rattle.lock_rules.specs.declared.WordSeen.{WordSeen}
-use Rattle.lock_rules.specs.declared.WordSeen.the-variants.{Free, Anonymous, Fat, Flat, Reserved}
+use Rattle.lock_word.specs.declared.meaning.WordSeen.{WordSeen}
+use Rattle.lock_word.specs.declared.meaning.WordSeen.the-variants.{Free, Anonymous, Fat, Flat, Reserved}
 use Rattle.lock_rules.proofs.Objects.{object-owner, owned-depth}
 use Rattle.lock_rules.proofs.Tables.{ListTable, seen-from, final, shown, fresh}
 use Rattle.lock_rules.proofs.Turns.{final-on, shown-on}
@@ -43,34 +43,40 @@ use Rattle.lock_table.specs.declared.record.ThreadRecord.{ThreadRecord}
 use Rattle.lock_table.specs.declared.record.ObjectRecord.{ObjectRecord}
 use Rattle.lock_table.specs.declared.record.Table.{Table}
 use Rattle.lock_perform.specs.State.{recordOf}
-use Rattle.lock_records.proofs.Written.{lock-word, written-doing, written-carried, idle-or-written, phase-written}
+use Rattle.lock_records.proofs.Written.{lock-word, seen-written, written-doing, written-carried, idle-or-written, phase-written}
 use Rattle.lock_records.proofs.Represents.{monitor-record, Represents}
 use Rattle.lock_records.proofs.Readings.{busy-in, thread-is, home-is, members-are, word-is}
 use Rattle.lock_records.proofs.RecordKind.{record-kind, sound-stands}
 use Rattle.lock_records.proofs.FreshRecords.{fresh-represents}
-use Rattle.lock_records.specs.Agrees.{ownership-in, ownership-at, woken-at}
+use Rattle.lock_table.specs.Ownership.{ownership-in, ownership-at}
+use Rattle.lock_records.specs.Agrees.{woken-at}
 use Rattle.lock_records.specs.Agrees.{OwnedByOther, BusyOther, Agrees}
 
--- nobody owns at depth 0
-owned-deep : (thread depth : ℕ)
-    → pick (eqb depth 0) unowned (record { thread = thread; depth = depth }) ≡ record { thread = pick (eqb depth 0) 0 thread; depth = depth }
-owned-deep thread depth = at (eqb depth 0) (equal depth 0)
+-- where nobody owns by the word, nobody is in
+unowned-shallow : (threads : ℕ) (seen : WordSeen) (holder depth : ℕ) → WordFine threads seen → (holder ≡ 0 → depth ≡ 0)
+    → owner-of seen holder depth ≡ 0 → depth-of seen depth ≡ 0
+unowned-shallow threads Free holder depth fine shallow none = refl
+unowned-shallow threads Anonymous holder depth fine shallow none = refl
+unowned-shallow threads Fat holder depth fine shallow none = at (eqb depth 0) (equal depth 0) none
   where
-    at : (none : Bool) → Equal none depth 0
-        → pick none unowned (record { thread = thread; depth = depth }) ≡ record { thread = pick none 0 thread; depth = depth }
-    at true e = λ j. record { thread = 0; depth = sym e j }
-    at false e = refl
+    at : (zero : Bool) → Equal zero depth 0 → pick zero 0 holder ≡ 0 → depth ≡ 0
+    at true e unheld = e
+    at false e unheld = shallow unheld
+unowned-shallow threads (Flat thread count) holder depth fine shallow none = absurd (omega (arith, fine .0, none))
+unowned-shallow threads (Reserved thread count) holder depth fine shallow none = at (eqb count 0) (equal count 0) none
+  where
+    at : (zero : Bool) → Equal zero count 0 → pick zero 0 thread ≡ 0 → count ≡ 0
+    at true e unheld = e
+    at false e unheld = absurd (omega (arith, fine .0, unheld))
 
 -- owner and depth by the lock word are those that the rules see
-ownership-seen : (o : ℕ) (links : Links) (seen : WordSeen) (holder depth : ℕ)
+ownership-seen : (threads o : ℕ) (links : Links) (seen : WordSeen) (holder depth : ℕ) → WordFine threads seen → (holder ≡ 0 → depth ≡ 0)
     → ownership-in (Valid (lock-word o seen)) (monitor-record o links holder depth)
     ≡ record { thread = owner-of seen holder depth; depth = depth-of seen depth }
-unfolding ownershipOf
-ownership-seen o links Free holder depth = refl
-ownership-seen o links Anonymous holder depth = refl
-ownership-seen o links Fat holder depth = owned-deep holder depth
-ownership-seen o links (Flat thread count) holder depth = refl
-ownership-seen o links (Reserved thread count) holder depth = owned-deep thread count
+unfolding ownership-in
+ownership-seen threads o links seen holder depth fine shallow =
+    ap (λ (word : WordSeen). ownershipOf word holder depth) (seen-written o seen)
+    ∙ owned-both (owner-of seen holder depth) (depth-of seen depth) (unowned-shallow threads seen holder depth fine shallow)
 
 -- an owner is a thread of the table
 owner-small : (threads : ℕ) (seen : WordSeen) (holder depth : ℕ) → WordFine threads seen → holder ≤ threads → owner-of seen holder depth ≤ threads
@@ -190,7 +196,8 @@ module _ (threads objects : ℕ) (t : Table) (lists : ListTable) (represents : R
         → ownership-at t o ≡ record { thread = object-owner (lists .objects o); depth = owned-depth (lists .objects o) }
     ownership-is o real small =
         (λ j. ownership-in (word-is threads objects t lists represents sound o real small j) (represents .object-at o real small j .monitor))
-        ∙ ownership-seen o (represents .links) (lists .objects o .word) (lists .objects o .holder) (lists .objects o .depth)
+        ∙ ownership-seen threads o (represents .links) (lists .objects o .word) (lists .objects o .holder) (lists .objects o .depth)
+        (sound .sound o .word) (sound .sound o .shallow)
 
     phase-is : (n : ℕ) → phaseAt t n ≡ phase-of (lists .threads n .state)
     phase-is n =

@@ -30,7 +30,8 @@ use Rattle.lock_table.proofs.Walks.{next-none}
 use Rattle.lock_table.specs.declared.phase.Onward.{Onward}
 use Rattle.lock_table.specs.declared.record.ThreadRecord.{ThreadRecord}
 use Rattle.lock_table.specs.declared.record.Table.{Table}
-use Rattle.lock_perform.specs.Moving.{threadNumberOf, sentBackOf}
+use Rattle.lock_table.specs.Narrow.{narrowOf}
+use Rattle.lock_perform.specs.Moving.{sentBackOf}
 use Rattle.lock_records.proofs.Written.{relinked-written, sent-back-written}
 use Rattle.lock_records.proofs.Represents.{thread-record, ThreadsWritten, record-is, next-is}
 
@@ -144,9 +145,9 @@ module _ (before t : Table) (threads : ℕ → ListThread) (next : ℕ → ℕ) 
 
   -- the thread of a cancelled word sent back, if it has a record
   pub moves-send : (o number : ℕ) → ((n : ℕ) → (n ≡ 0) ⊎ (thread-limit < n) → threads n .state ≡ Idle)
-      → let owner = threadNumberOf number in
+      → let owner = narrowOf number in
       Moves before (setThread t owner (sentBackOf o (threadAt t owner))) (update threads number (sent-from o (threads number))) next
-  unfolding threadNumberOf
+  unfolding narrowOf
   moves-send o number outside = at (ltb 255 number) (below 255 number)
     where
       -- nobody is there
@@ -168,9 +169,9 @@ module _ (before t : Table) (threads : ℕ → ListThread) (next : ℕ → ℕ) 
           (sent-back-written o number (threads number .object) (threads number .state) (next number))
 
       at : (far : Bool) → Below far 255 number
-          → let owner = pick far 0 number in
+          → let owner = pick far 255 number in
           Moves before (setThread t owner (sentBackOf o (threadAt t owner))) (update threads number (sent-from o (threads number))) next
-      at true past = still 0 (inl refl) (outside number (inr (omega (arith, past))))
+      at true past = still 255 (inr (omega arith)) (outside number (inr (omega (arith, past))))
       at false high = by (equal? number 0) (ltb thread-limit number) (below thread-limit number)
 
 -- each of a chain queued, its next index kept

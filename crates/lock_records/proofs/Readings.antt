@@ -66,7 +66,9 @@ module _ (threads objects : ℕ) (t : Table) (lists : ListTable) (represents : R
 
     pub state-is : (n : ℕ) → stateOf (threadAt t n) ≡ lists .threads n .state
     state-is n =
-        ap stateOf (thread-is n) ∙ state-read n (lists .threads n .object) (lists .threads n .state) (represents .links .next n) (sound .fine n)
+        ap stateOf (thread-is n)
+        ∙ state-read n (lists .threads n .object) (lists .threads n .state) (represents .links .next n)
+        (λ busy. let ((low, high), first, last) = busy-in threads objects lists sound n busy in (low, omega (arith, high, represents .thread-room))) (sound .fine n)
 
     pub home-is : (n : ℕ) → T (unfinished (lists .threads n .state)) → threadAt t n .object ≡ lists .threads n .object
     home-is n busy =

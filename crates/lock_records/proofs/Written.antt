@@ -8,17 +8,17 @@ use native.Mathlib.Nat.{mod-eq-of-lt}
 use lib.Dec.{T, eqb}
 use Rattle.laws.specs.Choice.{pick}
 use Rattle.laws.proofs.Choice.{pick-same}
-use Rattle.lock_word.specs.Layout.{count-field, counts, count-limit}
+use Rattle.lock_word.specs.Layout.{count-limit}
 use Rattle.lock_word.specs.Read.{decodeOf, threadNumber, monitorNumber}
-use Rattle.lock_word.specs.Write.{encodeOf, InRange, reservedWord}
-use Rattle.lock_word.specs.Meaning.{cancelOf, cancelReadOf}
+use Rattle.lock_word.specs.Write.{encodeOf, IsNumber, InRange, reservedWord}
+use Rattle.lock_word.specs.Meaning.{seenOf, keptCountOf, cancelled, rewrittenOf, cancelOf, cancelReadOf}
 use Rattle.lock_word.proofs.RoundTrip.{meaning-of-word}
 use Rattle.lock_word.specs.declared.reading.LockWord.{LockWord}
 use Rattle.lock_word.specs.declared.reading.LockWord.the-variants.{Free, Flat, Anonymous, Reserved, Fat}
 use Rattle.lock_word.specs.declared.reading.Decoded.the-variants.{Valid}
 use Rattle.lock_rules.specs.Numbers.{phase-of-doing, phase-of}
 use Rattle.lock_rules.specs.Rules.{onward}
-use Rattle.lock_rules.specs.Changes.{cancelled, word-after, handed, look-again, sent-back}
+use Rattle.lock_rules.specs.Changes.{word-after, handed, look-again, sent-back}
 use Rattle.lock_rules.specs.Status.{unfinished}
 use Rattle.lock_rules.specs.declared.Suspension.{Suspension}
 use Rattle.lock_rules.specs.declared.Carried.{Carried}
@@ -29,8 +29,8 @@ use Rattle.lock_rules.specs.declared.Doing.the-variants.{ExitStore, ExitGoIn, E
 use Rattle.lock_rules.specs.declared.Doing.the-variants.{WaitInflate, WaitGiveUp, WaitResume, NotifyLook, NotifyAllLook}
 use Rattle.lock_rules.specs.declared.ThreadState.{ThreadState}
 use Rattle.lock_rules.specs.declared.ThreadState.the-variants.{Idle, Running, Queued, Contending, Waiting}
-use Rattle.lock_rules.specs.declared.WordSeen.{WordSeen}
-use Rattle.lock_rules.specs.declared.WordSeen.the-variants.{
+use Rattle.lock_word.specs.declared.meaning.WordSeen.{WordSeen}
+use Rattle.lock_word.specs.declared.meaning.WordSeen.the-variants.{
   Free as SeenFree,
   Flat as SeenFlat,
   Anonymous as SeenAnonymous,
@@ -48,7 +48,6 @@ use Rattle.lock_table.specs.declared.phase.Onward.the-variants.{ToCheck as OnTo
 use Rattle.lock_table.specs.declared.record.ThreadRecord.{ThreadRecord}
 use Rattle.lock_perform.specs.State.{lookOf, storeOf, cancelOf as cancelStateOf, goInOf, carriedOf as carriedStateOf, stateBy, stateOf}
 use Rattle.lock_perform.specs.State.{doingRecordOf, carriedRecordOf, recordOf}
-use Rattle.lock_perform.specs.Sight.{seenOf}
 use Rattle.lock_perform.specs.Moving.{backFrom, sentBackOf}
 use Rattle.lock_perform.specs.Perform.{wordAfter}
 
@@ -87,7 +86,7 @@ module _ (threads o : ℕ) (thread-room : threads ≤ thread-limit) (real : 1 �
 
   -- cancelling the bits writes the cancelled word
   cancel-written : (seen : WordSeen) → WordFine threads seen → cancelOf (word-written o seen) ≡ word-written o (cancelled seen)
-  unfolding cancelOf cancelReadOf encodeOf
+  unfolding cancelOf cancelReadOf rewrittenOf seenOf encodeOf
   cancel-written seen fine = rw (word-read seen fine) (at seen)
     where
       at : (seen : WordSeen) → cancelReadOf (word-written o seen) (Valid (lock-word o seen)) ≡ word-written o (cancelled seen)
@@ -98,7 +97,7 @@ module _ (threads o : ℕ) (thread-room : threads ≤ thread-limit) (real : 1 �
       at (SeenReserved thread count) = by (eqb count 0)
         where
           by : (none : Bool)
-              → pick none 0 (encodeOf (Flat (threadNumber thread) (count - 1)))
+              → rewrittenOf (word-written o (SeenReserved thread count)) (pick none SeenFree (SeenFlat thread (count - 1)))
               ≡ encodeOf (lock-word o (pick none SeenFree (SeenFlat thread (count - 1))))
           by true = refl
           by false = refl
@@ -114,47 +113,45 @@ module _ (threads o : ℕ) (thread-room : threads ≤ thread-limit) (real : 1 �
   word-changed n seen fine Cancelled = cancel-written seen fine
   word-changed n seen fine Inflated = refl
 
--- the count of a kept word
-count-kept : (n count : ℕ) → count ≤ count-limit → count-field (reservedWord n count) ≡ count
-count-kept n count small =
-    let below : count < counts = omega arith in
-    let remainder : count % counts ≡ count = mod-eq-of-lt below in
-    rw remainder (omega arith)
+-- the count of a kept word, by the word reader
+count-kept : (n count : ℕ) → IsNumber n → count ≤ count-limit → keptCountOf (decodeOf (reservedWord n count)) ≡ count
+unfolding encodeOf InRange keptCountOf
+count-kept n count is-number small = ap keptCountOf (meaning-of-word (Reserved (threadNumber n) count) (is-number, omega (arith, small)))
 
 -- a fine state is read back
-doing-read : (n o : ℕ) (doing : Doing) (next : ℕ) → DoingFine doing → stateOf (doingRecordOf n o doing next) ≡ Running doing
+doing-read : (n o : ℕ) (doing : Doing) (next : ℕ) → IsNumber n → DoingFine doing → stateOf (doingRecordOf n o doing next) ≡ Running doing
 unfolding doingRecordOf stateBy lookOf storeOf cancelStateOf goInOf
-doing-read n o EnterLook next fine = refl
-doing-read n o (EnterStore count) next fine = ap (λ (c : ℕ). Running (EnterStore c)) (count-kept n count (omega arith))
-doing-read n o EnterCancel next fine = refl
-doing-read n o EnterGoIn next fine = refl
-doing-read n o EnterCheck next fine = refl
-doing-read n o EnterTry next fine = refl
-doing-read n o ExitLook next fine = refl
-doing-read n o (ExitStore count) next fine = ap (λ (c : ℕ). Running (ExitStore c)) (count-kept n count (fine .1))
-doing-read n o ExitGoIn next fine = refl
-doing-read n o ExitTest next fine = refl
-doing-read n o ExitTell next fine = refl
-doing-read n o ExitLeave next fine = refl
-doing-read n o WaitLook next fine = refl
-doing-read n o WaitCancel next fine = refl
-doing-read n o WaitGoIn next fine = refl
-doing-read n o WaitInflate next fine = refl
-doing-read n o WaitGiveUp next fine = refl
-doing-read n o (WaitResume suspension) next fine = refl
-doing-read n o NotifyLook next fine = refl
-doing-read n o NotifyAllLook next fine = refl
+doing-read n o EnterLook next is-number fine = refl
+doing-read n o (EnterStore count) next is-number fine = ap (λ (c : ℕ). Running (EnterStore c)) (count-kept n count is-number (omega arith))
+doing-read n o EnterCancel next is-number fine = refl
+doing-read n o EnterGoIn next is-number fine = refl
+doing-read n o EnterCheck next is-number fine = refl
+doing-read n o EnterTry next is-number fine = refl
+doing-read n o ExitLook next is-number fine = refl
+doing-read n o (ExitStore count) next is-number fine = ap (λ (c : ℕ). Running (ExitStore c)) (count-kept n count is-number (fine .1))
+doing-read n o ExitGoIn next is-number fine = refl
+doing-read n o ExitTest next is-number fine = refl
+doing-read n o ExitTell next is-number fine = refl
+doing-read n o ExitLeave next is-number fine = refl
+doing-read n o WaitLook next is-number fine = refl
+doing-read n o WaitCancel next is-number fine = refl
+doing-read n o WaitGoIn next is-number fine = refl
+doing-read n o WaitInflate next is-number fine = refl
+doing-read n o WaitGiveUp next is-number fine = refl
+doing-read n o (WaitResume suspension) next is-number fine = refl
+doing-read n o NotifyLook next is-number fine = refl
+doing-read n o NotifyAllLook next is-number fine = refl
 
-pub state-read : (n o : ℕ) (state : ThreadState) (next : ℕ) → StateFine state → stateOf (recordOf n o state next) ≡ state
+pub state-read : (n o : ℕ) (state : ThreadState) (next : ℕ) → (T (unfinished state) → IsNumber n) → StateFine state → stateOf (recordOf n o state next) ≡ state
 unfolding recordOf carriedRecordOf stateBy carriedStateOf
-state-read n o Idle next fine = refl
-state-read n o (Running doing) next fine = doing-read n o doing next fine
-state-read n o (Queued ToCheck) next fine = refl
-state-read n o (Queued ToTell) next fine = refl
-state-read n o (Queued ToInflate) next fine = refl
-state-read n o (Queued (ToResume suspension)) next fine = refl
-state-read n o Contending next fine = refl
-state-read n o (Waiting suspension) next fine = refl
+state-read n o Idle next is-number fine = refl
+state-read n o (Running doing) next is-number fine = doing-read n o doing next (is-number tt) fine
+state-read n o (Queued ToCheck) next is-number fine = refl
+state-read n o (Queued ToTell) next is-number fine = refl
+state-read n o (Queued ToInflate) next is-number fine = refl
+state-read n o (Queued (ToResume suspension)) next is-number fine = refl
+state-read n o Contending next is-number fine = refl
+state-read n o (Waiting suspension) next is-number fine = refl
 
 -- The record of a thread that can take a step, field by field and after each change of another thread's record.
 pub record WrittenDoing (n o : ℕ) (doing : Doing) (next : ℕ) : Type 0 where

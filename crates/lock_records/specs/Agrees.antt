@@ -5,36 +5,14 @@ use mathlib.Core.Logic.{_≢_, _⊎_}
 use mathlib.Core.Bool.{Bool}
 use mathlib.Core.List.{List, [], _∷_}
 use lib.Dec.{eqb}
-use Rattle.laws.specs.Choice.{pick, both, either}
+use Rattle.laws.specs.Choice.{both, either}
 use Rattle.chains.specs.Chain.{members}
-use Rattle.lock_word.specs.Read.{decodeOf}
-use Rattle.lock_word.specs.Meaning.{unowned, ownershipOf}
-use Rattle.lock_word.specs.declared.reading.LockWord.the-variants.{Free, Flat, Anonymous, Reserved, Fat}
-use Rattle.lock_word.specs.declared.reading.Decoded.{Decoded}
-use Rattle.lock_word.specs.declared.reading.Decoded.the-variants.{Valid, Invalid}
-use Rattle.lock_word.specs.declared.meaning.Ownership.{Ownership}
 use Rattle.lock_rules.specs.Events.{Reply, Shown, returned}
 use Rattle.lock_rules.specs.Feed.{Plain, AllEndRight}
 use Rattle.lock_table.specs.Limits.{thread-limit}
+use Rattle.lock_table.specs.Ownership.{ownership-at}
 use Rattle.lock_table.specs.Access.{threadAt, objectAt, nextOf, phaseAt, carriedAt}
-use Rattle.lock_table.specs.declared.record.Monitor.{Monitor}
 use Rattle.lock_table.specs.declared.record.Table.{Table}
-
--- "The holder owns it if the monitor's depth is above 0."
-abbrev pub held-by : Monitor → Ownership
-held-by monitor = pick (eqb (monitor .depth) 0) unowned (record { thread = monitor .holder; depth = monitor .depth })
-
--- owner and depth by the word, 0 and 0 with no owner; a fat word leaves it to the monitor, and what is no lock word names nobody
-abbrev pub ownership-in : Decoded → Monitor → Ownership
-ownership-in Invalid monitor = unowned
-ownership-in (Valid Free) monitor = ownershipOf Free
-ownership-in (Valid (Flat thread count)) monitor = ownershipOf (Flat thread count)
-ownership-in (Valid Anonymous) monitor = ownershipOf Anonymous
-ownership-in (Valid (Reserved thread count)) monitor = ownershipOf (Reserved thread count)
-ownership-in (Valid (Fat number)) monitor = held-by monitor
-
-abbrev pub ownership-at : Table → ℕ → Ownership
-ownership-at table o = ownership-in (decodeOf (objectAt table o .word)) (objectAt table o .monitor)
 
 -- "Woken means carrying 15 or in 15."
 abbrev pub woken-at : Table → ℕ → ℕ → Bool

@@ -18,7 +18,7 @@ use Rattle.lock_table.specs.declared.record.Table.{Table}
 use Rattle.lock_perform.specs.State.{stateOf}
 use Rattle.lock_soundness.specs.Sound.{soundOf}
 use Rattle.lock_engine.specs.Outcome.{refusalNumberOf, returnedOf, refuseOf}
-use Rattle.lock_engine.specs.Begin.{beginOf, beginGated, beginRanged, beginOperation, beginObject, beginThread}
+use Rattle.lock_engine.specs.Begin.{beginOf, beginTrusting, beginRanged, beginOperation, beginObject, beginThread}
 use Rattle.lock_engine.specs.declared.outcome.Refusal.the-variants.{NotSound, NoSuchThread, NoSuchObject, NotIdle, NoSuchOperation}
 use Rattle.record_soundness.proofs.EveryNumber.{idle-phase, phase-idle}
 use Rattle.lock_refusals.specs.Refusals.{first-applies, begin-refusals}
@@ -95,7 +95,7 @@ module _ (table : Table) (thread object : ℕ) where
 
   -- 11 and 12
   pub begin-ended : (operation : ℕ) → EndedSame table (beginOf table thread operation object) (first-applies (begin-refusals table thread operation object))
-  unfolding beginOf beginGated beginRanged refusalNumberOf
+  unfolding beginOf beginTrusting beginRanged refusalNumberOf
   begin-ended operation = gated (soundOf table) refl
     where
       ranged : soundOf table ≡ true → (real : Bool)
@@ -105,7 +105,7 @@ module _ (table : Table) (thread object : ℕ) where
       ranged sound false = refuse-same table NoSuchThread
 
       gated : (sound : Bool) → soundOf table ≡ sound
-          → EndedSame table (beginGated table thread operation object sound)
+          → EndedSame table (beginTrusting table thread operation object sound)
           (pick (not sound) 11
           (pick (not (within 1 (table .threadcount) thread)) 12 (from-operation table thread operation (within 1 (table .objectcount) object))))
       gated true is = ranged is (within 1 (table .threadcount) thread)

@@ -12,7 +12,7 @@ use Rattle.lock_table.specs.Access.{objectAt, nextOf}
 use Rattle.lock_table.specs.declared.record.Table.{Table}
 use Rattle.lock_perform.specs.Sight.{sightOf}
 use Rattle.lock_perform.specs.Perform.{performOf}
-use Rattle.lock_engine.specs.Outcome.{refusalNumberOf, answerNumberOf, returnedOf, refuseOf}
+use Rattle.lock_engine.specs.Outcome.{refusalNumberOf, returnedOf, refuseOf}
 use Rattle.lock_engine.specs.Step.{settleOf}
 use Rattle.lock_engine.specs.declared.outcome.Refusal.{Refusal}
 use Rattle.lock_engine.specs.declared.outcome.Refusal.the-variants.{
@@ -68,7 +68,7 @@ module _ (table : Table) (thread o : ℕ) (out : nextOf table thread ≡ 0) wher
   -- what a rule decided, carried out
   pub settle-ended : (word : LockWord) (action : Action) (number : ℕ) → Ends (sightOf table (objectAt table o) word) action number
       → Ended table thread (settleOf table thread o (objectAt table o) action) number
-  unfolding settleOf returnedOf answerNumberOf
+  unfolding settleOf returnedOf
   settle-ended word Unruled number ends = record { refused = sym ends; left = λ high. refl }
   settle-ended word (Do effect) number ends = at (effect .answer) ends
     where

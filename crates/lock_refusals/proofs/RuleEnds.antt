@@ -11,7 +11,7 @@ use Rattle.laws.specs.Choice.{pick, both}
 use Rattle.laws.proofs.Choice.{Equal, equal, Below, below}
 use Rattle.lock_rules.specs.Actions.{keep-object, finish-depth, become-holder}
 use Rattle.lock_rules.specs.Limits.{depth-limit, count-limit}
-use Rattle.lock_rules.specs.Ownership.{owner-of}
+use Rattle.lock_word.specs.Meaning.{owner-of}
 use Rattle.lock_rules.specs.Rules.{
   holder-only,
   owner-only,
@@ -40,8 +40,8 @@ use Rattle.lock_rules.specs.declared.Carried.{Carried}
 use Rattle.lock_rules.specs.declared.Doing.{Doing}
 use Rattle.lock_rules.specs.declared.Doing.the-variants.{EnterCheck}
 use Rattle.lock_rules.specs.declared.ThreadState.the-variants.{Idle, Queued}
-use Rattle.lock_rules.specs.declared.WordSeen.{WordSeen}
-use Rattle.lock_rules.specs.declared.WordSeen.the-variants.{Free, Anonymous, Fat, Flat, Reserved}
+use Rattle.lock_word.specs.declared.meaning.WordSeen.{WordSeen}
+use Rattle.lock_word.specs.declared.meaning.WordSeen.the-variants.{Free, Anonymous, Fat, Flat, Reserved}
 use Rattle.lock_rules.specs.declared.WordChange.the-variants.{Unchanged}
 use Rattle.lock_rules.specs.declared.Sight.{Sight}
 use Rattle.lock_rules.specs.declared.ChainAction.the-variants.{Stay, JoinEntry}

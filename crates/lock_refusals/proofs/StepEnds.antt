@@ -6,12 +6,11 @@ use mathlib.Core.Bool.{Bool, true, false}
 use mathlib.Core.List.{List, [], _∷_}
 use lib.Dec.{eqb}
 use Rattle.laws.specs.Choice.{pick}
-use Rattle.lock_word.specs.Meaning.{unowned, ownershipOf}
+use Rattle.lock_word.specs.Meaning.{seenOf, owner-of, depth-of}
+use Rattle.lock_word.proofs.Ownership.{owner-owned}
 use Rattle.lock_word.specs.declared.reading.LockWord.{LockWord}
-use Rattle.lock_word.specs.declared.reading.LockWord.the-variants.{Free, Flat, Anonymous, Reserved, Fat}
 use Rattle.lock_word.specs.declared.reading.Decoded.the-variants.{Valid}
 use Rattle.lock_rules.specs.Limits.{depth-limit}
-use Rattle.lock_rules.specs.Ownership.{owner-of}
 use Rattle.lock_rules.specs.Rules.{owner-seen, decide}
 use Rattle.lock_rules.specs.declared.Carried.the-variants.{ToTell, ToInflate}
 use Rattle.lock_rules.specs.declared.Doing.{Doing}
@@ -25,8 +24,8 @@ use Rattle.lock_table.specs.declared.record.Monitor.{Monitor}
 use Rattle.lock_table.specs.declared.record.ObjectRecord.{ObjectRecord}
 use Rattle.lock_table.specs.declared.record.Table.{Table}
 use Rattle.lock_perform.specs.State.{doingRecordOf}
-use Rattle.lock_perform.specs.Sight.{seenOf, sightOf}
-use Rattle.lock_records.specs.Agrees.{ownership-in}
+use Rattle.lock_perform.specs.Sight.{sightOf}
+use Rattle.lock_table.specs.Ownership.{ownership-in}
 use Rattle.lock_refusals.specs.Refusals.{Row, row, first-applies, parked, not-the-owner, too-deep, unruled}
 use Rattle.lock_refusals.proofs.RuleEnds.{
   Ends,
@@ -66,18 +65,10 @@ rule-refusals thread operation phase owner monitor none =
     ∷ row 20 none
     ∷ []
 
-owned : (thread depth : ℕ) (none : Bool) → pick none unowned (record { thread = thread; depth = depth }) .thread ≡ pick none 0 thread
-owned thread depth true = refl
-owned thread depth false = refl
-
 -- the owner by an object's word is the one that the rules see
 owner-is : (word : LockWord) (monitor : Monitor) → ownership-in (Valid word) monitor .thread ≡ owner-of (seenOf word) (monitor .holder) (monitor .depth)
-unfolding ownershipOf seenOf
-owner-is Free monitor = refl
-owner-is (Flat thread count) monitor = refl
-owner-is Anonymous monitor = refl
-owner-is (Reserved thread count) monitor = owned (thread .0) count (eqb count 0)
-owner-is (Fat number) monitor = owned (monitor .holder) (monitor .depth) (eqb (monitor .depth) 0)
+unfolding ownership-in
+owner-is word monitor = owner-owned (owner-of (seenOf word) (monitor .holder) (monitor .depth)) (depth-of (seenOf word) (monitor .depth))
 
 -- what a thread of this number sees of an object, doing this
 module _ (table : Table) (object : ObjectRecord) (word : LockWord) (thread : ℕ) (some : thread ≢ 0) (small : object .monitor .depth ≤ depth-limit) where

@@ -27,9 +27,9 @@ use Rattle.lock_soundness.specs.Meaning.{Within, WordFits}
 use Rattle.laws.proofs.Facts.{reads-within}
 use Rattle.lock_soundness.proofs.Reading.{sound-reads}
 use Rattle.lock_engine.specs.Outcome.{refusalNumberOf}
-use Rattle.lock_engine.specs.Step.{stepOf, stepGated, stepRanged, stepThread, stepWord}
+use Rattle.lock_engine.specs.Step.{stepOf, stepTrusting, stepRanged, stepThread, stepWord}
 use Rattle.lock_engine.specs.declared.outcome.Refusal.the-variants.{NotSound, NoSuchThread, ThreadIdle, ThreadParked}
-use Rattle.lock_records.specs.Agrees.{ownership-in, ownership-at}
+use Rattle.lock_table.specs.Ownership.{ownership-in, ownership-at}
 use Rattle.record_soundness.proofs.ReadBack.{IsWritten, state-back}
 use Rattle.record_soundness.proofs.EveryNumber.{written-at, running-next}
 use Rattle.lock_table.specs.Whole.{Whole}
@@ -99,7 +99,7 @@ module _ (table : Table) (whole : Whole table) (sound : soundOf table ≡ true) 
 
 -- 11 and 12
 pub step-ended : (table : Table) → Whole table → (thread : ℕ) → Ended table thread (stepOf table thread) (first-applies (step-refusals table thread))
-unfolding stepOf stepGated stepRanged refusalNumberOf
+unfolding stepOf stepTrusting stepRanged refusalNumberOf
 step-ended table whole thread = gated (soundOf table) refl
   where
     ranged : soundOf table ≡ true → (real : Bool) → within 1 (table .threadcount) thread ≡ real
@@ -111,7 +111,7 @@ step-ended table whole thread = gated (soundOf table) refl
     ranged sound false is = refuse-ended table thread NoSuchThread
 
     gated : (sound : Bool) → soundOf table ≡ sound
-        → Ended table thread (stepGated table thread sound)
+        → Ended table thread (stepTrusting table thread sound)
         (pick (not sound) 11
         (pick (not (within 1 (table .threadcount) thread)) 12 (from-state table thread (threadAt table thread) (stateOf (threadAt table thread)))))
     gated true is = ranged is (within 1 (table .threadcount) thread) refl

@@ -10,7 +10,8 @@ use Rattle.lock_rules.specs.Events.{Begin, Step}
 use Rattle.lock_rules.specs.declared.Answer.{Answer}
 use Rattle.lock_rules.specs.declared.Answer.the-variants.{GoneOn, Finished, Parked, NotOwner, TooDeep, NoRule}
 use Rattle.lock_table.specs.declared.record.Table.{Table}
-use Rattle.lock_engine.specs.Outcome.{refusalNumberOf, answerNumberOf, returnedOf}
+use Rattle.lock_rules.specs.Numbers.{returned-of}
+use Rattle.lock_engine.specs.Outcome.{refusalNumberOf, returnedOf}
 use Rattle.lock_engine.specs.Begin.{beginOf}
 use Rattle.lock_engine.specs.Step.{stepOf}
 use Rattle.lock_engine.specs.declared.outcome.Refusal.{Refusal}
@@ -61,8 +62,7 @@ refusal-high ThreadIdle = omega arith
 refusal-high ThreadParked = omega arith
 refusal-high NoSuchOperation = omega arith
 
-answer-range : (answer : Answer) → (answerNumberOf answer ≤ 2) ⊎ (11 ≤ answerNumberOf answer)
-unfolding answerNumberOf
+answer-range : (answer : Answer) → (returned-of answer ≤ 2) ⊎ (11 ≤ returned-of answer)
 answer-range GoneOn = inl (omega arith)
 answer-range (Finished woken) = inl (omega arith)
 answer-range Parked = inl (omega arith)

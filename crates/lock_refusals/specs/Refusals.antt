@@ -25,7 +25,7 @@ use Rattle.lock_table.specs.declared.record.Table.{Table}
 use Rattle.lock_perform.specs.State.{stateOf}
 use Rattle.lock_perform.specs.Sight.{sightOf}
 use Rattle.lock_soundness.specs.Sound.{soundOf}
-use Rattle.lock_records.specs.Agrees.{ownership-at}
+use Rattle.lock_table.specs.Ownership.{ownership-at}
 
 -- one refusal: its number, and whether it applies
 pub record Row : Type 0 where

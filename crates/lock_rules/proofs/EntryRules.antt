@@ -10,7 +10,7 @@ use Rattle.laws.specs.Update.{update}
 use Rattle.laws.proofs.Choice.{by-below, by-equal}
 use Rattle.laws.proofs.Count.{count-joined}
 use Rattle.lock_rules.specs.Limits.{depth-limit}
-use Rattle.lock_rules.specs.Ownership.{owner-of}
+use Rattle.lock_word.specs.Meaning.{owner-of}
 use Rattle.lock_rules.specs.Actions.{keep-object, inflate, become-holder, raise-flag}
 use Rattle.lock_rules.specs.Rules.{onward, go-in-again, go-in, enter-check, enter-try}
 use Rattle.lock_rules.specs.Operations.{Operation}
@@ -20,8 +20,8 @@ use Rattle.lock_rules.specs.declared.Carried.the-variants.{ToCheck, ToTe
 use Rattle.lock_rules.specs.declared.Doing.{Doing}
 use Rattle.lock_rules.specs.declared.Doing.the-variants.{EnterGoIn, EnterCheck, EnterTry, ExitGoIn, WaitGoIn}
 use Rattle.lock_rules.specs.declared.ThreadState.the-variants.{Idle, Running, Queued, Contending}
-use Rattle.lock_rules.specs.declared.WordSeen.{WordSeen}
-use Rattle.lock_rules.specs.declared.WordSeen.the-variants.{Free, Anonymous, Fat, Flat, Reserved}
+use Rattle.lock_word.specs.declared.meaning.WordSeen.{WordSeen}
+use Rattle.lock_word.specs.declared.meaning.WordSeen.the-variants.{Free, Anonymous, Fat, Flat, Reserved}
 use Rattle.lock_rules.specs.declared.ChainAction.the-variants.{JoinEntry}
 use Rattle.lock_rules.specs.declared.Answer.the-variants.{GoneOn, Finished, Parked, TooDeep}
 use Rattle.lock_rules.specs.PlainMonitor.{owned-by, finished, commit}

@@ -19,8 +19,8 @@ use Rattle.lock_rules.specs.declared.Carried.{Carried}
 use Rattle.lock_rules.specs.declared.Carried.the-variants.{ToCheck, ToTell, ToInflate, ToResume}
 use Rattle.lock_rules.specs.declared.Doing.the-variants.{ExitGoIn, ExitTest, ExitTell, ExitLeave}
 use Rattle.lock_rules.specs.declared.ThreadState.the-variants.{Idle, Running, Queued}
-use Rattle.lock_rules.specs.declared.WordSeen.{WordSeen}
-use Rattle.lock_rules.specs.declared.WordSeen.the-variants.{Free, Anonymous, Fat, Flat, Reserved}
+use Rattle.lock_word.specs.declared.meaning.WordSeen.{WordSeen}
+use Rattle.lock_word.specs.declared.meaning.WordSeen.the-variants.{Free, Anonymous, Fat, Flat, Reserved}
 use Rattle.lock_rules.specs.declared.Answer.the-variants.{GoneOn, Finished}
 use Rattle.lock_rules.proofs.Objects.{ListObject, object-of, sight-of}
 use Rattle.lock_rules.proofs.Perform.{enter-queue, count-entered-other, handed-object, handed-states}

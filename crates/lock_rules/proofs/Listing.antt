@@ -7,8 +7,8 @@ use Rattle.laws.specs.Update.{update}
 use Rattle.laws.specs.Count.{count}
 use Rattle.lock_rules.specs.Numbers.{asked-for, phase-of}
 use Rattle.lock_rules.specs.Rules.{enter-look, exit-owned, go-in-again, go-in, enter-check, enter-try, exit-test, exit-tell, exit-leave, decide}
-use Rattle.lock_rules.specs.declared.WordSeen.{WordSeen}
-use Rattle.lock_rules.specs.declared.WordSeen.the-variants.{Free, Anonymous, Fat, Flat, Reserved}
+use Rattle.lock_word.specs.declared.meaning.WordSeen.{WordSeen}
+use Rattle.lock_word.specs.declared.meaning.WordSeen.the-variants.{Free, Anonymous, Fat, Flat, Reserved}
 use Rattle.lock_rules.specs.Events.{Event, Begin, Step, returned, woken}
 use Rattle.lock_rules.proofs.Perform.{enter-queue, enter-queue-all}
 use Rattle.lock_rules.proofs.Tables.{ListTable, turn, fresh}

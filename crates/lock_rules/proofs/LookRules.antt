@@ -14,7 +14,7 @@ use Rattle.laws.proofs.Choice.{Equal, equal, by-equal, by-below}
 use Rattle.laws.proofs.Update.{update-same}
 use Rattle.laws.proofs.Count.{count-none}
 use Rattle.lock_rules.specs.Limits.{count-limit}
-use Rattle.lock_rules.specs.Ownership.{owner-of, depth-of}
+use Rattle.lock_word.specs.Meaning.{owner-of, depth-of}
 use Rattle.lock_rules.specs.Actions.{let-go}
 use Rattle.lock_rules.specs.Rules.{owner-seen, enter-look, exit-owned, wait-owned, owner-only}
 use Rattle.lock_rules.specs.Changes.{word-after}
@@ -23,8 +23,8 @@ use Rattle.lock_rules.specs.declared.Doing.{Doing}
 use Rattle.lock_rules.specs.declared.Doing.the-variants.{EnterLook, EnterStore, EnterCancel, EnterGoIn, ExitLook, ExitStore, ExitTest, ExitLeave}
 use Rattle.lock_rules.specs.declared.Doing.the-variants.{WaitLook, WaitCancel, WaitGoIn, WaitGiveUp}
 use Rattle.lock_rules.specs.declared.ThreadState.the-variants.{Running}
-use Rattle.lock_rules.specs.declared.WordSeen.{WordSeen}
-use Rattle.lock_rules.specs.declared.WordSeen.the-variants.{Free, Anonymous, Fat, Flat, Reserved}
+use Rattle.lock_word.specs.declared.meaning.WordSeen.{WordSeen}
+use Rattle.lock_word.specs.declared.meaning.WordSeen.the-variants.{Free, Anonymous, Fat, Flat, Reserved}
 use Rattle.lock_rules.specs.declared.WordChange.{WordChange}
 use Rattle.lock_rules.specs.declared.WordChange.the-variants.{Unchanged, Freed, OwnFlat, OwnReserved}
 use Rattle.lock_rules.specs.declared.Answer.the-variants.{GoneOn}

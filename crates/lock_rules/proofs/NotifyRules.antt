@@ -18,8 +18,8 @@ use Rattle.lock_rules.specs.Changes.{notified}
 use Rattle.lock_rules.specs.Operations.{Notify, NotifyAll}
 use Rattle.lock_rules.specs.declared.Doing.the-variants.{NotifyLook, NotifyAllLook}
 use Rattle.lock_rules.specs.declared.ThreadState.the-variants.{Idle, Waiting}
-use Rattle.lock_rules.specs.declared.WordSeen.{WordSeen}
-use Rattle.lock_rules.specs.declared.WordSeen.the-variants.{Free, Anonymous, Fat, Flat, Reserved}
+use Rattle.lock_word.specs.declared.meaning.WordSeen.{WordSeen}
+use Rattle.lock_word.specs.declared.meaning.WordSeen.the-variants.{Free, Anonymous, Fat, Flat, Reserved}
 use Rattle.lock_rules.specs.declared.ChainAction.the-variants.{WakeFirst, WakeAll}
 use Rattle.lock_rules.specs.declared.Answer.the-variants.{Finished}
 use Rattle.lock_rules.specs.PlainMonitor.{wake-first, above-zero, wake-all}

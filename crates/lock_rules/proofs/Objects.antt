@@ -3,8 +3,8 @@ use Prim.Native.Nat.{ℕ}
 use mathlib.Core.Bool.{Bool, true, false}
 use mathlib.Core.List.{List, [], _∷_}
 use lib.ListN.{length}
-use Rattle.lock_rules.specs.Ownership.{owner-of, depth-of}
-use Rattle.lock_rules.specs.declared.WordSeen.{WordSeen}
+use Rattle.lock_word.specs.Meaning.{owner-of, depth-of}
+use Rattle.lock_word.specs.declared.meaning.WordSeen.{WordSeen}
 use Rattle.lock_rules.specs.declared.Sight.{Sight}
 
 pub record ListObject : Type 0 where

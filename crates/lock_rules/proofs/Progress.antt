@@ -7,12 +7,12 @@ use native.Mathlib.Omega.{arith}
 use lib.Dec.{T}
 use Rattle.laws.specs.Count.{count}
 use Rattle.laws.proofs.Count.{count-none}
-use Rattle.lock_rules.specs.Ownership.{owner-of}
+use Rattle.lock_word.specs.Meaning.{owner-of}
 use Rattle.lock_rules.specs.Status.{parked-for-entry, unparked, unfinished}
 use Rattle.lock_rules.specs.declared.ThreadState.{ThreadState}
 use Rattle.lock_rules.specs.declared.ThreadState.the-variants.{Idle, Running, Queued, Contending, Waiting}
-use Rattle.lock_rules.specs.declared.WordSeen.{WordSeen}
-use Rattle.lock_rules.specs.declared.WordSeen.the-variants.{Free, Anonymous, Fat, Flat, Reserved}
+use Rattle.lock_word.specs.declared.meaning.WordSeen.{WordSeen}
+use Rattle.lock_word.specs.declared.meaning.WordSeen.the-variants.{Free, Anonymous, Fat, Flat, Reserved}
 use Rattle.lock_rules.proofs.Objects.{ListObject, object-owner}
 use Rattle.lock_rules.proofs.Invariant.{seat, telling?, Seated, NotOwn, Ghost, ThreadOk, MonitorOk, Told, Unstranded, Invariant}
 use Rattle.lock_rules.proofs.SharedFacts.{fat-owner}

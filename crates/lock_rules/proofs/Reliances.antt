@@ -14,8 +14,8 @@ use Rattle.lock_rules.specs.declared.Doing.the-variants.{ExitGoIn, ExitT
 use Rattle.lock_rules.specs.declared.Doing.the-variants.{WaitGiveUp, WaitResume, NotifyLook, NotifyAllLook}
 use Rattle.lock_rules.specs.declared.ThreadState.{ThreadState}
 use Rattle.lock_rules.specs.declared.ThreadState.the-variants.{Idle, Running, Queued, Contending, Waiting}
-use Rattle.lock_rules.specs.declared.WordSeen.{WordSeen}
-use Rattle.lock_rules.specs.declared.WordSeen.the-variants.{Free, Anonymous, Fat, Flat, Reserved}
+use Rattle.lock_word.specs.declared.meaning.WordSeen.{WordSeen}
+use Rattle.lock_word.specs.declared.meaning.WordSeen.the-variants.{Free, Anonymous, Fat, Flat, Reserved}
 use Rattle.lock_rules.proofs.Invariant.{Seat, outside, parked, telling, holding, leaving, owning, Reliance, anything, unreserved, own-flat}
 use Rattle.lock_rules.proofs.Invariant.{held-fat, trying, kept-to-enter, kept-to-exit, phase-row, in-entry, in-contention, in-waiting}
 use Rattle.lock_rules.proofs.Invariant.{Seated, Unreserved, FlatOf, IsFat, NotOwn, KeptWord, ReliesOn, Relies}

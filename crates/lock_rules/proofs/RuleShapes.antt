@@ -20,8 +20,8 @@ use Rattle.lock_rules.specs.declared.Suspension.{Suspension}
 use Rattle.lock_rules.specs.declared.Doing.{Doing}
 use Rattle.lock_rules.specs.declared.ThreadState.{ThreadState}
 use Rattle.lock_rules.specs.declared.ThreadState.the-variants.{Idle, Running}
-use Rattle.lock_rules.specs.declared.WordSeen.{WordSeen}
-use Rattle.lock_rules.specs.declared.WordSeen.the-variants.{Fat}
+use Rattle.lock_word.specs.declared.meaning.WordSeen.{WordSeen}
+use Rattle.lock_word.specs.declared.meaning.WordSeen.the-variants.{Fat}
 use Rattle.lock_rules.specs.declared.WordChange.{WordChange}
 use Rattle.lock_rules.specs.declared.ChainAction.the-variants.{Stay}
 use Rattle.lock_rules.specs.declared.Answer.{Answer}

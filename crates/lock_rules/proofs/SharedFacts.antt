@@ -14,13 +14,13 @@ use Rattle.laws.specs.Count.{count}
 use Rattle.laws.proofs.Choice.{equal?, Equal, equal}
 use Rattle.laws.proofs.Update.{update-same, update-other}
 use Rattle.laws.proofs.Count.{count-same}
-use Rattle.lock_rules.specs.Ownership.{owner-of}
+use Rattle.lock_word.specs.Meaning.{owner-of}
 use Rattle.lock_rules.specs.Changes.{handed, notified}
 use Rattle.lock_rules.specs.declared.Suspension.{Suspension}
 use Rattle.lock_rules.specs.declared.ThreadState.{ThreadState}
 use Rattle.lock_rules.specs.declared.ThreadState.the-variants.{Idle}
-use Rattle.lock_rules.specs.declared.WordSeen.{WordSeen}
-use Rattle.lock_rules.specs.declared.WordSeen.the-variants.{Free, Anonymous, Fat, Flat, Reserved}
+use Rattle.lock_word.specs.declared.meaning.WordSeen.{WordSeen}
+use Rattle.lock_word.specs.declared.meaning.WordSeen.the-variants.{Free, Anonymous, Fat, Flat, Reserved}
 use Rattle.lock_rules.specs.PlainMonitor.{PlainMonitor, above-zero}
 use Rattle.lock_rules.proofs.Objects.{ListObject}
 use Rattle.lock_rules.proofs.Perform.{enter-queue, entered≢nil, handed-states, admitted-states, all-notified-states}

@@ -8,7 +8,7 @@ use lib.Dec.{eqb, ltb}
 use Rattle.laws.specs.Choice.{pick, both}
 use Rattle.laws.proofs.Choice.{by-equal, by-below}
 use Rattle.lock_rules.specs.Limits.{depth-limit, count-limit}
-use Rattle.lock_rules.specs.Ownership.{owner-of}
+use Rattle.lock_word.specs.Meaning.{owner-of}
 use Rattle.lock_rules.specs.Actions.{keep-object, go-on, finish-word, finish-depth, let-go, inflate, raise-flag}
 use Rattle.lock_rules.specs.Rules.{deflation, onward, owner-seen, enter-look, exit-owned, wait-owned, notify-owned, notify-all-owned, owner-only}
 use Rattle.lock_rules.specs.Rules.{enter-store, exit-store, cancel, go-in-again, go-in, holder-only, enter-check, enter-try, exit-test, exit-tell}
@@ -22,8 +22,8 @@ use Rattle.lock_rules.specs.declared.Doing.the-variants.{ExitGoIn, ExitT
 use Rattle.lock_rules.specs.declared.Doing.the-variants.{WaitGiveUp, WaitResume, NotifyLook, NotifyAllLook}
 use Rattle.lock_rules.specs.declared.ThreadState.{ThreadState}
 use Rattle.lock_rules.specs.declared.ThreadState.the-variants.{Idle, Running, Queued, Contending, Waiting}
-use Rattle.lock_rules.specs.declared.WordSeen.{WordSeen}
-use Rattle.lock_rules.specs.declared.WordSeen.the-variants.{Free, Anonymous, Fat, Flat, Reserved}
+use Rattle.lock_word.specs.declared.meaning.WordSeen.{WordSeen}
+use Rattle.lock_word.specs.declared.meaning.WordSeen.the-variants.{Free, Anonymous, Fat, Flat, Reserved}
 use Rattle.lock_rules.specs.declared.WordChange.{WordChange}
 use Rattle.lock_rules.specs.declared.WordChange.the-variants.{Unchanged, Freed, OwnFlat, OwnReserved, Cancelled, Inflated}
 use Rattle.lock_rules.specs.declared.Sight.{Sight}

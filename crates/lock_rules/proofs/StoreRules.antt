@@ -9,15 +9,16 @@ use Rattle.laws.specs.Choice.{pick}
 use Rattle.laws.specs.Update.{update}
 use Rattle.laws.proofs.Choice.{Equal, equal, by-equal, by-below}
 use Rattle.lock_rules.specs.Limits.{count-limit}
-use Rattle.lock_rules.specs.Ownership.{owner-of}
+use Rattle.lock_word.specs.Meaning.{owner-of}
 use Rattle.lock_rules.specs.Rules.{enter-store, exit-store, cancel}
-use Rattle.lock_rules.specs.Changes.{cancelled, sent-back}
+use Rattle.lock_word.specs.Meaning.{cancelled}
+use Rattle.lock_rules.specs.Changes.{sent-back}
 use Rattle.lock_rules.specs.Operations.{Enter, Exit}
 use Rattle.lock_rules.specs.declared.Doing.{Doing}
 use Rattle.lock_rules.specs.declared.Doing.the-variants.{EnterStore, ExitStore}
 use Rattle.lock_rules.specs.declared.ThreadState.the-variants.{Running}
-use Rattle.lock_rules.specs.declared.WordSeen.{WordSeen}
-use Rattle.lock_rules.specs.declared.WordSeen.the-variants.{Free, Anonymous, Fat, Flat, Reserved}
+use Rattle.lock_word.specs.declared.meaning.WordSeen.{WordSeen}
+use Rattle.lock_word.specs.declared.meaning.WordSeen.the-variants.{Free, Anonymous, Fat, Flat, Reserved}
 use Rattle.lock_rules.specs.declared.WordChange.the-variants.{OwnReserved}
 use Rattle.lock_rules.specs.declared.Answer.the-variants.{GoneOn}
 use Rattle.lock_rules.specs.PlainMonitor.{PlainMonitor, Committed, owned-by, finished, commit}

@@ -13,8 +13,8 @@ use Rattle.lock_rules.specs.Operations.{Wait}
 use Rattle.lock_rules.specs.declared.Suspension.{Suspension}
 use Rattle.lock_rules.specs.declared.Doing.the-variants.{WaitInflate, WaitGiveUp, WaitResume}
 use Rattle.lock_rules.specs.declared.ThreadState.the-variants.{Running, Waiting}
-use Rattle.lock_rules.specs.declared.WordSeen.{WordSeen}
-use Rattle.lock_rules.specs.declared.WordSeen.the-variants.{Free, Anonymous, Fat, Flat, Reserved}
+use Rattle.lock_word.specs.declared.meaning.WordSeen.{WordSeen}
+use Rattle.lock_word.specs.declared.meaning.WordSeen.the-variants.{Free, Anonymous, Fat, Flat, Reserved}
 use Rattle.lock_rules.specs.declared.Answer.the-variants.{GoneOn, Parked}
 use Rattle.lock_rules.specs.PlainMonitor.{finished, give-up}
 use Rattle.lock_rules.proofs.Commits.{commit-give-up, commit-resume}

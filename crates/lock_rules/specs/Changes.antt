@@ -1,7 +1,6 @@
 -- What an effect does to the lock word, and what the chain actions do to the threads that they move: document 01, "Steps".
-use Prim.Native.Nat.{ℕ, _-_}
-use lib.Dec.{eqb}
-use Rattle.laws.specs.Choice.{pick}
+use Prim.Native.Nat.{ℕ}
+use Rattle.lock_word.specs.Meaning.{cancelled}
 use Rattle.lock_rules.specs.Rules.{onward}
 use Rattle.lock_rules.specs.declared.Carried.the-variants.{ToResume}
 use Rattle.lock_rules.specs.declared.Doing.{Doing}
@@ -10,18 +9,10 @@ use Rattle.lock_rules.specs.declared.Doing.the-variants.{ExitStore, Exit
 use Rattle.lock_rules.specs.declared.Doing.the-variants.{WaitInflate, WaitGiveUp, WaitResume, NotifyLook, NotifyAllLook}
 use Rattle.lock_rules.specs.declared.ThreadState.{ThreadState}
 use Rattle.lock_rules.specs.declared.ThreadState.the-variants.{Idle, Running, Queued, Contending, Waiting}
-use Rattle.lock_rules.specs.declared.WordSeen.{WordSeen}
-use Rattle.lock_rules.specs.declared.WordSeen.the-variants.{Free, Anonymous, Fat, Flat, Reserved}
+use Rattle.lock_word.specs.declared.meaning.WordSeen.{WordSeen}
+use Rattle.lock_word.specs.declared.meaning.WordSeen.the-variants.{Free, Fat, Flat, Reserved}
 use Rattle.lock_rules.specs.declared.WordChange.{WordChange}
 use Rattle.lock_rules.specs.declared.WordChange.the-variants.{Unchanged, Freed, OwnFlat, OwnReserved, Cancelled, Inflated}
-
--- a reserved word with count c becomes free if c is 0, else flat for its thread with count c - 1; a word not reserved stays
-abbrev pub cancelled : WordSeen → WordSeen
-cancelled Free = Free
-cancelled Anonymous = Free
-cancelled Fat = Fat
-cancelled (Flat thread count) = Flat thread count
-cancelled (Reserved thread count) = pick (eqb count 0) Free (Flat thread (count - 1))
 
 -- the word after a step of `thread`
 abbrev pub word-after : ℕ → WordChange → WordSeen → WordSeen

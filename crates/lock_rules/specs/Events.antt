@@ -2,6 +2,7 @@
 use Prim.Native.Nat.{ℕ}
 use mathlib.Core.Bool.{Bool}
 use Rattle.lock_rules.specs.declared.Answer.{Answer}
+use Rattle.lock_rules.specs.declared.Answer.the-variants.{GoneOn}
 use Rattle.lock_rules.specs.Numbers.{returned-of, woken-of}
 
 pub data Event : Type 0 where
@@ -17,14 +18,14 @@ pub data Reply : Type 0 where
   -- a step's answer, and whether the step was marked (c)
   Answered : Answer → Bool → Reply
 
--- document 01, "Returned first"
+-- document 01, "Returned first": "begun, or gone on"
 abbrev pub returned : Reply → ℕ
-returned Begun = 0
+returned Begun = returned-of GoneOn
 returned (Refused number) = number
 returned (Answered answer commits) = returned-of answer
 
 abbrev pub woken : Reply → ℕ
-woken Begun = 0
+woken Begun = woken-of GoneOn
 woken (Refused number) = 0
 woken (Answered answer commits) = woken-of answer
 

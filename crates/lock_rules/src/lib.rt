@@ -1,5 +1,6 @@
 // What a thread is doing, what it sees of its object, and what a step decides: document 01, "The table" and "Steps".
 // Nothing here knows of tables or of the links of a chain.
+use lock_word::WordSeen;
 
 // The greatest depth of a monitor: an enter at it is 19.
 pub const DEPTH_LIMIT: u16 = 65535;
@@ -48,15 +49,6 @@ pub enum ThreadState {
     Queued(Carried), // 5, in the entry chain
     Contending, // 8, in the contention chain
     Waiting(Suspension), // 14, in the waiting chain
-}
-
-// A lock word as the rules see it. The numbers are a thread and a count; a fat word's number is its object.
-pub enum WordSeen {
-    Free,
-    Anonymous, // reserved for nobody yet
-    Fat,
-    Flat(u16, u8), // owned by the thread, at depth count + 1
-    Reserved(u16, u8), // reserved for the thread, and owned by it at depth count if that is above 0
 }
 
 // What a rule does to the word. A rule puts no thread but its own into a word.

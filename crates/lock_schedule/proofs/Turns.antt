@@ -29,8 +29,8 @@ use Rattle.lock_soundness.specs.Sound.{soundOf}
 use Rattle.lock_records.proofs.Operations.{operation-of, asked-of, asked-from}
 use Rattle.lock_records.proofs.RecordKind.{record-kind, step-acts, step-reads}
 use Rattle.lock_engine.specs.Outcome.{refusalNumberOf}
-use Rattle.lock_engine.specs.Begin.{beginOf, beginGated, beginRanged, beginOperation, beginObject, beginThread}
-use Rattle.lock_engine.specs.Step.{stepOf, stepGated, stepRanged, stepThread, stepWord, settleOf}
+use Rattle.lock_engine.specs.Begin.{beginOf, beginTrusting, beginRanged, beginOperation, beginObject, beginThread}
+use Rattle.lock_engine.specs.Step.{stepOf, stepTrusting, stepRanged, stepThread, stepWord, settleOf}
 use Rattle.lock_engine.specs.declared.outcome.Outcome.{Outcome}
 use Rattle.lock_schedule.specs.Schedule.{eventOf, replyShown}
 
@@ -96,9 +96,9 @@ module _ (t : Table) where
 
   -- 12, and 11 does not apply
   pub event-is-turn : soundOf t ≡ true → (event : Event) → turn-of (eventOf t event) ≡ turn-on record-kind (t .threadcount) (t .objectcount) t event
-  unfolding beginOf beginGated beginRanged stepOf stepGated stepRanged refusalNumberOf
+  unfolding beginOf beginTrusting beginRanged stepOf stepTrusting stepRanged refusalNumberOf
   event-is-turn sound (Begin number thread object) =
-      ap (λ (b : Bool). turn-of (beginGated t thread number object b)) sound ∙ ranged (within 1 (t .threadcount) thread)
+      ap (λ (b : Bool). turn-of (beginTrusting t thread number object b)) sound ∙ ranged (within 1 (t .threadcount) thread)
     where
       ranged : (b : Bool) → turn-of (beginRanged t thread number object b)
           ≡ pick b (begin-asked record-kind (t .objectcount) t (asked-for number) thread object) (refuse record-kind t 12)
@@ -106,7 +106,7 @@ module _ (t : Table) where
           operation-begins (operationFromOf number) thread object
           ∙ ap (λ (asked : Asked). begin-asked record-kind (t .objectcount) t asked thread object) (sym (asked-from number))
       ranged false = refl
-  event-is-turn sound (Step thread) = ap (λ (b : Bool). turn-of (stepGated t thread b)) sound ∙ ranged (within 1 (t .threadcount) thread)
+  event-is-turn sound (Step thread) = ap (λ (b : Bool). turn-of (stepTrusting t thread b)) sound ∙ ranged (within 1 (t .threadcount) thread)
     where
       ranged : (b : Bool) → turn-of (stepRanged t thread b)
           ≡ pick b (step-thread record-kind t thread (stateOf (threadAt t thread))) (refuse record-kind t 12)

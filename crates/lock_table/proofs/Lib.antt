@@ -3,3 +3,4 @@ pub mod Records
 pub mod Walks
 pub mod FreshObjects
 pub mod Owned
+pub mod Narrowed

@@ -7,7 +7,7 @@ use crate::record::no_object;
 use crate::record::no_thread;
 ghost use mathlib.Core.Path.{_≡_};
 ghost use Prim.Native.Nat.{_≤_};
-ghost use Rattle.lock_table.specs.Fresh.{freshOf, refusedOf, madeOf, firstWordOf, freshObjectsOf};
+ghost use Rattle.lock_table.specs.Fresh.{freshOf, freshReturnedOf, refusedOf, madeOf, firstWordOf, freshObjectsOf};
 
 pub enum FreshAnswer {
     Made,
@@ -94,4 +94,14 @@ pub fn fresh(threads: u16, objects: u16, reserved: bool) -> FreshTable
         return refused();
     }
     made(threads as u8, objects as u8, first_word(reserved))
+}
+
+// The number returned.
+pub fn fresh_returned(answer: FreshAnswer) -> u8
+    ensures { λ r. ⌜ r ≡ freshReturnedOf answer ⌝ }
+{
+    match answer {
+        FreshAnswer::Made => 0,
+        FreshAnswer::SizeOutOfRange => 22,
+    }
 }

@@ -4,7 +4,7 @@ use Prim.Native.Nat.{ℕ}
 use mathlib.Core.Path.{_≡_}
 use mathlib.Core.List.{List, [], _∷_}
 use Rattle.lock_word.specs.Read.{decodeOf, threadNumber}
-use Rattle.lock_word.specs.Meaning.{ownershipOf, cancelOf}
+use Rattle.lock_word.specs.Meaning.{seenOf, ownershipOf, cancelOf}
 use Rattle.lock_word.specs.declared.reading.LockWord.{LockWord}
 use Rattle.lock_word.specs.declared.reading.LockWord.the-variants.{Flat, Reserved}
 use Rattle.lock_word.specs.declared.reading.Decoded.the-variants.{Valid, Invalid}
@@ -17,9 +17,16 @@ abbrev pub AllHold : List Case → Type 0
 AllHold [] = Unit
 AllHold (row ∷ rows) = row .states × AllHold rows
 
--- the word means this, and so its thread owns the object at this depth
+-- which cases the rows are about, row by row
+abbrev pub case-numbers : List Case → List ℕ
+case-numbers [] = []
+case-numbers (row ∷ rows) = row .number ∷ case-numbers rows
+
+-- the word means this, and so its thread owns the object at this depth, whatever the monitor says
 abbrev pub Means : ℕ → LockWord → ℕ → ℕ → Type 0
-Means word meaning thread depth = (decodeOf word ≡ Valid meaning) × (ownershipOf meaning ≡ record { thread = thread; depth = depth })
+Means word meaning thread depth =
+    (decodeOf word ≡ Valid meaning)
+    × ((holder deep : ℕ) → ownershipOf (seenOf meaning) holder deep ≡ record { thread = thread; depth = depth })
 
 abbrev pub Cancels : ℕ → ℕ → Type 0
 Cancels word after = cancelOf word ≡ after

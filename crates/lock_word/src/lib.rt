@@ -15,13 +15,16 @@ mod writing;
 
 pub use layout::COUNT_LIMIT;
 pub use meaning::Ownership;
+pub use meaning::WordSeen;
 pub use meaning::cancel;
-pub use meaning::owner_by_word;
+pub use meaning::kept_count;
+pub use meaning::owner_of;
+pub use meaning::ownership_of;
+pub use meaning::seen_word;
 pub use reading::Decoded;
 pub use reading::LockWord;
 pub use reading::MonitorNumber;
 pub use reading::ThreadNumber;
-pub use reading::count_of;
 pub use reading::read_word;
 pub use writing::anonymous_word;
 pub use writing::fat_word;

@@ -1,11 +1,9 @@
 // The word reader. Thread numbers and monitor numbers are made here alone, each by the reader of its kind of word.
 use crate::kinds::KINDS;
-use crate::layout::COUNT_UNIT;
 use crate::layout::COUNTS;
 use crate::layout::FIRST_BEYOND;
 use crate::layout::NUMBER_UNIT;
 ghost use mathlib.Core.Path.{_≡_};
-ghost use Rattle.lock_word.specs.Layout.{count-field};
 ghost use Rattle.lock_word.specs.Read.{decodeOf, flatOf, reservedOf, fatOf};
 ghost use Rattle.lock_word.specs.KindTable.{packedOf, byKindOf};
 
@@ -120,11 +118,4 @@ pub fn read_word(word: u32) -> Decoded
         packed % COUNTS,
         (word / NUMBER_UNIT) as u16,
     )
-}
-
-// The count field of a word, whatever the word means.
-pub fn count_of(word: u32) -> u8
-    ensures { λ r. ⌜ r ≡ count-field word ⌝ }
-{
-    (word / COUNT_UNIT % (COUNTS as u32)) as u8
 }

@@ -6,8 +6,9 @@ use lock_rules::Doing;
 use lock_rules::Sight;
 use lock_rules::ThreadState;
 use lock_rules::WordChange;
-use lock_rules::WordSeen;
 use lock_word::COUNT_LIMIT;
+use lock_word::WordSeen;
+use lock_word::owner_of;
 use rule_actions::cancel_word;
 use rule_actions::finish;
 use rule_actions::finish_depth;
@@ -17,37 +18,14 @@ use rule_actions::keep_object;
 use rule_actions::let_go;
 use rule_actions::not_owner;
 ghost use mathlib.Core.Path.{_≡_};
-ghost use Rattle.lock_rules.specs.Ownership.{owner-of};
 ghost use Rattle.lock_rules.specs.Rules.{owner-seen, enter-look, deflation, exit-owned, wait-owned, notify-owned, notify-all-owned, owner-only, enter-store, exit-store, cancel};
-
-fn owner(word: WordSeen, holder: u8, depth: u16) -> u16
-    ensures { λ r. ⌜ r ≡ owner-of word holder depth ⌝ }
-{
-    match word {
-        WordSeen::Free => 0,
-        WordSeen::Anonymous => 0,
-        WordSeen::Fat => {
-            if depth == 0 {
-                return 0;
-            }
-            holder as u16
-        }
-        WordSeen::Flat(thread, _) => thread,
-        WordSeen::Reserved(thread, count) => {
-            if count == 0 {
-                return 0;
-            }
-            thread
-        }
-    }
-}
 
 // The owner of the object in sight.
 pub fn owner_seen(sight: Sight) -> u16
     ensures { λ r. ⌜ r ≡ owner-seen sight ⌝ }
 {
     let word = sight.word;
-    owner(word, sight.holder, sight.depth)
+    owner_of(word, sight.holder, sight.depth)
 }
 
 // What only the owner may do; 18 for anybody else.

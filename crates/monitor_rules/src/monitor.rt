@@ -8,7 +8,7 @@ use lock_rules::Doing;
 use lock_rules::Sight;
 use lock_rules::Suspension;
 use lock_rules::ThreadState;
-use lock_rules::WordSeen;
+use lock_word::WordSeen;
 use rule_actions::become_holder;
 use rule_actions::finish_depth;
 use rule_actions::go_on;

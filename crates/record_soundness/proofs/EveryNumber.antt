@@ -84,7 +84,7 @@ module _ (t : Table) (sound : Sound t) where
     where
       at : Within 1 (t .threadcount) n ⊎ (threadAt t n ≡ noThread) → IsWritten (t .objectcount) n (threadAt t n)
       at (inl (low, high)) =
-          fits-written (t .objectcount) n (threadAt t n)
+          fits-written (t .objectcount) n (low, omega (arith, high, sound .sizes .0 .1)) (threadAt t n)
           (record {
             operation = sound .operations n low high;
             kept = sound .kept-words n low high;

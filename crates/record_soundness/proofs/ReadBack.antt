@@ -9,7 +9,7 @@ use borrow.Author.Tests.{eqb-false, ltb-true, ne-eqb}
 use Rattle.laws.specs.Choice.{both, within, implies}
 use Rattle.laws.proofs.Choice.{false≢true, both-first, both-second}
 use Rattle.lock_word.specs.Read.{decodeOf}
-use Rattle.lock_word.specs.Write.{encodeOf, reservedWord}
+use Rattle.lock_word.specs.Write.{encodeOf, reservedWord, IsNumber}
 use Rattle.lock_word.specs.declared.reading.LockWord.the-variants.{Free, Flat, Anonymous, Reserved, Fat}
 use Rattle.lock_word.specs.declared.reading.Decoded.{Decoded}
 use Rattle.lock_word.specs.declared.reading.Decoded.the-variants.{Valid, Invalid}
@@ -43,12 +43,13 @@ use Rattle.laws.proofs.Facts.{reads-both, reads-ltb, reads-not}
 use Rattle.lock_soundness.proofs.RecordReading.{reads-operation}
 use Rattle.record_soundness.proofs.Fits.{ThreadFits}
 
--- thread n's record is a fine state, written, at an object of the table unless it is idle
+-- thread n's record is a fine state, written; unless it is idle its number is one that a word can name, and it is at an object of the table
 pub record IsWritten (objects n : ℕ) (thread : ThreadRecord) : Type 0 where
   pub state : ThreadState
   pub fine : StateFine state
   pub written : thread ≡ recordOf n (thread .object) state (thread .next)
   pub home : T (unfinished state) → Within 1 objects (thread .object)
+  pub number : T (unfinished state) → IsNumber n
 
 -- what a phase does not use, as tests that compute on each phase
 abbrev busy? : Phase → Bool
@@ -97,7 +98,7 @@ kept-is n operation kept reserved = at (decodeOf kept) refl reserved
         (count, sym (ap (λ (k : ℕ). reservedWord k count) (sym same) ∙ word-of-meaning kept (Reserved thread count) e), fits)
     at (Valid (Fat monitor)) e no-word = absurd no-word
 
-module _ (objects n o next kept saved : ℕ) where
+module _ (objects n o next kept saved : ℕ) (is-number : IsNumber n) where
   -- the record in this phase of this operation, if it fits, is written
   abbrev Back : Phase → Operation → Type 0
   Back phase operation =
@@ -124,6 +125,7 @@ module _ (objects n o next kept saved : ℕ) where
         fine = fine;
         written = (λ j. threadWith operation o phase (no-kept j) (no-saved j) next) ∙ sym written;
         home = λ busy. fits .operation (busy-phase phase (both-first (busy? phase) _ test)) .0;
+        number = λ busy. is-number;
       }
 
   -- one that uses the saved depth
@@ -138,6 +140,7 @@ module _ (objects n o next kept saved : ℕ) where
         fine = fine (record { depth = saved }) (fits .saved saves);
         written = (λ j. threadWith operation o phase (no-kept j) saved next) ∙ sym written;
         home = λ busy. fits .operation (busy-phase phase (both-first (busy? phase) _ test)) .0;
+        number = λ busy. is-number;
       }
 
   -- phase 2, which uses the kept word
@@ -153,6 +156,7 @@ module _ (objects n o next kept saved : ℕ) where
         fine = fine count fits-count;
         written = (λ j. threadWith operation o Store (is-kept j) (no-saved j) next) ∙ sym (written count);
         home = λ busy. fits .operation (busy-phase Store refl) .0;
+        number = λ busy. is-number;
       }
 
   -- an idle thread has no operation and no object
@@ -167,6 +171,7 @@ module _ (objects n o next kept saved : ℕ) where
         fine = tt;
         written = λ j. threadWith (no-operation j) (no-object j) IdlePhase (no-kept j) (no-saved j) next;
         home = λ busy. absurd busy;
+        number = λ busy. absurd busy;
       }
 
   -- a phase with the operations that may be in it: enter, exit, wait, notify and notify all
@@ -232,17 +237,18 @@ module _ (objects n o next kept saved : ℕ) where
       (λ e. saving Resume Wait (λ suspension. Running (WaitResume suspension)) refl (inl (omega arith, omega arith)) (λ suspension fine. fine) refl)
       false≢true false≢true
 
-pub fits-written : (objects n : ℕ) (thread : ThreadRecord) → ThreadFits objects n thread → IsWritten objects n thread
-fits-written objects n thread = back objects n (thread .object) (thread .next) (thread .kept) (thread .saved) (thread .phase) (thread .operation)
+pub fits-written : (objects n : ℕ) → IsNumber n → (thread : ThreadRecord) → ThreadFits objects n thread → IsWritten objects n thread
+fits-written objects n is-number thread =
+    back objects n (thread .object) (thread .next) (thread .kept) (thread .saved) is-number (thread .phase) (thread .operation)
 
 -- the empty record is an idle thread
 pub none-written : (objects n : ℕ) → IsWritten objects n noThread
 unfolding recordOf
-none-written objects n = record { state = Idle; fine = tt; written = refl; home = λ busy. absurd busy }
+none-written objects n = record { state = Idle; fine = tt; written = refl; home = λ busy. absurd busy; number = λ busy. absurd busy }
 
 -- the state is the one that the record is read as
 pub state-back : (objects n : ℕ) (thread : ThreadRecord) (is : IsWritten objects n thread) → stateOf thread ≡ is .state
-state-back objects n thread is = ap stateOf (is .written) ∙ state-read n (thread .object) (is .state) (thread .next) (is .fine)
+state-back objects n thread is = ap stateOf (is .written) ∙ state-read n (thread .object) (is .state) (thread .next) (is .number) (is .fine)
 
 -- and the phase is that state's
 pub phase-back : (objects n : ℕ) (thread : ThreadRecord) (is : IsWritten objects n thread) → phaseNumberOf (thread .phase) ≡ phase-of (is .state)

@@ -8,8 +8,8 @@ use Rattle.lock_word.specs.declared.reading.LockWord.the-variants.{Free, Flat, 
 use Rattle.lock_word.specs.declared.reading.Decoded.{Decoded}
 use Rattle.lock_word.specs.declared.reading.Decoded.the-variants.{Valid, Invalid}
 use Rattle.lock_word.proofs.RoundTrip.{word-of-meaning, meaning-in-range}
-use Rattle.lock_rules.specs.declared.WordSeen.{WordSeen}
-use Rattle.lock_rules.specs.declared.WordSeen.the-variants.{
+use Rattle.lock_word.specs.declared.meaning.WordSeen.{WordSeen}
+use Rattle.lock_word.specs.declared.meaning.WordSeen.the-variants.{
   Free as SeenFree,
   Flat as SeenFlat,
   Anonymous as SeenAnonymous,
@@ -17,7 +17,7 @@ use Rattle.lock_rules.specs.declared.WordSeen.the-variants.{
   Fat as SeenFat,
 }
 use Rattle.lock_rules.proofs.ListSound.{WordFine}
-use Rattle.lock_perform.specs.Sight.{seenOf}
+use Rattle.lock_word.specs.Meaning.{seenOf}
 use Rattle.lock_records.proofs.Written.{lock-word, word-written}
 use Rattle.lock_soundness.specs.Meaning.{WordFits}
 

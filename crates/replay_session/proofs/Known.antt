@@ -13,11 +13,11 @@ use Rattle.lock_table.specs.Fresh.{freshOf}
 use Rattle.lock_table.specs.Whole.{Whole}
 use Rattle.lock_table.specs.declared.record.Table.{Table}
 use Rattle.lock_table.specs.declared.fresh_table.FreshTable.{FreshTable}
-use Rattle.lock_perform.specs.Moving.{threadNumberOf}
+use Rattle.lock_table.specs.Narrow.{narrowOf}
 use Rattle.lock_soundness.specs.Sound.{soundOf}
 use Rattle.lock_soundness.proofs.FreshSound.{fresh-sound}
-use Rattle.lock_engine.specs.Begin.{beginGated, beginOf}
-use Rattle.lock_engine.specs.Step.{stepGated, stepOf}
+use Rattle.lock_engine.specs.Begin.{beginTrusting, beginOf}
+use Rattle.lock_engine.specs.Step.{stepTrusting, stepOf}
 use Rattle.lock_engine.specs.declared.outcome.Outcome.{Outcome}
 use Rattle.lock_engine.proofs.Known.{begin-known, step-known}
 use Rattle.lock_schedule.specs.Schedule.{eventOf}
@@ -34,11 +34,11 @@ run-known : (table : Table) {issound : Bool} → issound ≡ soundOf table → (
 unfolding runKnown runOf
 run-known table known (Header threads objects reserved) = refl
 run-known table known (Begin operation thread object) =
-    let number = threadNumberOf thread in
-    let place = threadNumberOf object in
+    let number = narrowOf thread in
+    let place = narrowOf object in
     ap (λ (outcome : Outcome). afterEvent outcome number place) (begin-known table known number operation place)
 run-known table known (Step thread) =
-    let number = threadNumberOf thread in
+    let number = narrowOf thread in
     ap (λ (outcome : Outcome). afterEvent outcome number (threadAt table number .object)) (step-known table known number)
 run-known table known Malformed = refl
 
@@ -54,7 +54,7 @@ react-known session line known = react-with (session .stage) (session .table) kn
 
 -- an unsound table is left alone
 refused-same : (table : Table) (event : Event) → soundOf table ≡ false → eventOf table event .table ≡ table
-unfolding beginOf beginGated stepOf stepGated
+unfolding beginOf beginTrusting stepOf stepTrusting
 refused-same table (BeginEvent operation thread object) unsound = rw unsound refl
 refused-same table (StepEvent thread) unsound = rw unsound refl
 
@@ -90,8 +90,8 @@ run-kept : (table : Table) → Whole table → (line : Line) → soundSession (r
 unfolding runOf soundBy
 run-kept table whole (Header threads objects reserved) = refl
 run-kept table whole (Begin operation thread object) =
-    event-same table whole (BeginEvent operation (threadNumberOf thread) (threadNumberOf object)) (soundOf table) refl
-run-kept table whole (Step thread) = event-same table whole (StepEvent (threadNumberOf thread)) (soundOf table) refl
+    event-same table whole (BeginEvent operation (narrowOf thread) (narrowOf object)) (soundOf table) refl
+run-kept table whole (Step thread) = event-same table whole (StepEvent (narrowOf thread)) (soundOf table) refl
 run-kept table whole Malformed = refl
 
 react-kept : (stage : Stage) (table : Table) → Whole table → (line : Line) → soundSession (reactBy stage table line .session) ≡ soundBy stage table

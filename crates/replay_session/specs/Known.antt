@@ -4,10 +4,10 @@ use Prim.Native.Nat.{ℕ}
 use mathlib.Core.Bool.{Bool, true}
 use Rattle.lock_table.specs.Access.{threadAt}
 use Rattle.lock_table.specs.declared.record.Table.{Table}
-use Rattle.lock_perform.specs.Moving.{threadNumberOf}
+use Rattle.lock_table.specs.Narrow.{narrowOf}
 use Rattle.lock_soundness.specs.Sound.{soundOf}
-use Rattle.lock_engine.specs.Begin.{beginGated}
-use Rattle.lock_engine.specs.Step.{stepGated}
+use Rattle.lock_engine.specs.Begin.{beginTrusting}
+use Rattle.lock_engine.specs.Step.{stepTrusting}
 use Rattle.replay_lines.specs.declared.reading.Line.{Line}
 use Rattle.replay_lines.specs.declared.reading.Line.the-variants.{Header, Begin, Step, Malformed}
 use Rattle.replay_text.specs.declared.answer.Answer.the-variants.{Silent, Refused}
@@ -27,15 +27,15 @@ abbrev pub soundSession : Session → Bool
 soundSession session = soundBy (session .stage) (session .table)
 
 abbrev pub begunKnown : Table → ℕ → ℕ → ℕ → Bool → Reaction
-begunKnown table thread operation object issound = afterEvent (beginGated table thread operation object issound) thread object
+begunKnown table thread operation object issound = afterEvent (beginTrusting table thread operation object issound) thread object
 
 abbrev pub steppedKnown : Table → ℕ → Bool → Reaction
-steppedKnown table thread issound = afterEvent (stepGated table thread issound) thread (threadAt table thread .object)
+steppedKnown table thread issound = afterEvent (stepTrusting table thread issound) thread (threadAt table thread .object)
 
 unfoldable pub runKnown : Table → Line → Bool → Reaction
 runKnown table (Header threads objects reserved) issound = staying Running table (Refused malformed)
-runKnown table (Begin operation thread object) issound = begunKnown table (threadNumberOf thread) operation (threadNumberOf object) issound
-runKnown table (Step thread) issound = steppedKnown table (threadNumberOf thread) issound
+runKnown table (Begin operation thread object) issound = begunKnown table (narrowOf thread) operation (narrowOf object) issound
+runKnown table (Step thread) issound = steppedKnown table (narrowOf thread) issound
 runKnown table Malformed issound = staying Running table (Refused malformed)
 
 unfoldable pub reactWith : Stage → Table → Line → Bool → Reaction

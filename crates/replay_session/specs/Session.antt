@@ -9,7 +9,7 @@ use Rattle.lock_table.specs.Fresh.{freshOf}
 use Rattle.lock_table.specs.declared.record.Table.{Table}
 use Rattle.lock_table.specs.declared.fresh_table.FreshAnswer.{FreshAnswer}
 use Rattle.lock_table.specs.declared.fresh_table.FreshAnswer.the-variants.{Made, SizeOutOfRange}
-use Rattle.lock_perform.specs.Moving.{threadNumberOf}
+use Rattle.lock_table.specs.Narrow.{narrowOf}
 use Rattle.lock_engine.specs.Outcome.{returnedOf, wokenOf}
 use Rattle.lock_engine.specs.Begin.{beginOf}
 use Rattle.lock_engine.specs.Step.{stepOf}
@@ -81,8 +81,8 @@ steppedBy table thread = afterEvent (stepOf table thread) thread (threadAt table
 -- numbers above 255, which no table has, are no thread's and no object's
 unfoldable pub runOf : Table → Line → Reaction
 runOf table (Header threads objects reserved) = staying Running table (Refused malformed)
-runOf table (Begin operation thread object) = begunBy table (threadNumberOf thread) operation (threadNumberOf object)
-runOf table (Step thread) = steppedBy table (threadNumberOf thread)
+runOf table (Begin operation thread object) = begunBy table (narrowOf thread) operation (narrowOf object)
+runOf table (Step thread) = steppedBy table (narrowOf thread)
 runOf table Malformed = staying Running table (Refused malformed)
 
 unfoldable pub reactBy : Stage → Table → Line → Reaction

@@ -2,15 +2,15 @@
 use crate::session::Session;
 use crate::session::Stage;
 use lock_engine::Outcome;
-use lock_engine::begin_gated;
+use lock_engine::begin_trusting;
 use lock_engine::returned;
-use lock_engine::step_gated;
+use lock_engine::step_trusting;
 use lock_engine::woken;
-use lock_perform::thread_number;
 use lock_table::FreshAnswer;
 use lock_table::FreshTable;
 use lock_table::Table;
 use lock_table::fresh;
+use lock_table::narrow;
 use lock_table::object_at;
 use lock_table::phase_number;
 use lock_table::thread_at;
@@ -135,7 +135,7 @@ fn begun_by(table: Table, thread: u8, operation: u8, object: u8, issound: bool) 
     ensures { λ r. ⌜ r ≡ begunKnown table thread operation object issound ⌝ }
 {
     after_event(
-        begin_gated(table, thread, operation, object, issound),
+        begin_trusting(table, thread, operation, object, issound),
         thread,
         object,
     )
@@ -145,7 +145,7 @@ fn stepped_by(table: Table, thread: u8, issound: bool) -> Reaction
     ensures { λ r. ⌜ r ≡ steppedKnown table thread issound ⌝ }
 {
     let own = thread_at(table, thread);
-    after_event(step_gated(table, thread, issound), thread, own.object)
+    after_event(step_trusting(table, thread, issound), thread, own.object)
 }
 
 // A line behind a good header.
@@ -164,12 +164,12 @@ fn run_by(table: Table, line: Line, issound: bool) -> Reaction
             object,
         } => begun_by(
             table,
-            thread_number(thread),
+            narrow(thread as u32),
             operation,
-            thread_number(object),
+            narrow(object as u32),
             issound,
         ),
-        Line::Step { thread } => stepped_by(table, thread_number(thread), issound),
+        Line::Step { thread } => stepped_by(table, narrow(thread as u32), issound),
         Line::Malformed => stay(Stage::Running, table, Answer::Refused { number: MALFORMED }),
     }
 }

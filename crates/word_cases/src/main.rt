@@ -13,12 +13,12 @@ fn write_case(number: u64, word: u32) {
     io::print_hex(STDOUT_FILENO, word as u64, DIGITS);
 }
 
-// Who owns an object with this word, and how deep.
+// Who owns an object with this word, and how deep, where its monitor is nobody's.
 fn write_meaning(number: u64, word: u32) {
     write_case(number, word);
     match lock_word::read_word(word) {
         Decoded::Valid(meaning) => {
-            let owner = lock_word::owner_by_word(meaning);
+            let owner = lock_word::ownership_of(lock_word::seen_word(meaning), 0, 0);
             io::write_all(STDOUT_FILENO, b" thread ");
             io::print_decimal(STDOUT_FILENO, owner.thread as u64);
             io::write_all(STDOUT_FILENO, b" depth ");

@@ -10,4 +10,4 @@ begin-spec =
     (tie.spec
     (λ c κs. tt)
     (λ c κs. tt)
-    (λ c. simp (c .begin-gated .ensures, c .before .sound .ensures)))
+    (λ c. simp (c .begin-trusting .ensures, c .before .sound .ensures)))

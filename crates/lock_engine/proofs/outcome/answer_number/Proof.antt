@@ -1,11 +1,9 @@
 -- `lock_engine::outcome::answer_number` meets its contract: each way through the code is that of the definition.
 use borrow.Author.Needs.{needs}
-use Rattle.lock_engine.specs.Outcome.{answerNumberOf}
 use Rattle.lock_engine.proofs.outcome.answer_number.Statement.{statement}
 use Rattle.lock_engine.proofs.outcome.answer_number.Tie as tie
 
 pub answer-number-spec : {M : Type 1} → statement M
-unfolding answerNumberOf
 answer-number-spec =
     tie.close
     (tie.spec

@@ -1,11 +1,9 @@
 -- `lock_engine::outcome::answer_woken` meets its contract: each way through the code is that of the definition.
 use borrow.Author.Needs.{needs}
-use Rattle.lock_engine.specs.Outcome.{answerWokenOf}
 use Rattle.lock_engine.proofs.outcome.answer_woken.Statement.{statement}
 use Rattle.lock_engine.proofs.outcome.answer_woken.Tie as tie
 
 pub answer-woken-spec : {M : Type 1} → statement M
-unfolding answerWokenOf
 answer-woken-spec =
     tie.close
     (tie.spec

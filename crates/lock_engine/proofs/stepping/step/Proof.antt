@@ -10,4 +10,4 @@ step-spec =
     (tie.spec
     (λ c κs. tt)
     (λ c κs. tt)
-    (λ c. simp (c .step-gated .ensures, c .before .sound .ensures)))
+    (λ c. simp (c .step-trusting .ensures, c .before .sound .ensures)))

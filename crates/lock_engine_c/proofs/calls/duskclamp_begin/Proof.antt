@@ -1,6 +1,6 @@
 -- `lock_engine_c::calls::duskclamp_begin` meets its contract: what was written over the bytes is the bytes of the engine's table.
 use borrow.Author.Needs.{needs}
-use Rattle.lock_engine_c.proofs.Narrow.{narrow-begin}
+use Rattle.lock_engine.proofs.Narrow.{narrow-begin}
 use Rattle.table_bytes.proofs.Written.{event-written}
 use Rattle.lock_engine_c.proofs.calls.duskclamp_begin.Statement.{statement}
 use Rattle.lock_engine_c.proofs.calls.duskclamp_begin.Tie as tie

@@ -1,7 +1,7 @@
 -- `lock_engine_c::calls::duskclamp_fresh` meets its contract: what was written over the bytes is the bytes of the fresh table.
 use borrow.Author.Needs.{needs}
 use Rattle.lock_engine_c.specs.Calls.{freshOn}
-use Rattle.lock_engine_c.proofs.Narrow.{narrow-fresh}
+use Rattle.lock_table.proofs.Narrowed.{narrow-fresh}
 use Rattle.lock_engine_c.proofs.FreshWritten.{fresh-written}
 use Rattle.lock_engine_c.proofs.calls.duskclamp_fresh.Statement.{statement}
 use Rattle.lock_engine_c.proofs.calls.duskclamp_fresh.Tie as tie

@@ -1,6 +1,6 @@
 -- `lock_engine_c::calls::duskclamp_step` meets its contract: what was written over the bytes is the bytes of the engine's table.
 use borrow.Author.Needs.{needs}
-use Rattle.lock_engine_c.proofs.Narrow.{narrow-step}
+use Rattle.lock_engine.proofs.Narrow.{narrow-step}
 use Rattle.table_bytes.proofs.Written.{event-written}
 use Rattle.lock_engine_c.proofs.calls.duskclamp_step.Statement.{statement}
 use Rattle.lock_engine_c.proofs.calls.duskclamp_step.Tie as tie

@@ -8,7 +8,6 @@ owner-in-spec =
     tie.close
     (tie.spec
     (λ c κs. tt)
-    (λ c κs. tt)
     (λ c. search needs)
     (λ c κs. tt)
-    (λ c. simp (c .said .ensures, c .before .before .before .ownership-of .ensures, c .before .before .before .before .object-at .ensures)))
+    (λ c. simp (c .said .ensures, c .before .before .before .ownership-at .ensures)))

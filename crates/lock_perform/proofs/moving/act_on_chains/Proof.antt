@@ -29,6 +29,7 @@ act-on-chains-spec =
     (λ c. search needs)
     (λ c κs. tt)
     (λ c. search needs)
+    (λ c. search needs)
     (λ c κs. tt)
     (λ c κs. tt)
     (λ c. simp (c .enum-told .given .1))
@@ -40,4 +41,4 @@ act-on-chains-spec =
     (λ c. simp (c .tell-first .ensures, c .before .enum-told7 .given .1))
     (λ c. simp (c .wake-first .ensures, c .before .enum-told8 .given .1))
     (λ c. simp (c .wake-all .ensures, c .before .enum-told9 .given .1))
-    (λ c. simp (c .send-back .ensures, c .before .thread-number .ensures, c .before .before .before .action .given .1)))
+    (λ c. simp (c .send-back .ensures, c .before .narrow .ensures, c .before .before .before .action .given .1)))

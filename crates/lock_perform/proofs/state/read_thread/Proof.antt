@@ -8,4 +8,5 @@ read-thread-spec =
     (tie.spec
     (λ c κs. tt)
     (λ c κs. tt)
-    (λ c. simp (c .state .ensures, c .before .count-of .ensures)))
+    (λ c κs. tt)
+    (λ c. simp (c .state .ensures, c .before .kept-count .ensures, c .before .before .read-word .ensures)))

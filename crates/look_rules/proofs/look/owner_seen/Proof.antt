@@ -7,4 +7,4 @@ owner-seen-spec =
     tie.close
     (tie.spec
     (λ c κs. tt)
-    (λ c. simp (c .owner .ensures)))
+    (λ c. simp (c .owner-of .ensures)))

@@ -8,4 +8,4 @@ begun-by-spec =
     (tie.spec
     (λ c κs. tt)
     (λ c κs. tt)
-    (λ c. simp (c .after-event .ensures, c .before .begin-gated .ensures)))
+    (λ c. simp (c .after-event .ensures, c .before .begin-trusting .ensures)))

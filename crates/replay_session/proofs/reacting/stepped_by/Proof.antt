@@ -9,4 +9,4 @@ stepped-by-spec =
     (λ c κs. tt)
     (λ c κs. tt)
     (λ c κs. tt)
-    (λ c. simp (c .after-event .ensures, c .before .step-gated .ensures, c .before .before .thread-at .ensures)))
+    (λ c. simp (c .after-event .ensures, c .before .step-trusting .ensures, c .before .before .thread-at .ensures)))

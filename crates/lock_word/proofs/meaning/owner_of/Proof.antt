@@ -1,11 +1,11 @@
--- `look_rules::look::owner` meets its contract: each way through the code is that of the definition.
+-- `lock_word::meaning::owner_of` meets its contract: each way through the code is that of the definition.
 use borrow.Author.Needs.{needs}
 use borrow.Author.Tests.{eq-eqb, ne-eqb}
-use Rattle.look_rules.proofs.look.owner.Statement.{statement}
-use Rattle.look_rules.proofs.look.owner.Tie as tie
+use Rattle.lock_word.proofs.meaning.owner_of.Statement.{statement}
+use Rattle.lock_word.proofs.meaning.owner_of.Tie as tie
 
-pub owner-spec : {M : Type 1} → statement M
-owner-spec =
+pub owner-of-spec : {M : Type 1} → statement M
+owner-of-spec =
     tie.close
     (tie.spec
     (λ c. search needs)

@@ -1,0 +1,39 @@
+-- A number that is taken as 255 where it is larger gives the same of whatever does not tell 255 and larger numbers apart; a fresh table does not.
+use Prim.Native.Nat.{ℕ, _<_}
+use mathlib.Core.Path.{_≡_, refl, _∙_}
+use mathlib.Core.Bool.{Bool, true, false}
+use native.Mathlib.Omega.{arith}
+use lib.Dec.{ltb}
+use borrow.Author.Tests.{ltb-true, lt-ltb, ne-eqb}
+use Rattle.laws.proofs.Choice.{split}
+use Rattle.lock_table.specs.Limits.{thread-limit, object-limit}
+use Rattle.lock_table.specs.Fresh.{freshOf}
+use Rattle.lock_table.specs.Narrow.{narrowOf}
+
+-- a number stays, or is 255 for a larger one
+pub narrow-small : (n : ℕ) → ltb 255 n ≡ false → narrowOf n ≡ n
+unfolding narrowOf
+narrow-small n small = rw small refl
+
+narrow-large : (n : ℕ) → ltb 255 n ≡ true → narrowOf n ≡ 255
+unfolding narrowOf
+narrow-large n large = rw large refl
+
+-- what does not tell 255 and larger numbers apart does not tell a number and the narrow one apart
+pub narrowed : {A : Type 0} (f : ℕ → A) → ((n : ℕ) → 255 < n → f 255 ≡ f n) → (n : ℕ) → f (narrowOf n) ≡ f n
+narrowed f same n =
+    split (ltb 255 n) (λ large. rw (narrow-large n large) (same n (ltb-true 255 n large))) (λ small. rw (narrow-small n small) refl)
+
+-- a fresh table
+threads-past : (objects : ℕ) (reserved : Bool) (n : ℕ) → 255 < n → freshOf 255 objects reserved ≡ freshOf n objects reserved
+unfolding freshOf
+threads-past objects reserved n past = rw (ne-eqb n 0 (λ e. omega (arith, e, past)), lt-ltb thread-limit n (omega (arith, past))) refl
+
+objects-past : (threads : ℕ) (reserved : Bool) (n : ℕ) → 255 < n → freshOf threads 255 reserved ≡ freshOf threads n reserved
+unfolding freshOf
+objects-past threads reserved n past = rw (ne-eqb n 0 (λ e. omega (arith, e, past)), lt-ltb object-limit n (omega (arith, past))) refl
+
+pub narrow-fresh : (threads objects : ℕ) (reserved : Bool) → freshOf (narrowOf threads) (narrowOf objects) reserved ≡ freshOf threads objects reserved
+narrow-fresh threads objects reserved =
+    narrowed (λ n. freshOf n (narrowOf objects) reserved) (threads-past (narrowOf objects) reserved) threads
+    ∙ narrowed (λ n. freshOf threads n reserved) (objects-past threads reserved) objects
