@@ -1,13 +1,26 @@
 /* Duskclamp: lock words, monitors and single steps of a runtime, over a table that the caller lends as bytes.
  *
- * Link liblock_engine_c.a, which `rt staticlib lock_engine_c` writes to target/staticlib. Of other libraries it needs memcpy and memset alone.
+ * Link liblock_engine_c.a, which `rt staticlib lock_engine_c` writes to target/staticlib, or install it as libduskclamp.a by `make install`.
+ * Of other libraries it needs memcpy and memset alone. It is built for x86-64.
  *
  * A table is DUSKCLAMP_TABLE_SIZE bytes, which the caller owns, keeps and may copy. No call keeps a pointer, allocates, or blocks. Two calls on
  * one table at the same time are a data race, as on any other memory: the caller sees to it that there is one at a time.
  *
- * `bytes` must point to `length` bytes that may be read and, in the first three calls, written. That is all that is asked of a caller: any
- * bytes and any numbers are answered. What each call answers, and which bytes it leaves, is proved of the library; this declaration of it is
- * not checked against its source.
+ * `bytes` must point to `length` bytes that may be read and, in duskclamp_fresh, duskclamp_begin and duskclamp_step, written. That is all that is
+ * asked of a caller: any bytes and any numbers are answered. A refused event stores nothing, save that 18 and 19 write the table back with the
+ * thread idle. What each call answers, and which bytes it leaves, is proved of the library; this declaration of it is not checked against its source.
+ *
+ * What bytes are no table, and are answered 11 by every call that takes a table:
+ *  - any number of bytes but DUSKCLAMP_TABLE_SIZE;
+ *  - an operation above 5, a phase above 15, or a contention flag above 1 in any of the 96 records;
+ *  - a phase that a queued thread carries (phase 5) that is not 6, 10, 12 or 15, or a carried phase other than 0 in any other phase.
+ * All other bytes are a table. It may still not be sound: then events are answered 11 too, and questions by what its records say.
+ *
+ * An answer is not its returned number: bit 16 is set beside 18 and 19, beside most 1s, and beside some 0s and 2s. Compare
+ *     DUSKCLAMP_RETURNED(answer) == DUSKCLAMP_FINISHED
+ * and never `answer == DUSKCLAMP_FINISHED`.
+ *
+ * Stack: see DUSKCLAMP_STACK below.
  */
 #ifndef DUSKCLAMP_H
 #define DUSKCLAMP_H
@@ -19,19 +32,46 @@
 extern "C" {
 #endif
 
+/* The version of the library that this header declares; duskclamp_version gives that of the library which is linked. */
+#define DUSKCLAMP_VERSION_MAJOR 0
+#define DUSKCLAMP_VERSION_MINOR 2
+#define DUSKCLAMP_VERSION_PATCH 0
+#define DUSKCLAMP_VERSION ((DUSKCLAMP_VERSION_MAJOR << 16) | (DUSKCLAMP_VERSION_MINOR << 8) | DUSKCLAMP_VERSION_PATCH)
+
+/* The version of the bytes of a table. It rises whenever they change; a table that is kept or sent should go with it. */
+#define DUSKCLAMP_LAYOUT_VERSION 1
+
 /* How many bytes a table has: two of sizes, 32 thread records and 64 object records of 11 bytes each. */
 #define DUSKCLAMP_TABLE_SIZE 1058
 
-/* The most threads and objects of a table. Both are numbered from 1. */
+/* The most threads and objects of a table. Both are numbered from 1; 0 means none. */
 #define DUSKCLAMP_THREADS 32
 #define DUSKCLAMP_OBJECTS 64
 
-/* The operations. */
+/* The operations; an idle thread has 0. */
 #define DUSKCLAMP_ENTER 1
 #define DUSKCLAMP_EXIT 2
 #define DUSKCLAMP_WAIT 3
 #define DUSKCLAMP_NOTIFY 4
 #define DUSKCLAMP_NOTIFY_ALL 5
+
+/* The phases of a thread. */
+#define DUSKCLAMP_PHASE_IDLE 0        /* at no operation */
+#define DUSKCLAMP_PHASE_LOOK 1        /* about to do what the lock word allows */
+#define DUSKCLAMP_PHASE_STORE 2       /* about to store the reserved word that it keeps, with its count changed */
+#define DUSKCLAMP_PHASE_CANCEL 3      /* about to cancel the object's reservation */
+#define DUSKCLAMP_PHASE_GO_IN 4       /* about to become the monitor's holder, or queue for it */
+#define DUSKCLAMP_PHASE_QUEUED 5      /* parked in the entry chain */
+#define DUSKCLAMP_PHASE_CHECK 6       /* holder, about to check the word */
+#define DUSKCLAMP_PHASE_TRY 7         /* holder, about to try the word once more, the contention flag up */
+#define DUSKCLAMP_PHASE_CONTENDING 8  /* parked in the contention chain, until the flat lock's owner tells */
+#define DUSKCLAMP_PHASE_TEST 9        /* the word is free, about to test the contention flag */
+#define DUSKCLAMP_PHASE_TELL 10       /* holder, about to tell the first contender */
+#define DUSKCLAMP_PHASE_LEAVE 11      /* holder, about to hand the monitor on */
+#define DUSKCLAMP_PHASE_INFLATE 12    /* holder, about to make its flat lock a monitor, to wait on it */
+#define DUSKCLAMP_PHASE_GIVE_UP 13    /* holder, about to save its depth and wait */
+#define DUSKCLAMP_PHASE_WAITING 14    /* parked in the waiting chain */
+#define DUSKCLAMP_PHASE_RESUME 15     /* holder, about to take its saved depth back */
 
 /* The returned numbers. From 11 up nothing is changed, save that 18 and 19 make the thread idle. */
 #define DUSKCLAMP_GONE_ON 0            /* begun, or gone on */
@@ -58,7 +98,9 @@ extern "C" {
 /* A question's answer: DUSKCLAMP_RETURNED, and where that is 0 the value above it. */
 #define DUSKCLAMP_VALUE(answer) ((uint32_t)((answer) >> 8))
 
-/* DUSKCLAMP_TABLE_SIZE, by the library. */
+/* DUSKCLAMP_VERSION, DUSKCLAMP_LAYOUT_VERSION and DUSKCLAMP_TABLE_SIZE, by the library. */
+uint32_t duskclamp_version(void);
+uint32_t duskclamp_layout_version(void);
 size_t duskclamp_table_size(void);
 
 /* Makes a fresh table: every thread idle, every word free, or anonymously reserved where `reserved` is not 0.
@@ -72,19 +114,112 @@ uint32_t duskclamp_begin(uint8_t *bytes, size_t length, uint32_t thread, uint32_
 uint32_t duskclamp_step(uint8_t *bytes, size_t length, uint32_t thread);
 
 /* Questions. Of bytes that are no table 11; then 12 or 13 if there is no such thread or object. They are answered of a table that is not sound
- * too, by what its records say. */
+ * too, by what its records say, so a number there need not be that of a thread: a loop along a chain of such a table counts its turns. */
 
-/* The thread's phase, 0 for idle; 5, 8 and 14 are parked. */
+/* How many threads and objects the table has. */
+uint64_t duskclamp_thread_count(const uint8_t *bytes, size_t length);
+uint64_t duskclamp_object_count(const uint8_t *bytes, size_t length);
+
+/* The thread's operation, the object that it is at, and its phase; 0, 0 and 0 for idle. Phases 5, 8 and 14 are parked. */
+uint64_t duskclamp_operation(const uint8_t *bytes, size_t length, uint32_t thread);
+uint64_t duskclamp_object(const uint8_t *bytes, size_t length, uint32_t thread);
 uint64_t duskclamp_phase(const uint8_t *bytes, size_t length, uint32_t thread);
+
+/* The phase that a queued thread goes on with when it is handed the monitor, 6, 10, 12 or 15; 0 for any other. */
+uint64_t duskclamp_onward(const uint8_t *bytes, size_t length, uint32_t thread);
+
+/* The lock word that a thread in phase 2 is about to store, with its count changed; 0 in any other phase. */
+uint64_t duskclamp_kept(const uint8_t *bytes, size_t length, uint32_t thread);
+
+/* The depth that a wait gave up, in phases 14 and 15 and queued for 15; else 0. */
+uint64_t duskclamp_saved_depth(const uint8_t *bytes, size_t length, uint32_t thread);
+
+/* The thread behind this one in the chain it is in, 0 for none. */
+uint64_t duskclamp_next(const uint8_t *bytes, size_t length, uint32_t thread);
+
+/* Who keeps a thread that is parked for entry, in phase 5 or 8: the thread that owns its object by the lock word, where that is another; else the
+ * monitor's holder, which is on its way in or out; else, and in any other phase, 0. DUSKCLAMP_IS_HOLDER tells the second from the first. */
+uint64_t duskclamp_blocker(const uint8_t *bytes, size_t length, uint32_t thread);
+#define DUSKCLAMP_BLOCKER(answer) (DUSKCLAMP_VALUE(answer) & 0xffff)
+#define DUSKCLAMP_IS_HOLDER(answer) ((DUSKCLAMP_VALUE(answer) >> 16) & 1)
 
 /* The object's lock word. */
 uint64_t duskclamp_word(const uint8_t *bytes, size_t length, uint32_t object);
 
-/* The thread that owns the object, 0 for nobody. */
+/* The thread that owns the object and how deep it does; 0 and 0 for nobody. */
 uint64_t duskclamp_owner(const uint8_t *bytes, size_t length, uint32_t object);
-
-/* How deep the object is owned, 0 if nobody owns it. */
 uint64_t duskclamp_depth(const uint8_t *bytes, size_t length, uint32_t object);
+
+/* The object's contention flag, 0 or 1. */
+uint64_t duskclamp_flag(const uint8_t *bytes, size_t length, uint32_t object);
+
+/* The object's monitor: its holder, its depth, which is the object's only where the word is fat, and the first thread of each chain, behind which
+ * duskclamp_next leads to the others. 0 for none. */
+uint64_t duskclamp_holder(const uint8_t *bytes, size_t length, uint32_t object);
+uint64_t duskclamp_monitor_depth(const uint8_t *bytes, size_t length, uint32_t object);
+uint64_t duskclamp_entry_first(const uint8_t *bytes, size_t length, uint32_t object);
+uint64_t duskclamp_contention_first(const uint8_t *bytes, size_t length, uint32_t object);
+uint64_t duskclamp_waiting_first(const uint8_t *bytes, size_t length, uint32_t object);
+
+/* Names, for messages. A number that is none of theirs is "unknown". */
+static inline const char *duskclamp_returned_name(uint32_t returned) {
+    switch (returned) {
+    case DUSKCLAMP_GONE_ON: return "gone on";
+    case DUSKCLAMP_FINISHED: return "finished";
+    case DUSKCLAMP_PARKED: return "parked";
+    case DUSKCLAMP_NOT_SOUND: return "table not sound";
+    case DUSKCLAMP_NO_SUCH_THREAD: return "no such thread";
+    case DUSKCLAMP_NO_SUCH_OBJECT: return "no such object";
+    case DUSKCLAMP_NOT_IDLE: return "thread not idle";
+    case DUSKCLAMP_THREAD_IDLE: return "thread idle";
+    case DUSKCLAMP_THREAD_PARKED: return "thread parked";
+    case DUSKCLAMP_NO_SUCH_OPERATION: return "no such operation";
+    case DUSKCLAMP_NOT_OWNER: return "not the owner";
+    case DUSKCLAMP_TOO_DEEP: return "too deep";
+    case DUSKCLAMP_NO_RULE: return "no rule for the step";
+    case DUSKCLAMP_SIZE_OUT_OF_RANGE: return "size out of range";
+    default: return "unknown";
+    }
+}
+
+static inline const char *duskclamp_operation_name(uint32_t operation) {
+    switch (operation) {
+    case 0: return "none";
+    case DUSKCLAMP_ENTER: return "enter";
+    case DUSKCLAMP_EXIT: return "exit";
+    case DUSKCLAMP_WAIT: return "wait";
+    case DUSKCLAMP_NOTIFY: return "notify";
+    case DUSKCLAMP_NOTIFY_ALL: return "notify all";
+    default: return "unknown";
+    }
+}
+
+static inline const char *duskclamp_phase_name(uint32_t phase) {
+    switch (phase) {
+    case DUSKCLAMP_PHASE_IDLE: return "idle";
+    case DUSKCLAMP_PHASE_LOOK: return "look";
+    case DUSKCLAMP_PHASE_STORE: return "store";
+    case DUSKCLAMP_PHASE_CANCEL: return "cancel";
+    case DUSKCLAMP_PHASE_GO_IN: return "go in";
+    case DUSKCLAMP_PHASE_QUEUED: return "queued";
+    case DUSKCLAMP_PHASE_CHECK: return "check";
+    case DUSKCLAMP_PHASE_TRY: return "try";
+    case DUSKCLAMP_PHASE_CONTENDING: return "contending";
+    case DUSKCLAMP_PHASE_TEST: return "test";
+    case DUSKCLAMP_PHASE_TELL: return "tell";
+    case DUSKCLAMP_PHASE_LEAVE: return "leave";
+    case DUSKCLAMP_PHASE_INFLATE: return "inflate";
+    case DUSKCLAMP_PHASE_GIVE_UP: return "give up";
+    case DUSKCLAMP_PHASE_WAITING: return "waiting";
+    case DUSKCLAMP_PHASE_RESUME: return "resume";
+    default: return "unknown";
+    }
+}
+
+/* Whether a thread in this phase is parked: its steps are answered 16 until another's step lets it go on. */
+static inline int duskclamp_phase_is_parked(uint32_t phase) {
+    return phase == DUSKCLAMP_PHASE_QUEUED || phase == DUSKCLAMP_PHASE_CONTENDING || phase == DUSKCLAMP_PHASE_WAITING;
+}
 
 #ifdef __cplusplus
 }

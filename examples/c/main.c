@@ -1,22 +1,86 @@
-/* Two threads enter one object: the first finishes in one step, the second goes in, sees that it is owned and parks. */
+/* Three threads at one object: the first owns it and waits to be told, the second owns it then, the third parks. The table is printed at the end:
+ * each thread with its operation and phase and who keeps it, each object with its word, owner and chains. */
 #include "duskclamp.h"
+#include <inttypes.h>
 #include <stdio.h>
 
-int main(void) {
-    uint8_t table[DUSKCLAMP_TABLE_SIZE];
-    printf("fresh %u\n", duskclamp_fresh(table, sizeof table, 2, 1, 0));
-    for (uint32_t thread = 1; thread <= 2; thread++) {
-        printf("begin %u\n", duskclamp_begin(table, sizeof table, thread, DUSKCLAMP_ENTER, 1));
-        uint32_t returned = DUSKCLAMP_GONE_ON;
-        while (returned == DUSKCLAMP_GONE_ON) {
-            returned = DUSKCLAMP_RETURNED(duskclamp_step(table, sizeof table, thread));
-            printf("step %u phase %u\n", returned, DUSKCLAMP_VALUE(duskclamp_phase(table, sizeof table, thread)));
-        }
+#define THREADS 3
+#define OBJECTS 2
+
+static uint8_t table[DUSKCLAMP_TABLE_SIZE];
+
+/* Begins the operation and takes its steps until it is finished, parks, or is refused. */
+static void run(uint32_t thread, uint32_t operation, uint32_t object) {
+    uint32_t answer = duskclamp_begin(table, sizeof table, thread, operation, object);
+    uint32_t steps = 0;
+    while (DUSKCLAMP_RETURNED(answer) == DUSKCLAMP_GONE_ON) {
+        answer = duskclamp_step(table, sizeof table, thread);
+        steps++;
     }
-    printf("word %06x\n", DUSKCLAMP_VALUE(duskclamp_word(table, sizeof table, 1)));
-    printf("owner %u\n", DUSKCLAMP_VALUE(duskclamp_owner(table, sizeof table, 1)));
-    printf("depth %u\n", DUSKCLAMP_VALUE(duskclamp_depth(table, sizeof table, 1)));
-    printf("object 2 %u\n", DUSKCLAMP_RETURNED(duskclamp_word(table, sizeof table, 2)));
-    printf("short %u\n", duskclamp_step(table, sizeof table - 1, 1));
+    printf("thread %" PRIu32 " %s %" PRIu32 ": %s after %" PRIu32 " steps\n", thread, duskclamp_operation_name(operation), object,
+           duskclamp_returned_name(DUSKCLAMP_RETURNED(answer)), steps);
+}
+
+static void print_threads(void) {
+    uint32_t count = DUSKCLAMP_VALUE(duskclamp_thread_count(table, sizeof table));
+    for (uint32_t thread = 1; thread <= count; thread++) {
+        uint32_t operation = DUSKCLAMP_VALUE(duskclamp_operation(table, sizeof table, thread));
+        uint32_t phase = DUSKCLAMP_VALUE(duskclamp_phase(table, sizeof table, thread));
+        uint32_t object = DUSKCLAMP_VALUE(duskclamp_object(table, sizeof table, thread));
+        uint32_t onward = DUSKCLAMP_VALUE(duskclamp_onward(table, sizeof table, thread));
+        uint64_t blocker = duskclamp_blocker(table, sizeof table, thread);
+        printf("thread %" PRIu32 ": %s", thread, duskclamp_phase_name(phase));
+        if (phase != DUSKCLAMP_PHASE_IDLE)
+            printf(", %s of object %" PRIu32, duskclamp_operation_name(operation), object);
+        if (onward != 0)
+            printf(", to go on with %s", duskclamp_phase_name(onward));
+        if (DUSKCLAMP_BLOCKER(blocker) != 0)
+            printf(", kept by %s %" PRIu32, DUSKCLAMP_IS_HOLDER(blocker) ? "holder" : "owner", DUSKCLAMP_BLOCKER(blocker));
+        printf("\n");
+    }
+}
+
+/* A chain from its first thread on. */
+static void print_chain(const char *name, uint32_t thread) {
+    printf(", %s", name);
+    if (thread == 0)
+        printf(" -");
+    for (uint32_t turns = 0; thread != 0 && turns < DUSKCLAMP_THREADS; turns++) {
+        printf(" %" PRIu32, thread);
+        thread = DUSKCLAMP_VALUE(duskclamp_next(table, sizeof table, thread));
+    }
+}
+
+static void print_objects(void) {
+    uint32_t count = DUSKCLAMP_VALUE(duskclamp_object_count(table, sizeof table));
+    for (uint32_t object = 1; object <= count; object++) {
+        printf("object %" PRIu32 ": word %06" PRIx32, object, DUSKCLAMP_VALUE(duskclamp_word(table, sizeof table, object)));
+        printf(", owner %" PRIu32, DUSKCLAMP_VALUE(duskclamp_owner(table, sizeof table, object)));
+        printf(" at depth %" PRIu32, DUSKCLAMP_VALUE(duskclamp_depth(table, sizeof table, object)));
+        printf(", flag %" PRIu32, DUSKCLAMP_VALUE(duskclamp_flag(table, sizeof table, object)));
+        printf(", holder %" PRIu32, DUSKCLAMP_VALUE(duskclamp_holder(table, sizeof table, object)));
+        print_chain("entry", DUSKCLAMP_VALUE(duskclamp_entry_first(table, sizeof table, object)));
+        print_chain("contention", DUSKCLAMP_VALUE(duskclamp_contention_first(table, sizeof table, object)));
+        print_chain("waiting", DUSKCLAMP_VALUE(duskclamp_waiting_first(table, sizeof table, object)));
+        printf("\n");
+    }
+}
+
+int main(void) {
+    if (duskclamp_version() != DUSKCLAMP_VERSION || duskclamp_layout_version() != DUSKCLAMP_LAYOUT_VERSION) {
+        fprintf(stderr, "the library is not the one that duskclamp.h declares\n");
+        return 1;
+    }
+    printf("fresh: %" PRIu32 "\n", duskclamp_fresh(table, sizeof table, THREADS, OBJECTS, 0));
+    run(1, DUSKCLAMP_ENTER, 1);
+    run(1, DUSKCLAMP_WAIT, 1);
+    run(2, DUSKCLAMP_ENTER, 1);
+    run(3, DUSKCLAMP_ENTER, 1);
+    run(3, DUSKCLAMP_ENTER, 2);
+    run(2, DUSKCLAMP_ENTER, 3);
+    run(2, DUSKCLAMP_EXIT, 2);
+    print_threads();
+    print_objects();
+    printf("a byte short: %s\n", duskclamp_returned_name(DUSKCLAMP_RETURNED(duskclamp_step(table, sizeof table - 1, 2))));
     return 0;
 }

@@ -1,5 +1,4 @@
 -- Laws of what the calls write and answer.
 pub mod FreshWritten
 pub mod FullTables
-pub mod Narrow
 pub mod RefusedBytes

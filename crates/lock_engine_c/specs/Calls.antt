@@ -1,40 +1,44 @@
--- What each exported call answers and makes of the bytes: the engine's begin, step and fresh table on the table that the bytes say.
-use Prim.Native.Nat.{ℕ, _+_, _*_}
-use mathlib.Core.Bool.{Bool, not}
+-- What each exported call that changes a table answers and makes of the bytes: the engine's begin, step and fresh table on the table that the bytes say.
+use Prim.Native.Nat.{ℕ, _+_, _*_, _%_, _≤_}
+use mathlib.Core.Path.{_≡_}
+use mathlib.Core.Bool.{Bool, true, false, not}
 use mathlib.Core.List.{List}
-use lib.Dec.{eqb, leb}
+use lib.Dec.{eqb}
 use lib.ListN.{length}
-use Rattle.laws.specs.Choice.{pick, both, within}
-use Rattle.lock_table.specs.Access.{threadAt, objectAt}
+use Rattle.laws.specs.Choice.{pick, either}
+use Rattle.lock_rules.specs.declared.Answer.{Answer}
+use Rattle.lock_rules.specs.declared.Answer.the-variants.{GoneOn, Finished, Parked, NotOwner, TooDeep, NoRule}
 use Rattle.lock_table.specs.Fresh.{freshOf, freshReturnedOf}
-use Rattle.lock_table.specs.Limits.{thread-limit, object-limit}
-use Rattle.lock_table.specs.Ownership.{ownership-at}
-use Rattle.lock_table.specs.Phase.{phaseNumberOf}
 use Rattle.lock_table.specs.declared.fresh_table.FreshAnswer.{FreshAnswer}
 use Rattle.lock_table.specs.declared.fresh_table.FreshAnswer.the-variants.{Made, SizeOutOfRange}
 use Rattle.lock_table.specs.declared.fresh_table.FreshTable.{FreshTable}
 use Rattle.lock_table.specs.declared.record.Table.{Table}
-use Rattle.lock_engine.specs.Outcome.{returnedOf, wokenOf}
+use Rattle.lock_engine.specs.Outcome.{refusalNumberOf, returnedOf, wokenOf}
 use Rattle.lock_engine.specs.Begin.{beginOf}
 use Rattle.lock_engine.specs.Step.{stepOf}
+use Rattle.lock_engine.specs.declared.outcome.Refusal.the-variants.{NotSound}
+use Rattle.lock_engine.specs.declared.outcome.Reply.{Reply}
+use Rattle.lock_engine.specs.declared.outcome.Reply.the-variants.{Begun, Refused, Answered}
 use Rattle.lock_engine.specs.declared.outcome.Outcome.{Outcome}
 use Rattle.table_bytes.specs.Layout.{table-size}
 use Rattle.table_bytes.specs.Reading.{isTable, tableOf}
-use Rattle.table_bytes.specs.Writing.{bytesOf, keptOver}
+use Rattle.table_bytes.specs.Writing.{bytesOf, keptOver, idledBytes}
 
--- document 01's numbers that the calls themselves return
+-- the library's version, 0.2.0 in three bytes
+abbrev pub version : ℕ
+version = 512
+
+-- bytes that are no table are refused as the engine refuses a table that is not sound
 abbrev pub not-sound : ℕ
-not-sound = 11
-
-abbrev pub no-such-thread : ℕ
-no-such-thread = 12
-
-abbrev pub no-such-object : ℕ
-no-such-object = 13
+not-sound = refusalNumberOf NotSound
 
 -- the returned number, the woken number and whether the event is a committing step, packed: bits 0 to 7, bits 8 to 15, bit 16
 unfoldable pub packedOf : ℕ → ℕ → Bool → ℕ
 packedOf returned woken commits = pick commits (returned + woken * 256 + 65536) (returned + woken * 256)
+
+-- the returned number of a packed answer
+abbrev pub returnedIn : ℕ → ℕ
+returnedIn answer = answer % 256
 
 abbrev pub outcomeAnswer : Outcome → ℕ
 outcomeAnswer outcome = packedOf (returnedOf (outcome .reply)) (wokenOf (outcome .reply)) (outcome .commits)
@@ -46,9 +50,34 @@ eventAnswer istable outcome = pick istable (outcomeAnswer outcome) not-sound
 abbrev pub eventBytes : Bool → List ℕ → Outcome → List ℕ
 eventBytes istable bytes outcome = pick istable (bytesOf (outcome .table)) bytes
 
--- the same as the code does it, which writes over the bytes
+-- what a refused event leaves: every byte; but 18 and 19 make the thread idle, and leave every byte of all other records
+abbrev pub leftBytes : ℕ → List ℕ → ℕ → List ℕ
+leftBytes number bytes thread = pick (either (eqb number 18) (eqb number 19)) (idledBytes bytes thread) bytes
+
+-- an event of the thread on these bytes, what it left and what it answered
+abbrev pub RefusedLeaves : List ℕ → ℕ → List ℕ → ℕ → Type 0
+RefusedLeaves before thread after answer = 11 ≤ returnedIn answer → after ≡ leftBytes (returnedIn answer) before thread
+
+-- which replies go with a table that may have changed: all but the refusals before any rule and 20
+unfoldable pub answerChanges : Answer → Bool
+answerChanges GoneOn = true
+answerChanges (Finished woken) = true
+answerChanges Parked = true
+answerChanges NotOwner = true
+answerChanges TooDeep = true
+answerChanges NoRule = false
+
+unfoldable pub replyChanges : Reply → Bool
+replyChanges Begun = true
+replyChanges (Refused refusal) = false
+replyChanges (Answered answer) = answerChanges answer
+
+-- the bytes after an event as the code makes them: it writes over them, and not where nothing changed
+unfoldable pub storedOver : Bool → List ℕ → Table → List ℕ
+storedOver changed bytes table = pick changed (keptOver bytes table) bytes
+
 abbrev pub eventOver : Bool → List ℕ → Outcome → List ℕ
-eventOver istable bytes outcome = pick istable (keptOver bytes (outcome .table)) bytes
+eventOver istable bytes outcome = pick istable (storedOver (replyChanges (outcome .reply)) bytes (outcome .table)) bytes
 
 -- the engine's begin and step on the table that the bytes say
 abbrev pub begunOn : List ℕ → ℕ → ℕ → ℕ → Outcome
@@ -81,42 +110,3 @@ madeOver bytes SizeOutOfRange table = bytes
 
 abbrev pub freshOver : Bool → List ℕ → FreshTable → List ℕ
 freshOver fits bytes made = pick fits (madeOver bytes (made .answer) (made .table)) bytes
-
--- the answer to a question: 0 and the value, packed as bits 0 to 7 and the rest; else 11, 12 or 13
-abbrev pub saying : ℕ → ℕ
-saying value = value * 256
-
-unfoldable pub saidOf : Bool → Bool → ℕ → ℕ → ℕ
-saidOf istable inrange refusal value = pick istable (pick inrange (saying value) refusal) not-sound
-
--- one of the table's, and of the records that there are, whatever a size that is not sound says
-abbrev pub thread-in-range : Table → ℕ → Bool
-thread-in-range table thread = both (within 1 (table .threadcount) thread) (leb thread thread-limit)
-
-abbrev pub object-in-range : Table → ℕ → Bool
-object-in-range table object = both (within 1 (table .objectcount) object) (leb object object-limit)
-
-abbrev pub phaseIn : Bool → Table → ℕ → ℕ
-phaseIn istable table thread = saidOf istable (thread-in-range table thread) no-such-thread (phaseNumberOf (threadAt table thread .phase))
-
-abbrev pub wordIn : Bool → Table → ℕ → ℕ
-wordIn istable table object = saidOf istable (object-in-range table object) no-such-object (objectAt table object .word)
-
--- owner and depth by the word, 0 and 0 with no owner: those that the theorem on schedules compares with the plain monitors
-abbrev pub ownerIn : Bool → Table → ℕ → ℕ
-ownerIn istable table object = saidOf istable (object-in-range table object) no-such-object (ownership-at table object .thread)
-
-abbrev pub depthIn : Bool → Table → ℕ → ℕ
-depthIn istable table object = saidOf istable (object-in-range table object) no-such-object (ownership-at table object .depth)
-
-abbrev pub phaseAnswer : List ℕ → ℕ → ℕ
-phaseAnswer bytes thread = phaseIn (isTable bytes) (tableOf bytes) thread
-
-abbrev pub wordAnswer : List ℕ → ℕ → ℕ
-wordAnswer bytes object = wordIn (isTable bytes) (tableOf bytes) object
-
-abbrev pub ownerAnswer : List ℕ → ℕ → ℕ
-ownerAnswer bytes object = ownerIn (isTable bytes) (tableOf bytes) object
-
-abbrev pub depthAnswer : List ℕ → ℕ → ℕ
-depthAnswer bytes object = depthIn (isTable bytes) (tableOf bytes) object

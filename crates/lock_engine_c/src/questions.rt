@@ -1,98 +1,185 @@
-// Questions about a table, which change nothing. An answer has the returned number in bits 0 to 7, 0 where there is a value, and the value above.
-use lock_table::OBJECTS;
-use lock_table::THREADS;
-use lock_table::Table;
-use lock_table::narrow;
-use lock_table::object_at;
-use lock_table::ownership_at;
-use lock_table::phase_number;
-use lock_table::thread_at;
-use table_bytes::is_table;
-use table_bytes::read_table;
+// The questions that are exported. They change nothing, and are answered of a table that is not sound too, by what its records say.
+use table_bytes::LAYOUT_VERSION;
+use table_questions::ObjectQuestion;
+use table_questions::ThreadQuestion;
+use table_questions::ask_object;
+use table_questions::ask_thread;
+use table_questions::object_count;
+use table_questions::thread_count;
 ghost use mathlib.Core.Path.{_≡_};
-ghost use Rattle.lock_engine_c.specs.Calls.{saidOf, phaseIn, wordIn, ownerIn, depthIn, phaseAnswer, wordAnswer, ownerAnswer, depthAnswer};
+ghost use Rattle.table_questions.specs.Questions.{threadCountAnswer, objectCountAnswer, threadAnswer, objectAnswer};
+ghost use Rattle.table_bytes.specs.Layout.{layout-version};
+ghost use Rattle.lock_engine_c.specs.Calls.{version};
+ghost use Rattle.table_questions.specs.declared.asking.ThreadQuestion.the-variants.{OperationOf, ObjectOf, PhaseOf, OnwardOf, KeptOf, SavedOf, NextOf, BlockerOf};
+ghost use Rattle.table_questions.specs.declared.asking.ObjectQuestion.the-variants.{WordOf, OwnerOf, DepthOf, FlagOf, HolderOf, MonitorDepthOf};
+ghost use Rattle.table_questions.specs.declared.asking.ObjectQuestion.the-variants.{EntryOf, ContentionOf, WaitingOf};
 
-const NOT_SOUND: u64 = 11;
+const VERSION: u32 = 512;
 
-const NO_SUCH_THREAD: u8 = 12;
-
-const NO_SUCH_OBJECT: u8 = 13;
-
-const VALUE_UNIT: u64 = 256;
-
-fn said(istable: bool, inrange: bool, refusal: u8, value: u32) -> u64
-    ensures { λ r. ⌜ r ≡ saidOf istable inrange refusal value ⌝ }
+// The library's version: major, minor and patch number in a byte each, the patch number lowest.
+#[no_mangle]
+pub extern "C" fn duskclamp_version() -> u32
+    ensures { λ r. ⌜ r ≡ version ⌝ }
 {
-    if istable {
-        if inrange {
-            return (value as u64) * VALUE_UNIT;
-        }
-        return refusal as u64;
-    }
-    NOT_SOUND
+    VERSION
 }
 
-fn phase_in(istable: bool, table: Table, number: u8) -> u64
-    ensures { λ r. ⌜ r ≡ phaseIn istable table number ⌝ }
+// The version of the bytes of a table, which rises whenever they change.
+#[no_mangle]
+pub extern "C" fn duskclamp_layout_version() -> u32
+    ensures { λ r. ⌜ r ≡ layout-version ⌝ }
 {
-    let thread = thread_at(table, number);
-    let phase = thread.phase;
-    let inrange = ((1 <= number) & (number <= table.threadcount)) & (number <= THREADS);
-    said(istable, inrange, NO_SUCH_THREAD, phase_number(phase) as u32)
+    LAYOUT_VERSION
 }
 
-fn word_in(istable: bool, table: Table, number: u8) -> u64
-    ensures { λ r. ⌜ r ≡ wordIn istable table number ⌝ }
+// How many threads the table has.
+#[no_mangle]
+pub extern "C" fn duskclamp_thread_count(bytes: &[u8]) -> u64
+    ensures { λ r. ⌜ r ≡ threadCountAnswer (now (bytes .entry)) ⌝ }
 {
-    let object = object_at(table, number);
-    let inrange = ((1 <= number) & (number <= table.objectcount)) & (number <= OBJECTS);
-    said(istable, inrange, NO_SUCH_OBJECT, object.word)
+    thread_count(bytes)
 }
 
-fn owner_in(istable: bool, table: Table, number: u8) -> u64
-    ensures { λ r. ⌜ r ≡ ownerIn istable table number ⌝ }
+// How many objects the table has.
+#[no_mangle]
+pub extern "C" fn duskclamp_object_count(bytes: &[u8]) -> u64
+    ensures { λ r. ⌜ r ≡ objectCountAnswer (now (bytes .entry)) ⌝ }
 {
-    let found = ownership_at(table, number);
-    let inrange = ((1 <= number) & (number <= table.objectcount)) & (number <= OBJECTS);
-    said(istable, inrange, NO_SUCH_OBJECT, found.thread as u32)
+    object_count(bytes)
 }
 
-fn depth_in(istable: bool, table: Table, number: u8) -> u64
-    ensures { λ r. ⌜ r ≡ depthIn istable table number ⌝ }
+// The thread's operation, 0 for idle.
+#[no_mangle]
+pub extern "C" fn duskclamp_operation(bytes: &[u8], thread: u32) -> u64
+    ensures { λ r. ⌜ r ≡ threadAnswer OperationOf (now (bytes .entry)) thread ⌝ }
 {
-    let found = ownership_at(table, number);
-    let inrange = ((1 <= number) & (number <= table.objectcount)) & (number <= OBJECTS);
-    said(istable, inrange, NO_SUCH_OBJECT, found.depth as u32)
+    ask_thread(ThreadQuestion::OperationOf, bytes, thread)
+}
+
+// The object that the thread is at, 0 for idle.
+#[no_mangle]
+pub extern "C" fn duskclamp_object(bytes: &[u8], thread: u32) -> u64
+    ensures { λ r. ⌜ r ≡ threadAnswer ObjectOf (now (bytes .entry)) thread ⌝ }
+{
+    ask_thread(ThreadQuestion::ObjectOf, bytes, thread)
 }
 
 // The thread's phase.
 #[no_mangle]
 pub extern "C" fn duskclamp_phase(bytes: &[u8], thread: u32) -> u64
-    ensures { λ r. ⌜ r ≡ phaseAnswer (now (bytes .entry)) thread ⌝ }
+    ensures { λ r. ⌜ r ≡ threadAnswer PhaseOf (now (bytes .entry)) thread ⌝ }
 {
-    phase_in(is_table(bytes), read_table(bytes), narrow(thread))
+    ask_thread(ThreadQuestion::PhaseOf, bytes, thread)
+}
+
+// The phase that a queued thread goes on with, 0 for any other.
+#[no_mangle]
+pub extern "C" fn duskclamp_onward(bytes: &[u8], thread: u32) -> u64
+    ensures { λ r. ⌜ r ≡ threadAnswer OnwardOf (now (bytes .entry)) thread ⌝ }
+{
+    ask_thread(ThreadQuestion::OnwardOf, bytes, thread)
+}
+
+// The word that a thread in phase 2 is about to store with its count changed, 0 for any other.
+#[no_mangle]
+pub extern "C" fn duskclamp_kept(bytes: &[u8], thread: u32) -> u64
+    ensures { λ r. ⌜ r ≡ threadAnswer KeptOf (now (bytes .entry)) thread ⌝ }
+{
+    ask_thread(ThreadQuestion::KeptOf, bytes, thread)
+}
+
+// The depth that a wait gave up, 0 for any other.
+#[no_mangle]
+pub extern "C" fn duskclamp_saved_depth(bytes: &[u8], thread: u32) -> u64
+    ensures { λ r. ⌜ r ≡ threadAnswer SavedOf (now (bytes .entry)) thread ⌝ }
+{
+    ask_thread(ThreadQuestion::SavedOf, bytes, thread)
+}
+
+// The thread behind this one in its chain, 0 for none.
+#[no_mangle]
+pub extern "C" fn duskclamp_next(bytes: &[u8], thread: u32) -> u64
+    ensures { λ r. ⌜ r ≡ threadAnswer NextOf (now (bytes .entry)) thread ⌝ }
+{
+    ask_thread(ThreadQuestion::NextOf, bytes, thread)
+}
+
+// Who keeps the thread parked for entry.
+#[no_mangle]
+pub extern "C" fn duskclamp_blocker(bytes: &[u8], thread: u32) -> u64
+    ensures { λ r. ⌜ r ≡ threadAnswer BlockerOf (now (bytes .entry)) thread ⌝ }
+{
+    ask_thread(ThreadQuestion::BlockerOf, bytes, thread)
 }
 
 // The object's lock word.
 #[no_mangle]
 pub extern "C" fn duskclamp_word(bytes: &[u8], object: u32) -> u64
-    ensures { λ r. ⌜ r ≡ wordAnswer (now (bytes .entry)) object ⌝ }
+    ensures { λ r. ⌜ r ≡ objectAnswer WordOf (now (bytes .entry)) object ⌝ }
 {
-    word_in(is_table(bytes), read_table(bytes), narrow(object))
+    ask_object(ObjectQuestion::WordOf, bytes, object)
 }
 
 // The thread that owns the object, 0 for nobody.
 #[no_mangle]
 pub extern "C" fn duskclamp_owner(bytes: &[u8], object: u32) -> u64
-    ensures { λ r. ⌜ r ≡ ownerAnswer (now (bytes .entry)) object ⌝ }
+    ensures { λ r. ⌜ r ≡ objectAnswer OwnerOf (now (bytes .entry)) object ⌝ }
 {
-    owner_in(is_table(bytes), read_table(bytes), narrow(object))
+    ask_object(ObjectQuestion::OwnerOf, bytes, object)
 }
 
 // How deep the object is owned, 0 if nobody does.
 #[no_mangle]
 pub extern "C" fn duskclamp_depth(bytes: &[u8], object: u32) -> u64
-    ensures { λ r. ⌜ r ≡ depthAnswer (now (bytes .entry)) object ⌝ }
+    ensures { λ r. ⌜ r ≡ objectAnswer DepthOf (now (bytes .entry)) object ⌝ }
 {
-    depth_in(is_table(bytes), read_table(bytes), narrow(object))
+    ask_object(ObjectQuestion::DepthOf, bytes, object)
+}
+
+// The object's contention flag.
+#[no_mangle]
+pub extern "C" fn duskclamp_flag(bytes: &[u8], object: u32) -> u64
+    ensures { λ r. ⌜ r ≡ objectAnswer FlagOf (now (bytes .entry)) object ⌝ }
+{
+    ask_object(ObjectQuestion::FlagOf, bytes, object)
+}
+
+// The holder of the object's monitor, 0 for nobody.
+#[no_mangle]
+pub extern "C" fn duskclamp_holder(bytes: &[u8], object: u32) -> u64
+    ensures { λ r. ⌜ r ≡ objectAnswer HolderOf (now (bytes .entry)) object ⌝ }
+{
+    ask_object(ObjectQuestion::HolderOf, bytes, object)
+}
+
+// The monitor's depth. It is the object's only where the word is fat.
+#[no_mangle]
+pub extern "C" fn duskclamp_monitor_depth(bytes: &[u8], object: u32) -> u64
+    ensures { λ r. ⌜ r ≡ objectAnswer MonitorDepthOf (now (bytes .entry)) object ⌝ }
+{
+    ask_object(ObjectQuestion::MonitorDepthOf, bytes, object)
+}
+
+// The first thread of the entry chain, 0 for none.
+#[no_mangle]
+pub extern "C" fn duskclamp_entry_first(bytes: &[u8], object: u32) -> u64
+    ensures { λ r. ⌜ r ≡ objectAnswer EntryOf (now (bytes .entry)) object ⌝ }
+{
+    ask_object(ObjectQuestion::EntryOf, bytes, object)
+}
+
+// The first thread of the contention chain, 0 for none.
+#[no_mangle]
+pub extern "C" fn duskclamp_contention_first(bytes: &[u8], object: u32) -> u64
+    ensures { λ r. ⌜ r ≡ objectAnswer ContentionOf (now (bytes .entry)) object ⌝ }
+{
+    ask_object(ObjectQuestion::ContentionOf, bytes, object)
+}
+
+// The first thread of the waiting chain, 0 for none.
+#[no_mangle]
+pub extern "C" fn duskclamp_waiting_first(bytes: &[u8], object: u32) -> u64
+    ensures { λ r. ⌜ r ≡ objectAnswer WaitingOf (now (bytes .entry)) object ⌝ }
+{
+    ask_object(ObjectQuestion::WaitingOf, bytes, object)
 }

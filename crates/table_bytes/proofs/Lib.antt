@@ -2,3 +2,4 @@
 pub mod Written
 pub mod ReadBack
 pub mod SameBytes
+pub mod IdledBytes

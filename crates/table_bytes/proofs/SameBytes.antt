@@ -168,10 +168,10 @@ module _ (bytes : List ℕ) (small : AreBytes bytes) where
         all-below-at object-limit (objectKnown bytes)
         (both-second all-threads all-objects (both-second (eqb (length bytes) table-size) (both all-threads all-objects) known)) place low
 
-    abbrev Same : ℕ → ℕ → Type 0
+    abbrev pub Same : ℕ → ℕ → Type 0
     Same i n = byteAt bytes i ≡ n
 
-    byte-same : (i : ℕ) → i < table-size → Same i (byteOf (tableOf bytes) i)
+    pub byte-same : (i : ℕ) → i < table-size → Same i (byteOf (tableOf bytes) i)
     unfolding byteOf
     byte-same i inside =
         by-below (Same i) i threads-start

@@ -102,7 +102,3 @@ module _ (bytes : List ℕ) (table : Table) (long : length bytes ≡ table-size)
 pub table-long : (bytes : List ℕ) → isTable bytes ≡ true → length bytes ≡ table-size
 unfolding isTable
 table-long bytes known = eqb-true (length bytes) table-size (both-first (eqb (length bytes) table-size) _ known)
-
-pub event-written : (bytes : List ℕ) (table : Table) → pick (isTable bytes) (keptOver bytes table) bytes ≡ pick (isTable bytes) (bytesOf table) bytes
-event-written bytes table =
-    split (isTable bytes) (λ known. rw known (kept-is bytes table (table-long bytes known))) (λ unknown. rw unknown refl)

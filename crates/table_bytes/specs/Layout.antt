@@ -2,6 +2,10 @@
 -- first. Two bytes of sizes, thirty-two thread records, sixty-four object records; a record of either kind has 11 bytes.
 use Prim.Native.Nat.{ℕ, _+_, _*_}
 
+-- the version of what stands here; whoever changes a byte of a table adds one
+abbrev pub layout-version : ℕ
+layout-version = 1
+
 abbrev pub threadcount-at : ℕ
 threadcount-at = 0
 

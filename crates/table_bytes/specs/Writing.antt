@@ -4,8 +4,9 @@ use mathlib.Core.Bool.{Bool}
 use mathlib.Core.List.{List}
 use lib.Dec.{eqb, ltb}
 use lib.ListN.{length, getD, set}
-use Rattle.laws.specs.Choice.{pick}
+use Rattle.laws.specs.Choice.{pick, within}
 use Rattle.laws.specs.Sequence.{tabulate, patched}
+use Rattle.lock_table.specs.Limits.{thread-limit}
 use Rattle.lock_table.specs.Operation.{operationNumberOf}
 use Rattle.lock_table.specs.Phase.{phaseNumberOf, carriedNumberOf}
 use Rattle.lock_table.specs.Record.{noThread, noObject}
@@ -13,6 +14,7 @@ use Rattle.lock_table.specs.declared.record.ThreadRecord.{ThreadRecord}
 use Rattle.lock_table.specs.declared.record.ObjectRecord.{ObjectRecord}
 use Rattle.lock_table.specs.declared.record.Table.{Table}
 use Rattle.table_bytes.specs.Layout.{threadcount-at, objectcount-at, threads-start, threads-size, objects-start, objects-size, record-size, table-size}
+use Rattle.table_bytes.specs.Layout.{thread-start}
 use Rattle.table_bytes.specs.Layout.{operation-at, object-at, phase-at, carried-at, kept-at, saved-at}
 use Rattle.table_bytes.specs.Layout.{word-at, flag-at, holder-at, depth-at, entry-at, contention-at}
 
@@ -72,3 +74,7 @@ writtenOver bytes table =
 -- a table is kept only where there is room for just a table
 unfoldable pub keptOver : List ℕ → Table → List ℕ
 keptOver bytes table = pick (eqb (length bytes) table-size) (writtenOver bytes table) bytes
+
+-- the bytes with one thread's record that of an idle thread, zeros; a number that is no thread's changes nothing
+unfoldable pub idledBytes : List ℕ → ℕ → List ℕ
+idledBytes bytes thread = pick (within 1 thread-limit thread) (patched (thread-start (thread - 1)) record-size (λ i. 0) bytes) bytes

@@ -1,4 +1,6 @@
 // Where the parts of a table lie in its bytes. specs/Layout.antt states the layout, with the same numbers.
+pub const LAYOUT_VERSION: u32 = 1;
+
 pub const THREADCOUNT_AT: usize = 0;
 
 pub const OBJECTCOUNT_AT: usize = 1;

@@ -3,6 +3,7 @@ mod layout;
 mod reading;
 mod writing;
 
+pub use layout::LAYOUT_VERSION;
 pub use layout::TABLE_SIZE;
 pub use reading::is_table;
 pub use reading::read_table;

@@ -1,7 +1,9 @@
--- `lock_engine_c::calls::duskclamp_begin` meets its contract: what was written over the bytes is the bytes of the engine's table.
+-- `lock_engine_c::calls::duskclamp_begin` meets its contract: the bytes of the engine's table, and every byte where it is refused.
+use native.Mathlib.Omega.{arith}
 use borrow.Author.Needs.{needs}
+use Rattle.table_bytes.specs.Reading.{AreBytes}
 use Rattle.lock_engine.proofs.Narrow.{narrow-begin}
-use Rattle.table_bytes.proofs.Written.{event-written}
+use Rattle.lock_engine_c.proofs.RefusedBytes.{begin-promised}
 use Rattle.lock_engine_c.proofs.calls.duskclamp_begin.Statement.{statement}
 use Rattle.lock_engine_c.proofs.calls.duskclamp_begin.Tie as tie
 
@@ -20,7 +22,13 @@ duskclamp-begin-spec =
     let third = gated .before in
     let second = third .before in
     let first = second .before in
-    let known = first .before .before .is-table .ensures in (
+    let asked = first .before .before in
+    let known = asked .is-table .ensures in
+    let entry = asked .before .before in
+    let given = entry .before .args in
+    let small : AreBytes (given .bytes .now) = λ i. omega (arith, entry .slice-known .given i) in (
       simp (gated .begin-gated .ensures .0, third .narrow3 .ensures, second .narrow2 .ensures, first .narrow .ensures, known, narrow-begin),
-      simp (gated .begin-gated .ensures .1, third .narrow3 .ensures, second .narrow2 .ensures, first .narrow .ensures, known, narrow-begin) (event-written _ _),
+      begin-promised (given .bytes .now) small (given .thread) (given .operation) (given .object) _ _
+          (simp (gated .begin-gated .ensures .0, third .narrow3 .ensures, second .narrow2 .ensures, first .narrow .ensures, known, narrow-begin))
+          (simp (gated .begin-gated .ensures .1, third .narrow3 .ensures, second .narrow2 .ensures, first .narrow .ensures, known, narrow-begin)),
     )))

@@ -1,7 +1,9 @@
--- `lock_engine_c::calls::duskclamp_step` meets its contract: what was written over the bytes is the bytes of the engine's table.
+-- `lock_engine_c::calls::duskclamp_step` meets its contract: the bytes of the engine's table, and every byte where it is refused.
+use native.Mathlib.Omega.{arith}
 use borrow.Author.Needs.{needs}
+use Rattle.table_bytes.specs.Reading.{AreBytes}
 use Rattle.lock_engine.proofs.Narrow.{narrow-step}
-use Rattle.table_bytes.proofs.Written.{event-written}
+use Rattle.lock_engine_c.proofs.RefusedBytes.{step-promised}
 use Rattle.lock_engine_c.proofs.calls.duskclamp_step.Statement.{statement}
 use Rattle.lock_engine_c.proofs.calls.duskclamp_step.Tie as tie
 
@@ -16,7 +18,13 @@ duskclamp-step-spec =
     (λ c.
     let gated = c .before .before in
     let number = gated .before .narrow .ensures in
-    let known = gated .before .before .before .is-table .ensures in (
+    let asked = gated .before .before .before in
+    let known = asked .is-table .ensures in
+    let entry = asked .before .before in
+    let given = entry .before .args in
+    let small : AreBytes (given .bytes .now) = λ i. omega (arith, entry .slice-known .given i) in (
       simp (gated .step-gated .ensures .0, number, known, narrow-step),
-      simp (gated .step-gated .ensures .1, number, known, narrow-step) (event-written _ _),
+      step-promised (given .bytes .now) small (given .thread) _ _
+          (simp (gated .step-gated .ensures .0, number, known, narrow-step))
+          (simp (gated .step-gated .ensures .1, number, known, narrow-step)),
     )))

@@ -8,9 +8,13 @@ fresh-gated-spec =
     tie.close
     (tie.spec
     (λ c κs. tt)
+    (λ c κs. tt)
+    (λ c. search needs)
     (λ c. search needs)
     (λ c.
-    let kept = c .before .before in
+    let kept = c .before .before .before in
     let fits = kept .before .before .before .if1 .taken in
-    (simp (kept .keep-made .ensures .0, fits), simp (kept .keep-made .ensures .1, fits)))
-    (λ c. (simp (c .if1 .left), simp (c .if1 .left))))
+    (simp (c .fresh-returned .ensures, fits), simp (kept .keep-made .ensures, fits)))
+    (λ c κs. tt)
+    (λ c. search needs)
+    (λ c. (simp (c .refusal-number .ensures, c .before .if1 .left), simp (c .before .if1 .left))))

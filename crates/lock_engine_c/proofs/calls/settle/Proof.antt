@@ -1,4 +1,4 @@
--- `lock_engine_c::calls::settle` meets its contract: the outcome's table is written and its numbers are packed.
+-- `lock_engine_c::calls::settle` meets its contract: the outcome's table is stored if it may have changed, and its numbers are packed.
 use borrow.Author.Needs.{needs}
 use Rattle.lock_engine_c.proofs.calls.settle.Statement.{statement}
 use Rattle.lock_engine_c.proofs.calls.settle.Tie as tie
@@ -11,7 +11,12 @@ settle-spec =
     (λ c κs. tt)
     (λ c κs. tt)
     (λ c κs. tt)
+    (λ c κs. tt)
     (λ c. search needs)
     (λ c.
     let read = c .before .before in
-    (simp (c .packed .ensures, c .before .woken .ensures, read .returned .ensures), read .before .before .before .write-table .ensures)))
+    let stored = read .before .before .before in
+    let changed = stored .before .before in (
+      simp (c .packed .ensures, c .before .woken .ensures, read .returned .ensures),
+      simp (stored .store .ensures, changed .reply-changes .ensures),
+    )))

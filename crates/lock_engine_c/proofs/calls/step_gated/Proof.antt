@@ -19,4 +19,6 @@ step-gated-spec =
       simp (settled .settle .ensures .0, asked .step .ensures, read .read-table .ensures, known),
       simp (settled .settle .ensures .1, asked .step .ensures, read .read-table .ensures, known),
     ))
-    (λ c. (simp (c .if1 .left), simp (c .if1 .left))))
+    (λ c κs. tt)
+    (λ c. search needs)
+    (λ c. (simp (c .refusal-number .ensures, c .before .if1 .left), simp (c .before .if1 .left))))

@@ -1,0 +1,219 @@
+// What can be asked of a table, by name, and how each is answered. An answer has the returned number in bits 0 to 7, 0 where there is a value, and
+// the value above.
+use lock_engine::Refusal;
+use lock_engine::refusal_number;
+use lock_table::OBJECTS;
+use lock_table::ObjectRecord;
+use lock_table::THREADS;
+use lock_table::Table;
+use lock_table::ThreadRecord;
+use lock_table::carried_number;
+use lock_table::narrow;
+use lock_table::object_at;
+use lock_table::operation_number;
+use lock_table::ownership_at;
+use lock_table::phase_number;
+use lock_table::thread_at;
+use lock_word::Ownership;
+use table_bytes::is_table;
+use table_bytes::read_table;
+ghost use mathlib.Core.Path.{_≡_};
+ghost use Rattle.table_bytes.specs.Writing.{flagByte};
+ghost use Rattle.table_questions.specs.Questions.{saidOf, holderBlocks, ownerBlocks, blockerOf, threadValue, objectValue};
+ghost use Rattle.table_questions.specs.Questions.{threadIn, objectIn, threadAnswer, objectAnswer, threadCountAnswer, objectCountAnswer};
+
+// Of a thread.
+pub enum ThreadQuestion {
+    OperationOf,
+    ObjectOf,
+    PhaseOf,
+    // the phase that a queued thread carries, 0 for any other
+    OnwardOf,
+    KeptOf,
+    SavedOf,
+    NextOf,
+    BlockerOf,
+}
+
+// Of an object.
+pub enum ObjectQuestion {
+    WordOf,
+    OwnerOf,
+    DepthOf,
+    FlagOf,
+    HolderOf,
+    MonitorDepthOf,
+    // the first thread of each chain
+    EntryOf,
+    ContentionOf,
+    WaitingOf,
+}
+
+const VALUE_UNIT: u64 = 256;
+
+const HOLDER_MARK: u32 = 65536;
+
+fn said(istable: bool, inrange: bool, refusal: Refusal, value: u32) -> u64
+    ensures { λ r. ⌜ r ≡ saidOf istable inrange refusal value ⌝ }
+{
+    if istable {
+        if inrange {
+            return (value as u64) * VALUE_UNIT;
+        }
+        return refusal_number(refusal) as u64;
+    }
+    refusal_number(Refusal::NotSound) as u64
+}
+
+fn flag_number(flag: bool) -> u32
+    ensures { λ r. ⌜ r ≡ flagByte flag ⌝ }
+{
+    if flag {
+        return 1;
+    }
+    0
+}
+
+fn holder_blocks(holder: u8) -> u32
+    ensures { λ r. ⌜ r ≡ holderBlocks holder ⌝ }
+{
+    if holder == 0 {
+        return 0;
+    }
+    (holder as u32) + HOLDER_MARK
+}
+
+// A thread that owns the object itself is kept by the holder alone.
+fn owner_blocks(number: u8, owner: u16, holder: u8) -> u32
+    ensures { λ r. ⌜ r ≡ ownerBlocks number owner holder ⌝ }
+{
+    if owner == 0 {
+        return holder_blocks(holder);
+    }
+    if owner == (number as u16) {
+        return holder_blocks(holder);
+    }
+    owner as u32
+}
+
+fn blocker(phase: u8, number: u8, owner: u16, holder: u8) -> u32
+    ensures { λ r. ⌜ r ≡ blockerOf phase number owner holder ⌝ }
+{
+    if phase == 5 {
+        return owner_blocks(number, owner, holder);
+    }
+    if phase == 8 {
+        return owner_blocks(number, owner, holder);
+    }
+    0
+}
+
+fn thread_value(
+    question: ThreadQuestion,
+    number: u8,
+    thread: ThreadRecord,
+    owner: u16,
+    holder: u8,
+) -> u32
+    ensures { λ r. ⌜ r ≡ threadValue question number thread owner holder ⌝ }
+{
+    let operation = thread.operation;
+    let phase = thread.phase;
+    match question {
+        ThreadQuestion::OperationOf => operation_number(operation) as u32,
+        ThreadQuestion::ObjectOf => thread.object as u32,
+        ThreadQuestion::PhaseOf => phase_number(phase) as u32,
+        ThreadQuestion::OnwardOf => carried_number(phase) as u32,
+        ThreadQuestion::KeptOf => thread.kept,
+        ThreadQuestion::SavedOf => thread.saved as u32,
+        ThreadQuestion::NextOf => thread.next as u32,
+        ThreadQuestion::BlockerOf => blocker(phase_number(phase), number, owner, holder),
+    }
+}
+
+fn object_value(question: ObjectQuestion, object: ObjectRecord, ownership: Ownership) -> u32
+    ensures { λ r. ⌜ r ≡ objectValue question object ownership ⌝ }
+{
+    let monitor = object.monitor;
+    match question {
+        ObjectQuestion::WordOf => object.word,
+        ObjectQuestion::OwnerOf => ownership.thread as u32,
+        ObjectQuestion::DepthOf => ownership.depth as u32,
+        ObjectQuestion::FlagOf => flag_number(object.flag),
+        ObjectQuestion::HolderOf => monitor.holder as u32,
+        ObjectQuestion::MonitorDepthOf => monitor.depth as u32,
+        ObjectQuestion::EntryOf => monitor.entry as u32,
+        ObjectQuestion::ContentionOf => monitor.contention as u32,
+        ObjectQuestion::WaitingOf => monitor.waiting as u32,
+    }
+}
+
+fn thread_in(question: ThreadQuestion, istable: bool, table: Table, number: u8) -> u64
+    ensures { λ r. ⌜ r ≡ threadIn question istable table number ⌝ }
+{
+    let thread = thread_at(table, number);
+    let object = object_at(table, thread.object);
+    let ownership = ownership_at(table, thread.object);
+    let monitor = object.monitor;
+    let inrange = ((1 <= number) & (number <= table.threadcount)) & (number <= THREADS);
+    said(
+        istable,
+        inrange,
+        Refusal::NoSuchThread,
+        thread_value(question, number, thread, ownership.thread, monitor.holder),
+    )
+}
+
+fn object_in(question: ObjectQuestion, istable: bool, table: Table, number: u8) -> u64
+    ensures { λ r. ⌜ r ≡ objectIn question istable table number ⌝ }
+{
+    let object = object_at(table, number);
+    let ownership = ownership_at(table, number);
+    let inrange = ((1 <= number) & (number <= table.objectcount)) & (number <= OBJECTS);
+    said(
+        istable,
+        inrange,
+        Refusal::NoSuchObject,
+        object_value(question, object, ownership),
+    )
+}
+
+// The answer of the table that the bytes say; 11 where they are none, 12 for no thread of it.
+pub fn ask_thread(question: ThreadQuestion, bytes: &[u8], thread: u32) -> u64
+    ensures { λ r. ⌜ r ≡ threadAnswer question (now (bytes .entry)) thread ⌝ }
+{
+    thread_in(question, is_table(bytes), read_table(bytes), narrow(thread))
+}
+
+// The same of an object, with 13.
+pub fn ask_object(question: ObjectQuestion, bytes: &[u8], object: u32) -> u64
+    ensures { λ r. ⌜ r ≡ objectAnswer question (now (bytes .entry)) object ⌝ }
+{
+    object_in(question, is_table(bytes), read_table(bytes), narrow(object))
+}
+
+// How many threads the table has.
+pub fn thread_count(bytes: &[u8]) -> u64
+    ensures { λ r. ⌜ r ≡ threadCountAnswer (now (bytes .entry)) ⌝ }
+{
+    let table = read_table(bytes);
+    said(
+        is_table(bytes),
+        true,
+        Refusal::NotSound,
+        table.threadcount as u32,
+    )
+}
+
+// How many objects the table has.
+pub fn object_count(bytes: &[u8]) -> u64
+    ensures { λ r. ⌜ r ≡ objectCountAnswer (now (bytes .entry)) ⌝ }
+{
+    let table = read_table(bytes);
+    said(
+        is_table(bytes),
+        true,
+        Refusal::NotSound,
+        table.objectcount as u32,
+    )
+}
