@@ -20,7 +20,8 @@
  *     DUSKCLAMP_RETURNED(answer) == DUSKCLAMP_FINISHED
  * and never `answer == DUSKCLAMP_FINISHED`.
  *
- * Stack: see DUSKCLAMP_STACK below.
+ * Stack: a step needs 9.6 KB, a begin 8.3 KB, a fresh table 5.2 KB and a question 4.9 KB, beside what memcpy and memset need. bench/stack.c measures it
+ * on a stack filled with a pattern; the frames of the machine code add up to the same along the deepest calls, and no function calls itself.
  */
 #ifndef DUSKCLAMP_H
 #define DUSKCLAMP_H

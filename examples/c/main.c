@@ -1,5 +1,5 @@
-/* Three threads at one object: the first owns it and waits to be told, the second owns it then, the third parks. The table is printed at the end:
- * each thread with its operation and phase and who keeps it, each object with its word, owner and chains. */
+/* Three threads at one object: the first waits on it, the second then owns it, and the third parks. The table is printed at the end: each thread with
+ * its operation, its phase and who keeps it, each object with its word, owner, flag and chains. */
 #include "duskclamp.h"
 #include <inttypes.h>
 #include <stdio.h>

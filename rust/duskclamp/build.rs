@@ -1,9 +1,10 @@
-//! Tells cargo where the static library is: the folder that DUSKCLAMP_LIB_DIR names, or target/staticlib of the repository.
+//! Tells cargo where the static library is: the folder that DUSKCLAMP_LIB_DIR names, or target/staticlib of the repository. It is there under the name
+//! that `rt staticlib` gives it, or under that of `make install`.
 
 use std::env;
 use std::path::{Path, PathBuf};
 
-const ARCHIVE: &str = "liblock_engine_c.a";
+const LIBRARIES: [&str; 2] = ["lock_engine_c", "duskclamp"];
 
 fn main() {
     println!("cargo:rerun-if-env-changed=DUSKCLAMP_LIB_DIR");
@@ -11,15 +12,17 @@ fn main() {
         Some(given) => PathBuf::from(given),
         None => Path::new(env!("CARGO_MANIFEST_DIR")).join("../../target/staticlib"),
     };
-    let archive = folder.join(ARCHIVE);
-    println!("cargo:rerun-if-changed={}", archive.display());
-    if !archive.is_file() {
+    let archive = |library: &str| folder.join(format!("lib{library}.a"));
+    for library in LIBRARIES {
+        println!("cargo:rerun-if-changed={}", archive(library).display());
+    }
+    let Some(library) = LIBRARIES.into_iter().find(|name| archive(name).is_file()) else {
         eprintln!(
-            "{} is not there: run `rt staticlib lock_engine_c`, or name its folder by DUSKCLAMP_LIB_DIR",
-            archive.display()
+            "the library is not in {}: run `rt staticlib lock_engine_c` in the repository, or name its folder by DUSKCLAMP_LIB_DIR",
+            folder.display()
         );
         std::process::exit(1);
-    }
+    };
     println!("cargo:rustc-link-search=native={}", folder.display());
-    println!("cargo:rustc-link-lib=static=lock_engine_c");
+    println!("cargo:rustc-link-lib=static={library}");
 }

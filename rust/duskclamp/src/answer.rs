@@ -1,38 +1,104 @@
-//! What the engine answers, under names.
+//! Operations, answers and refusals, under names.
 
-/// The operations of a thread on an object.
-#[derive(Clone, Copy, Debug, PartialEq, Eq)]
+use core::fmt;
+
+/// The operations of a thread on an object, with their numbers.
+#[derive(Clone, Copy, Debug, PartialEq, Eq, Hash)]
 pub enum Operation {
+    /// Own the object, or own it one deeper.
     Enter = 1,
+    /// Own it one less deep, or no longer.
     Exit = 2,
+    /// Give the object up until woken, and own it again as deep as before.
     Wait = 3,
+    /// Wake the thread that has waited longest, if any.
     Notify = 4,
+    /// Wake all threads that wait.
     NotifyAll = 5,
 }
 
+impl Operation {
+    /// All operations, in the order of their numbers.
+    pub const ALL: [Operation; 5] = [
+        Operation::Enter,
+        Operation::Exit,
+        Operation::Wait,
+        Operation::Notify,
+        Operation::NotifyAll,
+    ];
+
+    /// The operation's number, 1 to 5.
+    pub fn number(self) -> u8 {
+        self as u8
+    }
+
+    /// The operation with this number, if there is one.
+    ///
+    /// ```
+    /// use duskclamp::Operation;
+    /// assert_eq!(Operation::from_number(3), Some(Operation::Wait));
+    /// assert_eq!(Operation::from_number(6), None);
+    /// ```
+    pub fn from_number(number: u32) -> Option<Operation> {
+        Operation::ALL
+            .into_iter()
+            .find(|operation| u32::from(operation.number()) == number)
+    }
+
+    /// The operation's name, as in `notify all`.
+    pub fn name(self) -> &'static str {
+        match self {
+            Operation::Enter => "enter",
+            Operation::Exit => "exit",
+            Operation::Wait => "wait",
+            Operation::Notify => "notify",
+            Operation::NotifyAll => "notify all",
+        }
+    }
+}
+
+impl fmt::Display for Operation {
+    fn fmt(&self, formatter: &mut fmt::Formatter<'_>) -> fmt::Result {
+        formatter.write_str(self.name())
+    }
+}
+
 /// A step that was taken.
-#[derive(Clone, Copy, Debug, PartialEq, Eq)]
+#[derive(Clone, Copy, Debug, PartialEq, Eq, Hash)]
 pub enum Answer {
     /// 0: the operation goes on with its next phase.
     GoneOn,
-    /// 1: the operation is finished; a notify woke this many threads.
-    Finished { woken: u8 },
+    /// 1: the operation is finished, and the thread idle.
+    Finished {
+        /// How many threads a notify woke; 0 for any other operation.
+        woken: u8,
+    },
     /// 2: the thread is parked until another's step lets it go on.
     Parked,
 }
 
 /// An event that was refused, with its number. The table is as before, save that `NotOwner` and `TooDeep` make the thread idle.
-#[derive(Clone, Copy, Debug, PartialEq, Eq)]
+///
+/// ```
+/// use duskclamp::Refusal;
+/// assert_eq!(Refusal::NotOwner.number(), 18);
+/// assert_eq!(Refusal::NotOwner.to_string(), "not the owner (18)");
+/// ```
+#[derive(Clone, Copy, Debug, PartialEq, Eq, Hash)]
 pub enum Refusal {
     /// The bytes are no table, or a table that is not sound.
     NotSound = 11,
+    /// The thread is not one of the table's.
     NoSuchThread = 12,
+    /// The object is not one of the table's.
     NoSuchObject = 13,
     /// A begin of a thread that is at an operation.
     NotIdle = 14,
     /// A step of a thread that is at none.
     ThreadIdle = 15,
+    /// A step of a thread that is parked.
     ThreadParked = 16,
+    /// A begin of an operation that there is not.
     NoSuchOperation = 17,
     /// An exit, wait or notify by a thread that does not own the object.
     NotOwner = 18,
@@ -45,7 +111,8 @@ pub enum Refusal {
 }
 
 impl Refusal {
-    const ALL: [Refusal; 11] = [
+    /// All refusals, in the order of their numbers.
+    pub const ALL: [Refusal; 11] = [
         Refusal::NotSound,
         Refusal::NoSuchThread,
         Refusal::NoSuchObject,
@@ -59,8 +126,26 @@ impl Refusal {
         Refusal::SizeOutOfRange,
     ];
 
+    /// The number that the library returned.
     pub fn number(self) -> u8 {
         self as u8
+    }
+
+    /// What was wrong, in a few words.
+    pub fn name(self) -> &'static str {
+        match self {
+            Refusal::NotSound => "table not sound",
+            Refusal::NoSuchThread => "no such thread",
+            Refusal::NoSuchObject => "no such object",
+            Refusal::NotIdle => "thread not idle",
+            Refusal::ThreadIdle => "thread idle",
+            Refusal::ThreadParked => "thread parked",
+            Refusal::NoSuchOperation => "no such operation",
+            Refusal::NotOwner => "not the owner",
+            Refusal::TooDeep => "too deep",
+            Refusal::NoRule => "no rule for the step",
+            Refusal::SizeOutOfRange => "size out of range",
+        }
     }
 
     fn from_number(number: u8) -> Option<Refusal> {
@@ -70,10 +155,20 @@ impl Refusal {
     }
 }
 
+impl fmt::Display for Refusal {
+    fn fmt(&self, formatter: &mut fmt::Formatter<'_>) -> fmt::Result {
+        write!(formatter, "{} ({})", self.name(), self.number())
+    }
+}
+
+impl core::error::Error for Refusal {}
+
 /// A step's answer, and whether it committed its operation.
-#[derive(Clone, Copy, Debug, PartialEq, Eq)]
+#[derive(Clone, Copy, Debug, PartialEq, Eq, Hash)]
 pub struct Outcome {
+    /// What the step answered, or why it was refused.
     pub result: Result<Answer, Refusal>,
+    /// Whether the operation took effect with this step.
     pub commits: bool,
 }
 

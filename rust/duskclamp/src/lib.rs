@@ -4,7 +4,7 @@
 //! whoever runs the threads chooses whose step is next.
 //!
 //! ```
-//! use duskclamp::{Answer, Operation, Table, Words};
+//! use duskclamp::{Answer, Blocker, Operation, Phase, Table, Words};
 //!
 //! let mut table = Table::fresh(2, 1, Words::Free)?;
 //! table.begin(1, Operation::Enter, 1)?;
@@ -14,30 +14,72 @@
 //! // The second thread goes in, sees that the object is owned, and parks.
 //! table.begin(2, Operation::Enter, 1)?;
 //! while table.step(2).result? == Answer::GoneOn {}
-//! assert_eq!(table.phase(2), Ok(8));
+//! assert_eq!(table.phase(2), Ok(Phase::Contending));
+//! assert_eq!(table.blocker(2), Ok(Some(Blocker::Owner(1))));
 //! # Ok::<(), duskclamp::Refusal>(())
 //! ```
 //!
-//! What the calls answer is proved of the library that this crate links; the declarations in [`raw`] are not checked against its source.
+//! What the calls answer is proved of the library that this crate links; the declarations in [`raw`] are not checked against its source. The crate needs
+//! `core` alone. A call takes up to 9.6 KB of stack.
+
+#![no_std]
+#![deny(missing_docs)]
+
+#[cfg(test)]
+extern crate std;
 
 mod answer;
+mod phase;
 pub mod raw;
+mod record;
 
 pub use answer::{Answer, Operation, Outcome, Refusal};
+pub use phase::{Onward, Phase};
+pub use record::{Blocker, Chain, Object, Thread};
+
+use core::fmt;
 
 /// How many bytes a table has.
 pub const TABLE_SIZE: usize = 1058;
 
+/// The most threads of a table.
+pub const MAX_THREADS: u32 = 32;
+
+/// The most objects of a table.
+pub const MAX_OBJECTS: u32 = 64;
+
+/// The version of a table's bytes, which rises whenever they change.
+pub const LAYOUT_VERSION: u32 = 1;
+
+/// The version of the library that is linked: major, minor and patch number.
+///
+/// ```
+/// assert_eq!(duskclamp::version(), (0, 2, 0));
+/// ```
+pub fn version() -> (u8, u8, u8) {
+    let [patch, minor, major, _] = raw::version().to_le_bytes();
+    (major, minor, patch)
+}
+
 /// What every lock word of a fresh table is.
-#[derive(Clone, Copy, Debug, PartialEq, Eq)]
+#[derive(Clone, Copy, Debug, PartialEq, Eq, Hash)]
 pub enum Words {
+    /// Free: the first thread that enters takes a flat lock.
     Free,
     /// Anonymously reserved: the first thread that enters gets the reservation.
     Reserved,
 }
 
 /// A table, as the bytes that the engine works on.
-#[derive(Clone, Debug, PartialEq, Eq)]
+///
+/// ```
+/// use duskclamp::{Table, Words};
+/// let table = Table::fresh(1, 1, Words::Free)?;
+/// let shown = format!("{table:?}");
+/// assert!(shown.starts_with("Table { threads: [Thread { number: 1, operation: None,"));
+/// # Ok::<(), duskclamp::Refusal>(())
+/// ```
+#[derive(Clone, PartialEq, Eq, Hash)]
 pub struct Table {
     bytes: [u8; TABLE_SIZE],
 }
@@ -65,19 +107,20 @@ impl Table {
     /// let mut table = Table::from_bytes([0xff; TABLE_SIZE]);
     /// assert_eq!(table.step(1).result, Err(Refusal::NotSound));
     /// assert_eq!(table.bytes(), &[0xff; TABLE_SIZE]);
+    /// assert_eq!(format!("{table:?}"), "Table { no_table }");
     /// ```
     pub fn from_bytes(bytes: [u8; TABLE_SIZE]) -> Table {
         Table { bytes }
     }
 
-    /// The table's bytes, in the layout that `specs/Layout.antt` of the engine states.
+    /// The table's bytes, in the layout of version [`LAYOUT_VERSION`].
     pub fn bytes(&self) -> &[u8; TABLE_SIZE] {
         &self.bytes
     }
 
     /// The thread begins the operation on the object.
     pub fn begin(&mut self, thread: u32, operation: Operation, object: u32) -> Result<(), Refusal> {
-        self.begin_number(thread, operation as u32, object)
+        self.begin_number(thread, operation.number().into(), object)
     }
 
     /// The same with the operation's number, whatever it is.
@@ -112,10 +155,63 @@ impl Table {
     pub fn step(&mut self, thread: u32) -> Outcome {
         answer::outcome(raw::step(&mut self.bytes, thread))
     }
+}
 
-    /// The thread's phase, 0 for idle; 5, 8 and 14 are parked.
-    pub fn phase(&self, thread: u32) -> Result<u32, Refusal> {
-        answer::value(raw::phase(&self.bytes, thread))
+/// Questions. `NotSound` where the bytes are no table, then `NoSuchThread` or `NoSuchObject`; a table that is not sound is answered by what its records
+/// say.
+impl Table {
+    /// How many threads the table has.
+    ///
+    /// ```
+    /// use duskclamp::{Table, Words};
+    /// let table = Table::fresh(3, 2, Words::Free)?;
+    /// assert_eq!((table.thread_count(), table.object_count()), (Ok(3), Ok(2)));
+    /// # Ok::<(), duskclamp::Refusal>(())
+    /// ```
+    pub fn thread_count(&self) -> Result<u32, Refusal> {
+        answer::value(raw::thread_count(&self.bytes))
+    }
+
+    /// How many objects the table has.
+    pub fn object_count(&self) -> Result<u32, Refusal> {
+        answer::value(raw::object_count(&self.bytes))
+    }
+
+    /// The thread's phase.
+    pub fn phase(&self, thread: u32) -> Result<Phase, Refusal> {
+        let number = answer::value(raw::phase(&self.bytes, thread))?;
+        let onward = answer::value(raw::onward(&self.bytes, thread))?;
+        Ok(Phase::from_numbers(number, onward))
+    }
+
+    /// Who keeps the thread, where it is parked for entry, in phase 5 or 8.
+    pub fn blocker(&self, thread: u32) -> Result<Option<Blocker>, Refusal> {
+        answer::value(raw::blocker(&self.bytes, thread)).map(Blocker::from_value)
+    }
+
+    /// The thread's record.
+    ///
+    /// ```
+    /// use duskclamp::{Operation, Phase, Refusal, Table, Words};
+    /// let mut table = Table::fresh(1, 1, Words::Free)?;
+    /// table.begin(1, Operation::Enter, 1)?;
+    /// let thread = table.thread(1)?;
+    /// assert_eq!((thread.operation, thread.object), (Some(Operation::Enter), 1));
+    /// assert_eq!(thread.phase, Phase::Look);
+    /// assert_eq!(table.thread(2), Err(Refusal::NoSuchThread));
+    /// # Ok::<(), Refusal>(())
+    /// ```
+    pub fn thread(&self, number: u32) -> Result<Thread, Refusal> {
+        let bytes = &self.bytes;
+        Ok(Thread {
+            number,
+            operation: Operation::from_number(answer::value(raw::operation(bytes, number))?),
+            object: answer::value(raw::object(bytes, number))?,
+            phase: self.phase(number)?,
+            kept: answer::value(raw::kept(bytes, number))?,
+            saved_depth: answer::value(raw::saved_depth(bytes, number))?,
+            next: answer::value(raw::next(bytes, number))?,
+        })
     }
 
     /// The object's lock word.
@@ -140,15 +236,126 @@ impl Table {
     pub fn depth(&self, object: u32) -> Result<u32, Refusal> {
         answer::value(raw::depth(&self.bytes, object))
     }
+
+    /// The object's record, and who owns it.
+    pub fn object(&self, number: u32) -> Result<Object, Refusal> {
+        let bytes = &self.bytes;
+        Ok(Object {
+            number,
+            word: self.word(number)?,
+            owner: self.owner(number)?,
+            depth: self.depth(number)?,
+            flag: answer::value(raw::flag(bytes, number))? != 0,
+            holder: answer::value(raw::holder(bytes, number))?,
+            monitor_depth: answer::value(raw::monitor_depth(bytes, number))?,
+            entry: self.first(number, Chain::Entry)?,
+            contention: self.first(number, Chain::Contention)?,
+            waiting: self.first(number, Chain::Waiting)?,
+        })
+    }
+
+    /// The first thread of a chain of the object, 0 for none.
+    pub fn first(&self, object: u32, chain: Chain) -> Result<u32, Refusal> {
+        let question = match chain {
+            Chain::Entry => raw::entry_first,
+            Chain::Contention => raw::contention_first,
+            Chain::Waiting => raw::waiting_first,
+        };
+        answer::value(question(&self.bytes, object))
+    }
+
+    /// The records of all threads, none where the bytes are no table.
+    ///
+    /// ```
+    /// use duskclamp::{Table, Words};
+    /// let table = Table::fresh(3, 2, Words::Free)?;
+    /// assert_eq!(table.threads().count(), 3);
+    /// assert!(table.objects().all(|object| object.owner == 0));
+    /// # Ok::<(), duskclamp::Refusal>(())
+    /// ```
+    pub fn threads(&self) -> impl Iterator<Item = Thread> + '_ {
+        let count = self.thread_count().unwrap_or(0);
+        (1..=count).map_while(|number| self.thread(number).ok())
+    }
+
+    /// The records of all objects, none where the bytes are no table.
+    pub fn objects(&self) -> impl Iterator<Item = Object> + '_ {
+        let count = self.object_count().unwrap_or(0);
+        (1..=count).map_while(|number| self.object(number).ok())
+    }
+
+    /// The threads of a chain of the object, from the first on. A ring of links, which no sound table has, ends after as many as there can be threads.
+    ///
+    /// ```
+    /// use duskclamp::{Answer, Chain, Operation, Table, Words};
+    /// let mut table = Table::fresh(3, 1, Words::Free)?;
+    /// for thread in [1, 3, 2] {
+    ///     table.begin(thread, Operation::Enter, 1)?;
+    ///     while table.step(thread).result? == Answer::GoneOn {}
+    /// }
+    /// assert!(table.chain(1, Chain::Contention)?.eq([3, 2]));
+    /// # Ok::<(), duskclamp::Refusal>(())
+    /// ```
+    pub fn chain(
+        &self,
+        object: u32,
+        chain: Chain,
+    ) -> Result<impl Iterator<Item = u32> + '_, Refusal> {
+        let some = |thread: u32| (thread != 0).then_some(thread);
+        let next = move |thread: &u32| match answer::value(raw::next(&self.bytes, *thread)) {
+            Ok(next) => some(next),
+            Err(_) => None,
+        };
+        let first = self.first(object, chain)?;
+        Ok(core::iter::successors(some(first), next).take(MAX_THREADS as usize))
+    }
+}
+
+/// The records of a table's threads and of its objects, to be shown.
+struct Threads<'a>(&'a Table);
+struct Objects<'a>(&'a Table);
+
+impl fmt::Debug for Threads<'_> {
+    fn fmt(&self, formatter: &mut fmt::Formatter<'_>) -> fmt::Result {
+        formatter.debug_list().entries(self.0.threads()).finish()
+    }
+}
+
+impl fmt::Debug for Objects<'_> {
+    fn fmt(&self, formatter: &mut fmt::Formatter<'_>) -> fmt::Result {
+        formatter.debug_list().entries(self.0.objects()).finish()
+    }
+}
+
+/// By its records, from the first thread to the last object.
+impl fmt::Debug for Table {
+    fn fmt(&self, formatter: &mut fmt::Formatter<'_>) -> fmt::Result {
+        if self.thread_count().is_err() {
+            return formatter.write_str("Table { no_table }");
+        }
+        formatter
+            .debug_struct("Table")
+            .field("threads", &Threads(self))
+            .field("objects", &Objects(self))
+            .finish()
+    }
 }
 
 #[cfg(test)]
 mod tests {
     use super::*;
+    use std::string::ToString;
+    use std::vec;
 
     #[test]
-    fn size_is_the_library_s() {
+    fn sizes_and_versions_are_the_library_s() {
         assert_eq!(raw::table_size(), TABLE_SIZE);
+        assert_eq!(raw::layout_version(), LAYOUT_VERSION);
+        let (major, minor, patch) = version();
+        assert_eq!(
+            std::format!("{major}.{minor}.{patch}"),
+            env!("CARGO_PKG_VERSION")
+        );
     }
 
     #[test]
@@ -159,6 +366,7 @@ mod tests {
             assert_eq!(raw::begin(&mut bytes, 1, 1, 1), 11);
             assert_eq!(raw::step(&mut bytes, 1), 11);
             assert_eq!(raw::phase(&bytes, 1), 11);
+            assert_eq!(raw::thread_count(&bytes), 11);
             assert_eq!(bytes, vec![0xa5; length]);
         }
     }
@@ -174,5 +382,25 @@ mod tests {
             Table::fresh(257, 1, Words::Free),
             Err(Refusal::SizeOutOfRange)
         );
+    }
+
+    #[test]
+    fn a_size_beyond_the_records_lets_no_number_in() {
+        let mut bytes = *Table::fresh(1, 1, Words::Free).unwrap().bytes();
+        bytes[0] = 200;
+        bytes[1] = 200;
+        let table = Table::from_bytes(bytes);
+        assert_eq!(table.thread_count(), Ok(200));
+        assert_eq!(table.threads().count(), 32);
+        assert_eq!(table.objects().count(), 64);
+        assert_eq!(table.thread(33), Err(Refusal::NoSuchThread));
+        assert_eq!(table.object(65), Err(Refusal::NoSuchObject));
+    }
+
+    #[test]
+    fn every_refusal_has_words() {
+        for refusal in Refusal::ALL {
+            assert!(refusal.to_string().contains(&refusal.number().to_string()));
+        }
     }
 }

@@ -1,7 +1,12 @@
 //! The calls of `include/duskclamp.h` on borrowed bytes, with their packed answers. Any bytes and any numbers are answered.
+//!
+//! An event's answer has the returned number in bits 0 to 7, the woken number in bits 8 to 15, and in bit 16 whether the step commits. A question's
+//! answer has the returned number in bits 0 to 7 and, where that is 0, the value above.
 
 mod declared {
     extern "C" {
+        pub fn duskclamp_version() -> u32;
+        pub fn duskclamp_layout_version() -> u32;
         pub fn duskclamp_table_size() -> usize;
         pub fn duskclamp_fresh(
             bytes: *mut u8,
@@ -18,15 +23,40 @@ mod declared {
             object: u32,
         ) -> u32;
         pub fn duskclamp_step(bytes: *mut u8, length: usize, thread: u32) -> u32;
+        pub fn duskclamp_thread_count(bytes: *const u8, length: usize) -> u64;
+        pub fn duskclamp_object_count(bytes: *const u8, length: usize) -> u64;
+        pub fn duskclamp_operation(bytes: *const u8, length: usize, thread: u32) -> u64;
+        pub fn duskclamp_object(bytes: *const u8, length: usize, thread: u32) -> u64;
         pub fn duskclamp_phase(bytes: *const u8, length: usize, thread: u32) -> u64;
+        pub fn duskclamp_onward(bytes: *const u8, length: usize, thread: u32) -> u64;
+        pub fn duskclamp_kept(bytes: *const u8, length: usize, thread: u32) -> u64;
+        pub fn duskclamp_saved_depth(bytes: *const u8, length: usize, thread: u32) -> u64;
+        pub fn duskclamp_next(bytes: *const u8, length: usize, thread: u32) -> u64;
+        pub fn duskclamp_blocker(bytes: *const u8, length: usize, thread: u32) -> u64;
         pub fn duskclamp_word(bytes: *const u8, length: usize, object: u32) -> u64;
         pub fn duskclamp_owner(bytes: *const u8, length: usize, object: u32) -> u64;
         pub fn duskclamp_depth(bytes: *const u8, length: usize, object: u32) -> u64;
+        pub fn duskclamp_flag(bytes: *const u8, length: usize, object: u32) -> u64;
+        pub fn duskclamp_holder(bytes: *const u8, length: usize, object: u32) -> u64;
+        pub fn duskclamp_monitor_depth(bytes: *const u8, length: usize, object: u32) -> u64;
+        pub fn duskclamp_entry_first(bytes: *const u8, length: usize, object: u32) -> u64;
+        pub fn duskclamp_contention_first(bytes: *const u8, length: usize, object: u32) -> u64;
+        pub fn duskclamp_waiting_first(bytes: *const u8, length: usize, object: u32) -> u64;
     }
 }
 
 // SAFETY, of every call below: the library reads and writes only the `length` bytes behind the pointer, which the borrow lends for the call,
 // and keeps no pointer. Its functions have no precondition.
+
+/// The library's version: major, minor and patch number in a byte each, the patch number lowest.
+pub fn version() -> u32 {
+    unsafe { declared::duskclamp_version() }
+}
+
+/// The version of the bytes of a table.
+pub fn layout_version() -> u32 {
+    unsafe { declared::duskclamp_layout_version() }
+}
 
 /// How many bytes a table has.
 pub fn table_size() -> usize {
@@ -40,32 +70,107 @@ pub fn fresh(bytes: &mut [u8], threads: u32, objects: u32, reserved: u32) -> u32
     }
 }
 
-/// The thread begins the operation on the object: the returned number.
+/// The thread begins the operation on the object.
 pub fn begin(bytes: &mut [u8], thread: u32, operation: u32, object: u32) -> u32 {
     unsafe { declared::duskclamp_begin(bytes.as_mut_ptr(), bytes.len(), thread, operation, object) }
 }
 
-/// The thread takes a step: the returned number, above it the woken number in bits 8 to 15 and in bit 16 whether the step commits.
+/// The thread takes a step.
 pub fn step(bytes: &mut [u8], thread: u32) -> u32 {
     unsafe { declared::duskclamp_step(bytes.as_mut_ptr(), bytes.len(), thread) }
 }
 
-/// The thread's phase, above the returned number in bits 0 to 7.
+/// How many threads the table has.
+pub fn thread_count(bytes: &[u8]) -> u64 {
+    unsafe { declared::duskclamp_thread_count(bytes.as_ptr(), bytes.len()) }
+}
+
+/// How many objects the table has.
+pub fn object_count(bytes: &[u8]) -> u64 {
+    unsafe { declared::duskclamp_object_count(bytes.as_ptr(), bytes.len()) }
+}
+
+/// The thread's operation, 0 for idle.
+pub fn operation(bytes: &[u8], thread: u32) -> u64 {
+    unsafe { declared::duskclamp_operation(bytes.as_ptr(), bytes.len(), thread) }
+}
+
+/// The object that the thread is at, 0 for idle.
+pub fn object(bytes: &[u8], thread: u32) -> u64 {
+    unsafe { declared::duskclamp_object(bytes.as_ptr(), bytes.len(), thread) }
+}
+
+/// The thread's phase.
 pub fn phase(bytes: &[u8], thread: u32) -> u64 {
     unsafe { declared::duskclamp_phase(bytes.as_ptr(), bytes.len(), thread) }
 }
 
-/// The object's lock word, above the returned number.
+/// The phase that a queued thread goes on with, 0 for any other.
+pub fn onward(bytes: &[u8], thread: u32) -> u64 {
+    unsafe { declared::duskclamp_onward(bytes.as_ptr(), bytes.len(), thread) }
+}
+
+/// The word that a thread in phase 2 is about to store, 0 in any other.
+pub fn kept(bytes: &[u8], thread: u32) -> u64 {
+    unsafe { declared::duskclamp_kept(bytes.as_ptr(), bytes.len(), thread) }
+}
+
+/// The depth that a wait gave up, else 0.
+pub fn saved_depth(bytes: &[u8], thread: u32) -> u64 {
+    unsafe { declared::duskclamp_saved_depth(bytes.as_ptr(), bytes.len(), thread) }
+}
+
+/// The thread behind this one in its chain, 0 for none.
+pub fn next(bytes: &[u8], thread: u32) -> u64 {
+    unsafe { declared::duskclamp_next(bytes.as_ptr(), bytes.len(), thread) }
+}
+
+/// Who keeps a thread parked for entry: a thread in bits 0 to 15 of the value, and in bit 16 whether it is the monitor's holder and not the owner.
+pub fn blocker(bytes: &[u8], thread: u32) -> u64 {
+    unsafe { declared::duskclamp_blocker(bytes.as_ptr(), bytes.len(), thread) }
+}
+
+/// The object's lock word.
 pub fn word(bytes: &[u8], object: u32) -> u64 {
     unsafe { declared::duskclamp_word(bytes.as_ptr(), bytes.len(), object) }
 }
 
-/// The object's owner, above the returned number; 0 for nobody.
+/// The thread that owns the object, 0 for nobody.
 pub fn owner(bytes: &[u8], object: u32) -> u64 {
     unsafe { declared::duskclamp_owner(bytes.as_ptr(), bytes.len(), object) }
 }
 
-/// How deep the object is owned, above the returned number.
+/// How deep the object is owned, 0 if nobody owns it.
 pub fn depth(bytes: &[u8], object: u32) -> u64 {
     unsafe { declared::duskclamp_depth(bytes.as_ptr(), bytes.len(), object) }
+}
+
+/// The object's contention flag.
+pub fn flag(bytes: &[u8], object: u32) -> u64 {
+    unsafe { declared::duskclamp_flag(bytes.as_ptr(), bytes.len(), object) }
+}
+
+/// The holder of the object's monitor, 0 for nobody.
+pub fn holder(bytes: &[u8], object: u32) -> u64 {
+    unsafe { declared::duskclamp_holder(bytes.as_ptr(), bytes.len(), object) }
+}
+
+/// The depth of the object's monitor, which is the object's only where the word is fat.
+pub fn monitor_depth(bytes: &[u8], object: u32) -> u64 {
+    unsafe { declared::duskclamp_monitor_depth(bytes.as_ptr(), bytes.len(), object) }
+}
+
+/// The first thread of the entry chain, 0 for none.
+pub fn entry_first(bytes: &[u8], object: u32) -> u64 {
+    unsafe { declared::duskclamp_entry_first(bytes.as_ptr(), bytes.len(), object) }
+}
+
+/// The first thread of the contention chain, 0 for none.
+pub fn contention_first(bytes: &[u8], object: u32) -> u64 {
+    unsafe { declared::duskclamp_contention_first(bytes.as_ptr(), bytes.len(), object) }
+}
+
+/// The first thread of the waiting chain, 0 for none.
+pub fn waiting_first(bytes: &[u8], object: u32) -> u64 {
+    unsafe { declared::duskclamp_waiting_first(bytes.as_ptr(), bytes.len(), object) }
 }

@@ -1,0 +1,82 @@
+/* How much stack each call of the library needs: every call is made on a stack of its own that was filled with a pattern, over a long random schedule
+ * of 32 threads, and the deepest byte that was written counts. memcpy and memset are bound before (-z now), so that the linker's own stack does not
+ * count. Build and run, from the repository:
+ *
+ *     gcc -O2 -Wl,-z,now -I include bench/stack.c target/staticlib/liblock_engine_c.a -o target/stack && target/stack
+ */
+#include "duskclamp.h"
+#include <stdio.h>
+#include <string.h>
+#include <ucontext.h>
+
+#define STACK_SIZE 65536
+#define PATTERN 0xa5
+#define EVENTS 20000
+
+static uint8_t table[DUSKCLAMP_TABLE_SIZE];
+static uint8_t stack[STACK_SIZE] __attribute__((aligned(64)));
+static ucontext_t here, there;
+static void (*called)(void);
+static uint32_t thread, operation, object, sizes, kind;
+static volatile uint64_t answer;
+
+static void call_nothing(void) { answer = 0; }
+static void call_fresh(void) { answer = duskclamp_fresh(table, sizeof table, sizes, 4, kind); }
+static void call_begin(void) { answer = duskclamp_begin(table, sizeof table, thread, operation, object); }
+static void call_step(void) { answer = duskclamp_step(table, sizeof table, thread); }
+
+static void call_questions(void) {
+    answer = duskclamp_thread_count(table, sizeof table);
+    answer = duskclamp_phase(table, sizeof table, thread);
+    answer = duskclamp_blocker(table, sizeof table, thread);
+    answer = duskclamp_depth(table, sizeof table, object);
+}
+
+static void enter(void) { called(); }
+
+/* How many bytes of its stack the call wrote to. */
+static size_t used(void (*function)(void)) {
+    memset(stack, PATTERN, sizeof stack);
+    getcontext(&there);
+    there.uc_stack.ss_sp = stack;
+    there.uc_stack.ss_size = sizeof stack;
+    there.uc_link = &here;
+    called = function;
+    makecontext(&there, enter, 0);
+    swapcontext(&here, &there);
+    size_t untouched = 0;
+    while (untouched < sizeof stack && stack[untouched] == PATTERN)
+        untouched++;
+    return sizeof stack - untouched;
+}
+
+static uint32_t draw(uint32_t below) {
+    static uint64_t state = 1;
+    state = state * 6364136223846793005u + 1442695040888963407u;
+    return (uint32_t)(state >> 33) % below;
+}
+
+static void keep(size_t *most, size_t found) {
+    if (found > *most)
+        *most = found;
+}
+
+int main(void) {
+    size_t fresh = 0, begin = 0, step = 0, questions = 0, nothing = used(call_nothing);
+    for (int round = 0; round < 8; round++) {
+        sizes = 32;
+        kind = round % 2;
+        keep(&fresh, used(call_fresh));
+        for (int event = 0; event < EVENTS; event++) {
+            thread = draw(32) + 1;
+            operation = draw(5) + 1;
+            object = draw(4) + 1;
+            keep(&begin, used(call_begin));
+            keep(&step, used(call_step));
+            if (event % 16 == 0)
+                keep(&questions, used(call_questions));
+        }
+    }
+    printf("fresh %zu, begin %zu, step %zu, questions %zu bytes\n", fresh - nothing, begin - nothing, step - nothing, questions - nothing);
+    return 0;
+}
