@@ -1,5 +1,10 @@
-//! What the two programs here share: the layout of a table's bytes, tables made by construction, and damage done to them.
+//! What the programs and tests here share: the layout of a table's bytes, tables made by construction, damage done to them, the questions, and the
+//! comparison of the library with the second engine.
 
+pub mod cases;
+pub mod compare;
 pub mod construct;
 pub mod damage;
 pub mod layout;
+pub mod questions;
+pub mod read_only;

@@ -1,0 +1,119 @@
+//! A table and an event for each number that an event returns, so that each comes up in every run. No schedule reaches some of the tables.
+
+use reference::engine::Event;
+use reference::table::{Chain, Onward, Operation, Phase, Table, ThreadRecord, MAX_DEPTH};
+use reference::word::LockWord;
+
+pub struct Case {
+    pub number: u8,
+    pub table: Table,
+    pub event: Event,
+}
+
+/// The threads of the cases: one that takes the event, and one in its way.
+const ONE: u8 = 1;
+const OTHER: u8 = 2;
+const OBJECT: u8 = 1;
+
+fn fresh() -> Table {
+    Table::fresh(2, 1, false).expect("sizes in range")
+}
+
+/// A table with thread one at this operation and phase, in the chain of its phase.
+fn at(operation: Operation, phase: Phase) -> Table {
+    let mut table = fresh();
+    *table.thread_mut(ONE) = ThreadRecord {
+        operation: Some(operation),
+        object: OBJECT,
+        phase,
+        saved_depth: u16::from(phase.uses_saved_depth()),
+        ..ThreadRecord::default()
+    };
+    if let Some(chain) = phase.chain() {
+        table.join(OBJECT, chain, ONE);
+    }
+    table
+}
+
+/// The same with the object's word, and its monitor held at a depth.
+fn held(mut table: Table, word: LockWord, holder: u8, depth: u16) -> Table {
+    let object = table.object_mut(OBJECT);
+    object.word = word.encode();
+    object.monitor.holder = holder;
+    object.monitor.depth = depth;
+    table
+}
+
+fn begin(thread: u16, operation: u8, object: u16) -> Event {
+    Event::Begin {
+        thread,
+        operation,
+        object,
+    }
+}
+
+fn step(thread: u16) -> Event {
+    Event::Step { thread }
+}
+
+fn unsound() -> Table {
+    let mut table = fresh();
+    table.threads = 0;
+    table
+}
+
+pub fn cases() -> Vec<Case> {
+    let flat = LockWord::Flat {
+        thread: OTHER.into(),
+        count: 0,
+    };
+    let fat = LockWord::Fat {
+        monitor: OBJECT.into(),
+    };
+    let queued = at(Operation::Enter, Phase::Queued(Onward::Check));
+    let deep = held(at(Operation::Enter, Phase::GoIn), fat, ONE, MAX_DEPTH);
+    let trying = held(at(Operation::Enter, Phase::Try), flat, ONE, 0);
+    let cases = [
+        (0, fresh(), begin(1, 1, 1)),
+        (1, at(Operation::Enter, Phase::Look), step(1)),
+        (2, trying, step(1)),
+        (11, unsound(), step(1)),
+        (11, unsound(), begin(1, 1, 1)),
+        (12, fresh(), step(3)),
+        (12, fresh(), begin(0, 1, 1)),
+        (13, fresh(), begin(1, 1, 2)),
+        (14, at(Operation::Exit, Phase::Look), begin(1, 1, 1)),
+        (15, fresh(), step(1)),
+        (16, held(queued, fat, OTHER, 1), step(1)),
+        (16, at(Operation::Enter, Phase::Contending), step(1)),
+        (16, at(Operation::Wait, Phase::Waiting), step(1)),
+        (17, fresh(), begin(1, 6, 1)),
+        (18, at(Operation::Exit, Phase::Look), step(1)),
+        (19, deep, step(1)),
+        (20, at(Operation::Enter, Phase::Check), step(1)),
+        (20, at(Operation::Exit, Phase::Tell), step(1)),
+    ];
+    cases
+        .map(|(number, table, event)| Case {
+            number,
+            table,
+            event,
+        })
+        .into()
+}
+
+/// A thread of each chain parked behind another, for the questions along a chain.
+pub fn chained(chain: Chain) -> Table {
+    let (operation, phase) = match chain {
+        Chain::Entry => (Operation::Enter, Phase::Queued(Onward::Check)),
+        Chain::Contention => (Operation::Enter, Phase::Contending),
+        Chain::Waiting => (Operation::Wait, Phase::Waiting),
+    };
+    let mut table = at(operation, phase);
+    *table.thread_mut(OTHER) = ThreadRecord {
+        next: 0,
+        ..*table.thread(ONE)
+    };
+    table.join(OBJECT, chain, OTHER);
+    table
+}

@@ -1,0 +1,274 @@
+//! The library beside the second engine: bytes and answers of events and of fresh tables, and answers to questions.
+
+use crate::cases::{cases, chained};
+use crate::construct::sound_table;
+use crate::damage::{damage, fields, Field};
+use crate::layout::{decode, encode, TABLE_SIZE};
+use crate::questions::QUESTIONS;
+use duskclamp::raw;
+use reference::engine::{apply, Event};
+use reference::random::Random;
+use reference::report::{compare_outputs, Report};
+use reference::table::{Chain, Table};
+use reference::{generate, program, replay, sound};
+use std::process::ExitCode;
+
+const NOT_SOUND: u32 = 11;
+/// Questions put to each table; the next table gets the next ones.
+const ASKED: u64 = 5;
+
+pub struct Run {
+    random: Random,
+    fields: Vec<Field>,
+    report: Report,
+    /// How often each number was returned.
+    returned: [u64; 256],
+}
+
+impl Run {
+    pub fn new(seed: u64) -> Run {
+        Run {
+            random: Random::new(seed),
+            fields: fields(),
+            report: Report::default(),
+            returned: [0; 256],
+        }
+    }
+
+    /// The table and event made for each number, by both engines and by its number.
+    pub fn check_cases(&mut self) {
+        for case in cases() {
+            let bytes = encode(&case.table);
+            let result = self
+                .check_event(&bytes, Some(case.table), case.event)
+                .and_then(|returned| match returned == case.number {
+                    true => Ok(()),
+                    false => Err(format!("returned {returned}")),
+                });
+            self.note(|| format!("the case for {}", case.number), result);
+        }
+        for chain in Chain::ALL {
+            let table = chained(chain);
+            let bytes = encode(&table);
+            for (question, asked) in QUESTIONS.iter().flat_map(|each| [(each, 1), (each, 2)]) {
+                let result = question.check(&bytes, Some(&table), asked);
+                self.note(|| format!("a chain {chain:?}"), result);
+            }
+        }
+        for length in [TABLE_SIZE - 1, TABLE_SIZE] {
+            self.check_fresh(vec![0; length], 33, 1, false);
+        }
+    }
+
+    /// Kinds of tables by turns: sound, one field damaged, two fields, random bytes.
+    pub fn check_table(&mut self, place: u64) {
+        let bytes = match place % 8 {
+            0..=2 => self.sound_bytes(),
+            3..=4 => self.damaged_bytes(place, 1),
+            5..=6 => self.damaged_bytes(place, 2),
+            _ => self.random_bytes(),
+        };
+        let table = decode(&bytes);
+        let numbers = table.as_ref().map(|table| (table.threads, table.objects));
+        for stepping in [true, false] {
+            let event = self.event(numbers.unwrap_or((3, 3)), stepping);
+            let result = self.check_event(&bytes, table.clone(), event).map(|_| ());
+            let name = || format!("table {place}, {event:?}");
+            self.note(name, result);
+        }
+        let (threads, objects) = numbers.unwrap_or((3, 3));
+        let last = self.random.pick(&[threads, objects]);
+        let asked = self.near(last).into();
+        for turn in 0..ASKED {
+            let question = &QUESTIONS[(place * ASKED + turn) as usize % QUESTIONS.len()];
+            let result = question.check(&bytes, table.as_ref(), asked);
+            self.note(|| format!("table {place}"), result);
+        }
+    }
+
+    fn note(&mut self, name: impl Fn() -> String, result: Result<(), String>) {
+        let name = if result.is_err() {
+            name()
+        } else {
+            String::new()
+        };
+        self.report.check(&name, result);
+    }
+
+    fn sound_bytes(&mut self) -> Vec<u8> {
+        let table = sound_table(&mut self.random);
+        if !sound::is_sound(&table) {
+            let wrong = Err("the construction is wrong".to_string());
+            self.report.check("a table made to be sound", wrong);
+        }
+        encode(&table)
+    }
+
+    /// The first field damaged goes through all of them in turn.
+    fn damaged_bytes(&mut self, place: u64, number: usize) -> Vec<u8> {
+        let mut bytes = self.sound_bytes();
+        let first = (place / 8) as usize % self.fields.len();
+        damage(&mut self.random, &mut bytes, self.fields[first]);
+        for _ in 1..number {
+            // Fields of the first records are the ones that matter most.
+            let last = self.random.pick(&[self.fields.len(), 30]);
+            let other = self.random.between(0, last as u64 - 1) as usize;
+            damage(&mut self.random, &mut bytes, self.fields[other]);
+        }
+        bytes
+    }
+
+    fn random_bytes(&mut self) -> Vec<u8> {
+        let any = self.random.between(0, 2 * TABLE_SIZE as u64) as usize;
+        let near = TABLE_SIZE - 1 + self.random.between(0, 2) as usize;
+        let length = self.random.pick(&[TABLE_SIZE, TABLE_SIZE, near, any]);
+        let largest = self.random.pick(&[1, 2, 5, 15, 255]);
+        let chance = self.random.pick(&[1, 10, 100]);
+        let mut bytes = vec![0; length];
+        for byte in &mut bytes {
+            if self.random.percent(chance) {
+                *byte = self.random.between(0, largest) as u8;
+            }
+        }
+        bytes
+    }
+
+    fn event(&mut self, (threads, objects): (u8, u8), stepping: bool) -> Event {
+        let thread = self.near(threads);
+        if stepping {
+            return Event::Step { thread };
+        }
+        Event::Begin {
+            thread,
+            operation: self.random.pick(&[0, 1, 1, 2, 2, 3, 3, 4, 5, 6, 255]),
+            object: self.near(objects),
+        }
+    }
+
+    /// Mostly a number from 1 to the last, at times one beside that range or far from it.
+    fn near(&mut self, last: u8) -> u16 {
+        let last = u16::from(last).max(1);
+        let inside = self.random.between(1, last.into()) as u16;
+        self.random.pick(&[
+            inside,
+            inside,
+            inside,
+            inside,
+            inside,
+            0,
+            last + 1,
+            256 + inside,
+            u16::MAX,
+        ])
+    }
+
+    /// Bytes and answer of one event, by both engines; the number that both returned.
+    fn check_event(
+        &mut self,
+        bytes: &[u8],
+        table: Option<Table>,
+        event: Event,
+    ) -> Result<u8, String> {
+        let (expected, expected_bytes) = match table {
+            None => (NOT_SOUND, bytes.to_vec()),
+            Some(mut table) => {
+                let outcome = apply(&mut table, event);
+                let returned = u32::from(outcome.returned.number());
+                let woken = u32::from(outcome.woken) << 8;
+                let commits = u32::from(outcome.committed) << 16;
+                (returned | woken | commits, encode(&table))
+            }
+        };
+        let mut given_bytes = bytes.to_vec();
+        let given = match event {
+            Event::Begin {
+                thread,
+                operation,
+                object,
+            } => raw::begin(
+                &mut given_bytes,
+                thread.into(),
+                operation.into(),
+                object.into(),
+            ),
+            Event::Step { thread } => raw::step(&mut given_bytes, thread.into()),
+        };
+        self.returned[given as u8 as usize] += 1;
+        if given != expected {
+            return Err(format!(
+                "answer {given:#x}, by the second engine {expected:#x}"
+            ));
+        }
+        compare_bytes(&given_bytes, &expected_bytes).map(|()| given as u8)
+    }
+
+    /// A fresh table of sizes in range or not, over bytes of any length.
+    pub fn check_any_fresh(&mut self) {
+        let threads = self
+            .random
+            .pick(&[0, 1, 2, 31, 32, 33, 255, 256, 257, 65_535]);
+        let objects = self
+            .random
+            .pick(&[0, 1, 2, 63, 64, 65, 255, 256, 257, 65_535]);
+        let reserved = self.random.percent(50);
+        let before = self.random_bytes();
+        self.check_fresh(before, threads, objects, reserved);
+    }
+
+    fn check_fresh(&mut self, before: Vec<u8>, threads: u16, objects: u16, reserved: bool) {
+        let made = Table::fresh(threads, objects, reserved);
+        let (expected, expected_bytes) = match made {
+            _ if before.len() != TABLE_SIZE => (NOT_SOUND, before.clone()),
+            Ok(table) => (0, encode(&table)),
+            Err(returned) => (u32::from(returned.number()), before.clone()),
+        };
+        let mut bytes = before;
+        let given = raw::fresh(&mut bytes, threads.into(), objects.into(), reserved.into());
+        self.returned[given as usize] += 1;
+        let result = match given == expected {
+            true => compare_bytes(&bytes, &expected_bytes),
+            false => Err(format!("answer {given}, by the second engine {expected}")),
+        };
+        self.note(|| format!("fresh table of {threads} and {objects}"), result);
+    }
+
+    /// A generated schedule with malformed lines strewn in, by both replays.
+    pub fn check_replay(&mut self, program: &str, seed: u64) {
+        let mut input = generate::schedule(seed);
+        input.extend(b"E 01 1\nS\n\nQ 1 1\nS 1 1\n");
+        let expected = replay::replay(&input);
+        let result = program::run(program, &input).and_then(|output| {
+            let lines = output.split(|byte| *byte == b'\n');
+            self.returned[21] += lines.filter(|line| *line == b"21").count() as u64;
+            compare_outputs(&output, &expected)
+        });
+        self.note(|| format!("malformed lines behind schedule {seed}"), result);
+    }
+
+    /// Each number must have come up, which `check_cases` sees to.
+    pub fn finish(mut self, replayed: bool) -> ExitCode {
+        let numbers = [0, 1, 2].into_iter().chain(11..=22);
+        for number in numbers.filter(|number| *number != 21 || replayed) {
+            let times = self.returned[number];
+            println!("returned {number}: {times}");
+            let result = match times {
+                0 => Err("never returned".to_string()),
+                _ => Ok(()),
+            };
+            self.report.check(&format!("number {number}"), result);
+        }
+        self.report.finish()
+    }
+}
+
+fn compare_bytes(given: &[u8], expected: &[u8]) -> Result<(), String> {
+    let differs = given.iter().zip(expected).position(|(a, b)| a != b);
+    match differs {
+        None if given.len() == expected.len() => Ok(()),
+        None => Err("the lengths differ".to_string()),
+        Some(place) => Err(format!(
+            "byte {place} is {}, by the second engine {}",
+            given[place], expected[place]
+        )),
+    }
+}

@@ -1,0 +1,92 @@
+//! The library beside the second engine in short, and its refusals on memory that may only be read.
+
+use reference::engine::Event;
+use std::os::unix::process::ExitStatusExt;
+use std::process::{Command, ExitCode};
+use tables::cases::cases;
+use tables::compare::Run;
+use tables::layout::{encode, TABLE_SIZE};
+use tables::read_only::ReadOnly;
+
+const SIGSEGV: i32 = 11;
+
+#[test]
+fn the_two_engines_agree() {
+    let mut run = Run::new(1);
+    run.check_cases();
+    for place in 0..5_000 {
+        run.check_table(place);
+    }
+    for _ in 0..200 {
+        run.check_any_fresh();
+    }
+    assert_eq!(run.finish(false), ExitCode::SUCCESS);
+}
+
+/// Returned with nothing to store: all refusals but 18 and 19, which make the thread idle.
+fn stores_nothing(number: u8) -> bool {
+    matches!(number, 11..=17 | 20)
+}
+
+#[test]
+fn refused_events_store_nothing() {
+    let mut seen = Vec::new();
+    for case in cases()
+        .into_iter()
+        .filter(|case| stores_nothing(case.number))
+    {
+        let bytes = encode(&case.table);
+        let table = ReadOnly::new(&bytes);
+        let answer = match case.event {
+            Event::Begin {
+                thread,
+                operation,
+                object,
+            } => table.begin(thread.into(), operation.into(), object.into()),
+            Event::Step { thread } => table.step(thread.into()),
+        };
+        assert_eq!(answer, case.number.into());
+        assert_eq!(table.bytes(), bytes);
+        seen.push(case.number);
+    }
+    seen.dedup();
+    assert_eq!(seen, [11, 12, 13, 14, 15, 16, 17, 20]);
+}
+
+#[test]
+fn bytes_that_are_no_table_are_not_stored_to() {
+    for (length, value) in [(0, 0), (TABLE_SIZE - 1, 0), (TABLE_SIZE, 0xff)] {
+        // A mapping has at least a byte.
+        let table = ReadOnly::new(&vec![value; length.max(1)]);
+        assert_eq!(table.begin(1, 1, 1), 11);
+        assert_eq!(table.step(1), 11);
+    }
+}
+
+#[test]
+fn refused_fresh_tables_store_nothing() {
+    let short = ReadOnly::new(&[0; TABLE_SIZE - 1]);
+    assert_eq!(short.fresh(1, 1), 11);
+    let whole = ReadOnly::new(&[0; TABLE_SIZE]);
+    for (threads, objects) in [(0, 1), (33, 1), (1, 0), (1, 65), (u32::MAX, u32::MAX)] {
+        assert_eq!(whole.fresh(threads, objects), 22);
+    }
+    assert_eq!(whole.bytes(), [0; TABLE_SIZE]);
+}
+
+/// The tests above see a store: an accepted event makes one, and ends its process.
+#[test]
+fn a_store_ends_the_process() {
+    let status = Command::new(std::env::current_exe().expect("this program has a path"))
+        .args(["--exact", "accepted_on_read_only_memory", "--ignored"])
+        .output()
+        .expect("this program runs")
+        .status;
+    assert_eq!(status.signal(), Some(SIGSEGV));
+}
+
+#[test]
+#[ignore = "ends its process; run by a_store_ends_the_process"]
+fn accepted_on_read_only_memory() {
+    ReadOnly::new(&[0; TABLE_SIZE]).fresh(1, 1);
+}
