@@ -1,9 +1,17 @@
 #!/bin/sh
-# Compiles the C example against the static library and compares what it prints. The last line is 'N passed, M failed'.
-# `rt staticlib lock_engine_c` must have written target/staticlib/liblock_engine_c.a.
-cd "$(dirname "$0")/.." || exit 1
-passed=0
-failed=0
+# Compiles the C example against the static library, compares what it prints, and compiles the header as C++. The last line is 'N passed, M failed'.
+set -u
+cd "$(dirname "$0")/.." || exit 2
+library=target/staticlib/liblock_engine_c.a
+if [ ! -f "$library" ]; then
+    echo "c_example: $library is not there: run rt staticlib lock_engine_c"
+    exit 2
+fi
+if ! command -v gcc >/dev/null; then
+    echo "c_example: gcc is not found"
+    exit 2
+fi
+passed=0 failed=0
 
 check() {
     if [ "$2" -eq 0 ]; then
@@ -14,11 +22,15 @@ check() {
     fi
 }
 
-gcc -std=c11 -Wall -Wextra -Werror -I include examples/c/main.c target/staticlib/liblock_engine_c.a -o target/c_example
+gcc -std=c11 -pedantic -Wall -Wextra -Werror -I include examples/c/main.c "$library" -o target/c_example
 check "compiling with gcc" $?
-target/c_example > target/c_example.out
+target/c_example >target/c_example.out
 check "running" $?
 diff examples/c/expected target/c_example.out
 check "comparing the output" $?
+if command -v g++ >/dev/null; then
+    g++ -x c++ -std=c++11 -pedantic -Wall -Wextra -Werror -fsyntax-only include/duskclamp.h
+    check "the header as C++" $?
+fi
 echo "$passed passed, $failed failed"
 [ "$failed" -eq 0 ]
