@@ -2,7 +2,17 @@
 # Every schedule of examples/, through the proved program and the second one, byte for byte.
 # tests/examples.sh PROGRAM REFERENCE; the last line is 'N passed, M failed'.
 set -u
+if [ $# -ne 2 ]; then
+    echo "usage: tests/examples.sh PROGRAM REFERENCE"
+    exit 2
+fi
 program=$1 reference=$2
+for needed in "$program" "$reference"; do
+    if [ ! -x "$needed" ]; then
+        echo "examples: $needed is not there: rt check replay builds target/bin/replay, cargo build in tests/reference builds reference_replay"
+        exit 2
+    fi
+done
 examples=$(dirname "$0")/../examples
 work=$(mktemp -d) || exit 2
 trap 'rm -rf "$work"' EXIT
