@@ -102,8 +102,25 @@ pub fn cases() -> Vec<Case> {
         .into()
 }
 
-/// A thread of each chain parked behind another, for the questions along a chain.
-pub fn chained(chain: Chain) -> Table {
+/// Tables to be asked about: a thread behind another in each chain, and a monitor at a depth that nobody holds, which is no owner's.
+pub fn asked_about() -> Vec<Table> {
+    let mut tables: Vec<Table> = Chain::ALL.into_iter().map(chained).collect();
+    let fat = LockWord::Fat {
+        monitor: OBJECT.into(),
+    };
+    tables.push(held(fresh(), fat, 0, 5));
+    // The other thread holds the monitor of an object that the queued one owns itself, and of one that nobody owns.
+    let own = LockWord::Flat {
+        thread: ONE.into(),
+        count: 0,
+    };
+    let queued = at(Operation::Wait, Phase::Queued(Onward::Inflate));
+    tables.push(held(queued.clone(), own, OTHER, 0));
+    tables.push(held(queued, LockWord::Free, OTHER, 0));
+    tables
+}
+
+fn chained(chain: Chain) -> Table {
     let (operation, phase) = match chain {
         Chain::Entry => (Operation::Enter, Phase::Queued(Onward::Check)),
         Chain::Contention => (Operation::Enter, Phase::Contending),

@@ -144,13 +144,13 @@ fn onward(phase: Phase) -> u32 {
     }
 }
 
-/// Owner and depth by the word, for any word and any monitor. A fat word with number 0 is no lock word: no object has that number.
+/// Owner and depth by the word, for any word and any monitor, 0 and 0 with no owner. A fat word with number 0 is no lock word: no object has that number.
 fn ownership(object: &ObjectRecord) -> (u32, u32) {
     let monitor = &object.monitor;
     match LockWord::decode(object.word) {
         Some(LockWord::Flat { thread, count }) => (thread.into(), u32::from(count) + 1),
         Some(LockWord::Reserved { thread, count }) if count > 0 => (thread.into(), count.into()),
-        Some(LockWord::Fat { monitor: 1.. }) if monitor.depth > 0 => {
+        Some(LockWord::Fat { monitor: 1.. }) if monitor.depth > 0 && monitor.holder > 0 => {
             (monitor.holder.into(), monitor.depth.into())
         }
         _ => (0, 0),
