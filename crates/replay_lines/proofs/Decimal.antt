@@ -12,7 +12,8 @@ use borrow.Author.Tests.{ne-eqb, eqb-true, eqb-false, lt-ltb, le-ltb, ltb-true, 
 use Rattle.laws.specs.Choice.{pick}
 use Rattle.laws.proofs.Choice.{split, by-test, both-of}
 use Rattle.replay_text.specs.Digits.{digitByteOf, digits, placesOf, decimal}
-use Rattle.replay_lines.specs.Bytes.{digit-zero, digit-nine}
+use Rattle.replay_text.specs.Bytes.{digit-zero}
+use Rattle.replay_lines.specs.Bytes.{digit-nine}
 use Rattle.replay_lines.specs.Number.{number-limit, isDigit, appended, digitsFrom, numberOf}
 use Rattle.replay_lines.specs.declared.number.Number.{Number}
 use Rattle.replay_lines.specs.declared.number.Number.the-variants.{Found, Absent}

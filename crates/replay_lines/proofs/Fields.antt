@@ -11,7 +11,8 @@ use lib.Seq.{drop-cons, take-all}
 use borrow.Author.Tests.{lt-ltb, le-ltb, leb-true}
 use Rattle.laws.specs.Choice.{pick}
 use Rattle.laws.proofs.Choice.{both-first, both-second}
-use Rattle.replay_lines.specs.Bytes.{space, digit-zero, digit-nine}
+use Rattle.replay_text.specs.Bytes.{space, digit-zero}
+use Rattle.replay_lines.specs.Bytes.{digit-nine}
 use Rattle.replay_lines.specs.Number.{number-limit, isDigit, appended, digitsFrom, numberOf, one-byte-more, fieldOf}
 use Rattle.replay_lines.specs.declared.number.Number.{Number}
 use Rattle.replay_lines.specs.declared.number.Number.the-variants.{Found, Absent}

@@ -6,7 +6,7 @@ use native.Mathlib.Omega.{arith}
 use lib.Dec.{eqb}
 use lib.ListN.{length, getD, take, drop}
 use Rattle.laws.specs.Choice.{pick}
-use Rattle.replay_lines.specs.Bytes.{newline}
+use Rattle.replay_text.specs.Bytes.{newline}
 use Rattle.replay_lines.specs.Number.{fieldOf}
 use Rattle.replay_lines.specs.Grammar.{number-then, field-then, endOf}
 use Rattle.replay_lines.specs.declared.number.Number.{Number}

@@ -7,7 +7,7 @@ use native.Mathlib.Omega.{arith}
 use lib.ListN.{length, getD, drop}
 use lib.Seq.{drop-cons}
 use borrow.Author.Tests.{eq-eqb, ne-eqb}
-use Rattle.replay_lines.specs.Bytes.{newline}
+use Rattle.replay_text.specs.Bytes.{newline}
 use Rattle.replay_lines.specs.Cutting.{lineEnd, one-further}
 
 -- an end that is found from `at` on, counted from the start

@@ -8,7 +8,8 @@ use lib.Dec.{eqb, ltb}
 use lib.ListN.{length, drop, length-drop}
 use borrow.Author.Tests.{lt-ltb, eqb-false}
 use Rattle.laws.proofs.Choice.{by-test}
-use Rattle.replay_lines.specs.Bytes.{space, digit-zero, letter-L, letter-S}
+use Rattle.replay_text.specs.Bytes.{space, digit-zero}
+use Rattle.replay_lines.specs.Bytes.{letter-L, letter-S}
 use Rattle.replay_lines.specs.Number.{number-limit, isDigit, appended, digitsFrom, numberOf, fieldOf}
 use Rattle.replay_lines.specs.Grammar.{number-then, field-then, endOf, stepOf, beginObjectOf, beginOf, operationOf, lineOf}
 use Rattle.replay_lines.specs.Grammar.{headerReservedOf, headerObjectsOf, headerOf}

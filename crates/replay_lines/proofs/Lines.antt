@@ -8,7 +8,7 @@ use lib.Dec.{eqb}
 use lib.ListN.{length, take, drop, length-drop}
 use lib.Seq.{length-take-le}
 use Rattle.laws.specs.Choice.{pick}
-use Rattle.replay_lines.specs.Bytes.{newline}
+use Rattle.replay_text.specs.Bytes.{newline}
 use Rattle.replay_lines.specs.Cutting.{lineEnd, one-further, before-first, linesOf, first-line, later-lines}
 use Rattle.replay_lines.proofs.Fields.{rest-of}
 

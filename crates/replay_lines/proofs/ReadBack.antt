@@ -14,7 +14,8 @@ use Rattle.laws.specs.Choice.{pick}
 use Rattle.laws.specs.Count.{one-if}
 use Rattle.laws.proofs.Choice.{by-test}
 use Rattle.replay_text.specs.Digits.{decimal}
-use Rattle.replay_lines.specs.Bytes.{newline, space, letter-L, letter-S}
+use Rattle.replay_text.specs.Bytes.{newline, space}
+use Rattle.replay_lines.specs.Bytes.{letter-L, letter-S}
 use Rattle.replay_lines.specs.Number.{number-limit, isDigit, numberOf, one-byte-more, fieldOf}
 use Rattle.replay_lines.specs.Grammar.{number-then, field-then, endOf, stepOf, beginObjectOf, beginOf, operationOf, lineOf}
 use Rattle.replay_lines.specs.Grammar.{headerReservedOf, headerObjectsOf, headerOf}

@@ -1,15 +1,5 @@
--- The bytes that a line is made of, in ASCII.
+-- The bytes that only the lines read have, in ASCII; those that are printed too stand in replay_text.
 use Prim.Native.Nat.{ℕ}
-
-abbrev pub newline : ℕ
-newline = 10
-
-abbrev pub space : ℕ
-space = 32
-
--- the digits 0 to 9 follow each other
-abbrev pub digit-zero : ℕ
-digit-zero = 48
 
 abbrev pub digit-nine : ℕ
 digit-nine = 57

@@ -3,7 +3,7 @@ use Prim.Native.Nat.{ℕ, zero, suc}
 use mathlib.Core.List.{List, [], _∷_}
 use lib.Dec.{eqb}
 use Rattle.laws.specs.Choice.{pick}
-use Rattle.replay_lines.specs.Bytes.{newline}
+use Rattle.replay_text.specs.Bytes.{newline}
 
 -- the end of a line, seen from one byte before it; 0 where there is no end
 abbrev pub one-further : ℕ → ℕ

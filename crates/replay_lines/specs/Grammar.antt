@@ -5,7 +5,8 @@ use mathlib.Core.List.{List, [], _∷_}
 use lib.ListN.{drop}
 use lib.Dec.{ltb, eqb}
 use Rattle.laws.specs.Choice.{pick}
-use Rattle.replay_lines.specs.Bytes.{newline, letter-A, letter-E, letter-L, letter-N, letter-S, letter-W, letter-X}
+use Rattle.replay_text.specs.Bytes.{newline}
+use Rattle.replay_lines.specs.Bytes.{letter-A, letter-E, letter-L, letter-N, letter-S, letter-W, letter-X}
 use Rattle.replay_lines.specs.Number.{fieldOf}
 use Rattle.replay_lines.specs.declared.number.Number.{Number}
 use Rattle.replay_lines.specs.declared.number.Number.the-variants.{Found, Absent}

@@ -5,7 +5,8 @@ use mathlib.Core.Bool.{Bool}
 use mathlib.Core.List.{List, [], _∷_, _++_}
 use Rattle.laws.specs.Count.{one-if}
 use Rattle.replay_text.specs.Digits.{decimal}
-use Rattle.replay_lines.specs.Bytes.{newline, space, letter-A, letter-E, letter-L, letter-N, letter-S, letter-W, letter-X}
+use Rattle.replay_text.specs.Bytes.{newline, space}
+use Rattle.replay_lines.specs.Bytes.{letter-A, letter-E, letter-L, letter-N, letter-S, letter-W, letter-X}
 use Rattle.replay_lines.specs.Number.{number-limit}
 use Rattle.replay_lines.specs.declared.reading.Line.{Line}
 use Rattle.replay_lines.specs.declared.reading.Line.the-variants.{Header, Begin, Step}

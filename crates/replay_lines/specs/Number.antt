@@ -4,7 +4,8 @@ use mathlib.Core.Bool.{Bool}
 use mathlib.Core.List.{List, [], _∷_}
 use lib.Dec.{ltb, eqb}
 use Rattle.laws.specs.Choice.{pick, within}
-use Rattle.replay_lines.specs.Bytes.{space, digit-zero, digit-nine}
+use Rattle.replay_text.specs.Bytes.{space, digit-zero}
+use Rattle.replay_lines.specs.Bytes.{digit-nine}
 use Rattle.replay_lines.specs.declared.number.Number.{Number}
 use Rattle.replay_lines.specs.declared.number.Number.the-variants.{Found, Absent}
 

@@ -1,10 +1,5 @@
-// The bytes that a line is made of, in ASCII. specs/Bytes.antt states the same numbers for the contracts.
-pub const NEWLINE: u8 = 10;
-
-pub const SPACE: u8 = 32;
-
-pub const DIGIT_ZERO: u8 = 48;
-
+// The bytes that only the lines read have, in ASCII; those that are printed too stand in replay_text. specs/Bytes.antt states the same
+// numbers for the contracts.
 pub const DIGIT_NINE: u8 = 57;
 
 pub const LETTER_A: u8 = 65;

@@ -1,7 +1,7 @@
 // Where the first line of an input ends.
-use crate::bytes::NEWLINE;
 ghost use mathlib.Core.Path.{_≡_};
 ghost use Rattle.replay_lines.specs.Cutting.{lineEnd};
+use replay_text::NEWLINE;
 
 // No line of a form is longer.
 pub const LINE_LIMIT: usize = 20;

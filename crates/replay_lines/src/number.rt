@@ -1,10 +1,10 @@
 // Decimal numbers: no leading zero, at most 65,535, of any length without overflow.
 use crate::bytes::DIGIT_NINE;
-use crate::bytes::DIGIT_ZERO;
-use crate::bytes::SPACE;
 ghost use mathlib.Core.Path.{_≡_};
 ghost use lib.ListN.{drop};
 ghost use Rattle.replay_lines.specs.Number.{isDigit, digitsFrom, numberOf, fieldOf};
+use replay_text::DIGIT_ZERO;
+use replay_text::SPACE;
 
 // The largest number of a line.
 const NUMBER_LIMIT: u32 = 65535;

@@ -6,11 +6,11 @@ use crate::bytes::LETTER_N;
 use crate::bytes::LETTER_S;
 use crate::bytes::LETTER_W;
 use crate::bytes::LETTER_X;
-use crate::bytes::NEWLINE;
 use crate::number::Number;
 use crate::number::read_field;
 ghost use mathlib.Core.Path.{_≡_};
 ghost use Rattle.replay_lines.specs.Grammar.{endOf, stepOf, beginOf, beginObjectOf, headerOf, headerObjectsOf, headerReservedOf, operationOf, lineOf};
+use replay_text::NEWLINE;
 
 pub enum Line {
     Header {

@@ -1,4 +1,4 @@
--- The bytes that a line is made of, in ASCII.
+-- The bytes that lines are made of, in ASCII: those printed, and those that the line reader shares.
 use Prim.Native.Nat.{ℕ}
 
 abbrev pub newline : ℕ
@@ -12,5 +12,5 @@ abbrev pub digit-zero : ℕ
 digit-zero = 48
 
 -- so do the letters a to f
-abbrev pub letter-a : ℕ
-letter-a = 97
+abbrev pub lower-a : ℕ
+lower-a = 97

@@ -3,11 +3,11 @@ use Prim.Native.Nat.{ℕ, zero, suc, _+_, _-_, _/_, _%_}
 use mathlib.Core.List.{List, [], _∷_, _++_}
 use lib.Dec.{ltb}
 use Rattle.laws.specs.Choice.{pick}
-use Rattle.replay_text.specs.Bytes.{digit-zero, letter-a}
+use Rattle.replay_text.specs.Bytes.{digit-zero, lower-a}
 
 -- a digit below 16: 0 to 9, then a to f
 unfoldable pub digitByteOf : ℕ → ℕ
-digitByteOf digit = pick (ltb digit 10) (digit-zero + digit) (letter-a + (digit - 10))
+digitByteOf digit = pick (ltb digit 10) (digit-zero + digit) (lower-a + (digit - 10))
 
 -- the last `width` digits of a number in a base, the most significant first
 unfoldable pub digits : ℕ → ℕ → ℕ → List ℕ

@@ -1,4 +1,5 @@
-// The bytes that a line is made of, in ASCII, and the storing of one. specs/Bytes.antt states the same numbers for the contracts.
+// The bytes that lines are made of, in ASCII, for the line reader too, and the storing of one. specs/Bytes.antt states the same numbers
+// for the contracts.
 ghost use mathlib.Core.List.{[], _∷_};
 ghost use Prim.Native.Nat.{_<_};
 ghost use lib.ListN.{length};
@@ -10,7 +11,7 @@ pub const SPACE: u8 = 32;
 
 pub const DIGIT_ZERO: u8 = 48;
 
-pub const LETTER_A: u8 = 97;
+pub const LOWER_A: u8 = 97;
 
 pub(crate) fn put_byte(out: &mut [u8], at: usize, byte: u8) -> usize
     requires { ⌜ at < length (now out) ⌝ }

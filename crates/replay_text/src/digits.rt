@@ -1,6 +1,6 @@
 // Numbers as digits: a fixed number of them in any base up to 16, and decimal without a leading zero.
 use crate::bytes::DIGIT_ZERO;
-use crate::bytes::LETTER_A;
+use crate::bytes::LOWER_A;
 ghost use mathlib.Core.Path.{_≡_};
 ghost use Prim.Native.Nat.{_+_, _≤_, _<_};
 ghost use lib.ListN.{length};
@@ -16,7 +16,7 @@ fn digit_byte(digit: u32) -> u8
     if digit < 10 {
         return DIGIT_ZERO + digit as u8;
     }
-    LETTER_A + (digit - 10) as u8
+    LOWER_A + (digit - 10) as u8
 }
 
 // The last `width` digits of the number, the most significant first; written from the last one back.

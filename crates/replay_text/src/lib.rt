@@ -14,3 +14,6 @@ pub use answer::LINE_ROOM;
 pub use answer::put_answer;
 pub use answer::put_answer_line;
 pub use answer::put_number_line;
+pub use bytes::DIGIT_ZERO;
+pub use bytes::NEWLINE;
+pub use bytes::SPACE;
