@@ -1,2 +1,6 @@
 -- Laws of the program.
 pub mod Counts
+pub mod Draining
+pub mod Taking
+pub mod Running
+pub mod Whole

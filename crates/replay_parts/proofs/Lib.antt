@@ -1,4 +1,5 @@
 -- The laws of the definitions in specs/.
 pub mod Turn
 pub mod Taken
+pub mod Passing
 pub mod Whole

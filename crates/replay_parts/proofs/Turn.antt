@@ -2,7 +2,7 @@
 use Prim.Native.Nat.{ℕ, _+_, _-_, _≤_, _<_}
 use mathlib.Core.Path.{_≡_, refl, ap, sym, _∙_, subst}
 use mathlib.Core.Logic.{_⊎_, inl, inr, ⊎-elim}
-use mathlib.Core.Bool.{false}
+use mathlib.Core.Bool.{Bool, false}
 use mathlib.Core.List.{List, _∷_, _++_, append-assoc}
 use native.Mathlib.Omega.{arith}
 use lib.ListN.{length, take, drop, length-drop}
@@ -13,7 +13,7 @@ use Rattle.replay_lines.proofs.Fields.{rest-of}
 use Rattle.replay_lines.proofs.Lines.{end-within, line-split}
 use Rattle.replay_text.specs.Text.{line-room}
 use Rattle.replay_parts.specs.Replay.{Replay, outputOf, restOf}
-use Rattle.replay_parts.specs.Part.{Fed, HasLine}
+use Rattle.replay_parts.specs.Part.{Fed, HasLine, GoesOn}
 
 -- the session has read the input up to `rest` and written `wrote` bytes
 pub record Going {S : Type 0} (replay : Replay S) (start : S) (input out₀ out : List ℕ) (session : S) (rest : List ℕ) (wrote : ℕ) : Type 0 where
@@ -78,18 +78,22 @@ module _ {S : Type 0} {replay : Replay S} {start : S} {input out₀ out : List �
       subst (λ (x : List ℕ). Going replay start input out₀ out′ session′ x wrote′) (sym (rest-of n rest)) (going-on end some moved front within kept)
 
   -- the run stops for want of room or of a whole line
-  pub going-stops : (length out - wrote < line-room) ⊎ (lineEnd rest ≡ 0) → HasLine input out₀
-      → Fed replay start false input out session false (length input - length rest) wrote
+  pub going-stops : {last : Bool} → (length out - wrote < line-room) ⊎ (lineEnd rest ≡ 0) → HasLine input out₀ → GoesOn last input out₀
+      → Fed replay start false last input out session false (length input - length rest) wrote
   unfolding restOf
-  going-stops stop has-line = record {
-    used-within = omega arith;
-    wrote-within = going .wrote-within;
-    prints = λ tail.
-        going .prints tail ∙ ap (λ (x : List ℕ). take wrote out ++ outputOf replay session (linesOf (x ++ tail))) (sym (going .rest-place));
-    moves = λ room any.
-        let line : 0 < lineEnd input = ⊎-elim (λ whole. whole) (has-line (omega (arith, room, going .same-length))) any in
-        ⊎-elim
-        (λ first. ⊎-elim (λ short. absurd (omega (arith, short, first .0))) (λ none. absurd (omega (arith, none, line, ap lineEnd (first .1)))) stop)
-        (λ further. omega arith)
-        (going .moved);
-  }
+  going-stops stop has-line goes-on =
+      let moves : line-room ≤ length out → 0 < lineEnd input → 0 < length input - length rest =
+      λ room line.
+      ⊎-elim
+      (λ first. ⊎-elim (λ short. absurd (omega (arith, short, first .0))) (λ none. absurd (omega (arith, none, line, ap lineEnd (first .1)))) stop)
+      (λ further. omega arith)
+      (going .moved) in
+      record {
+        used-within = omega arith;
+        wrote-within = going .wrote-within;
+        prints = λ tail follows.
+            going .prints tail ∙ ap (λ (x : List ℕ). take wrote out ++ outputOf replay session (linesOf (x ++ tail))) (sym (going .rest-place));
+        moves = λ room any. moves room (⊎-elim (λ whole. whole) (has-line (omega (arith, room, going .same-length))) any);
+        finishes = λ ends room nothing.
+            absurd (omega (arith, nothing, moves (omega arith) (goes-on ends (omega (arith, room, going .same-length)))));
+      }

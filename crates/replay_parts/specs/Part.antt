@@ -3,27 +3,50 @@
 use Prim.Native.Nat.{ℕ, _≤_, _<_}
 use mathlib.Core.Path.{_≡_}
 use mathlib.Core.Logic.{_⊎_}
-use mathlib.Core.Bool.{Bool}
-use mathlib.Core.List.{List, _++_}
+use mathlib.Core.Bool.{Bool, true}
+use mathlib.Core.List.{List, [], _++_}
 use lib.ListN.{length, take, drop}
 use Rattle.replay_lines.specs.Cutting.{lineEnd, line-limit}
 use Rattle.replay_text.specs.Text.{line-room}
 use Rattle.replay_parts.specs.Replay.{Replay, restOf}
 
+-- room for what a last piece without a newline prints, and for what the end of the input prints
+abbrev pub end-room : ℕ
+end-room = 128
+
+-- what may come behind a part: nothing behind the last one
+abbrev pub Follows : Bool → List ℕ → Type 0
+Follows last tail = last ≡ true → tail ≡ []
+
 -- `used` bytes of the part were taken and `wrote` bytes written, and the session went on to `session′`, `inside′`.
--- A part that has a whole line, or is longer than any line, is not left untouched if there is room for an answer.
-pub record Fed {S : Type 0} (replay : Replay S) (session : S) (inside : Bool) (input out : List ℕ)
+-- A part that has a whole line, or is longer than any line, is not left untouched if there is room for an answer; and where nothing is taken
+-- of the last part, nothing more is printed.
+pub record Fed {S : Type 0} (replay : Replay S) (session : S) (inside last : Bool) (input out : List ℕ)
     (session′ : S) (inside′ : Bool) (used wrote : ℕ) : Type 0 where
   pub used-within : used ≤ length input
   pub wrote-within : wrote ≤ length out
-  pub prints : (tail : List ℕ) → restOf replay session inside (input ++ tail) ≡ take wrote out ++ restOf replay session′ inside′ (drop used input ++ tail)
+  pub prints : (tail : List ℕ) → Follows last tail
+      → restOf replay session inside (input ++ tail) ≡ take wrote out ++ restOf replay session′ inside′ (drop used input ++ tail)
   pub moves : line-room ≤ length out → (0 < lineEnd input) ⊎ (line-limit < length input) → 0 < used
+  pub finishes : last ≡ true → end-room ≤ length out → used ≡ 0 → restOf replay session′ inside′ input ≡ []
 
 -- a part that is longer than any line has a newline, unless there is no room for an answer anyway
 abbrev pub HasLine : List ℕ → List ℕ → Type 0
 HasLine input out = line-room ≤ length out → line-limit < length input → 0 < lineEnd input
 
--- the input ends here: all that is printed of it was written
-pub record Ended {S : Type 0} (replay : Replay S) (session : S) (inside : Bool) (input out : List ℕ) (wrote : ℕ) : Type 0 where
-  pub wrote-within : wrote ≤ length out
-  pub prints : restOf replay session inside input ≡ take wrote out
+-- the end of the input is taken elsewhere: the last part still has a line, unless there is no room for the end anyway
+abbrev pub GoesOn : Bool → List ℕ → List ℕ → Type 0
+GoesOn last input out = last ≡ true → end-room ≤ length out → 0 < lineEnd input
+
+-- the input was passed on up to `rest`; what was printed on the way are some bytes, `printed`
+pub record Passed {S : Type 0} (replay : Replay S) (session : S) (inside last : Bool) (input : List ℕ)
+    (session′ : S) (inside′ : Bool) (rest : List ℕ) : Type 0 where
+  pub printed : List ℕ
+  pub prints : (tail : List ℕ) → Follows last tail
+      → restOf replay session inside (input ++ tail) ≡ printed ++ restOf replay session′ inside′ (rest ++ tail)
+
+-- nothing more can be taken of the rest: it has no whole line and is no longer than one, and behind the last part nothing more is printed
+pub record Settled {S : Type 0} (replay : Replay S) (session : S) (inside last : Bool) (rest : List ℕ) : Type 0 where
+  pub no-line : lineEnd rest ≡ 0
+  pub short : length rest ≤ line-limit
+  pub silent : last ≡ true → restOf replay session inside rest ≡ []

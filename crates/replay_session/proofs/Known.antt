@@ -1,4 +1,5 @@
--- A session's table stays sound, or stays unsound, with every line. So what a line does where soundness is known is what document 01 says of it.
+-- A session's table stays sound, or stays unsound, with every line. So what a line does where soundness is known, with its numbers in eight bits, is
+-- what document 01 says of it.
 use Prim.Native.Nat.{ℕ}
 use mathlib.Core.Path.{_≡_, refl, sym, ap, _∙_}
 use mathlib.Core.Bool.{Bool, true, false}
@@ -24,6 +25,7 @@ use Rattle.lock_schedule.specs.Schedule.{eventOf}
 use Rattle.lock_schedule.proofs.Theorem.{sound-kept}
 use Rattle.replay_lines.specs.declared.reading.Line.{Line}
 use Rattle.replay_lines.specs.declared.reading.Line.the-variants.{Header, Begin, Step, Malformed}
+use Rattle.replay_session.proofs.Numbers.{narrow-begun, narrow-stepped}
 use Rattle.replay_session.specs.Session.{openedBy, openOf, afterEvent, runOf, reactBy, reactOf}
 use Rattle.replay_session.specs.Known.{soundBy, soundSession, runKnown, reactWith, reactKnown}
 use Rattle.replay_session.specs.declared.session.Stage.{Stage}
@@ -37,9 +39,10 @@ run-known table known (Begin operation thread object) =
     let number = narrowOf thread in
     let place = narrowOf object in
     ap (λ (outcome : Outcome). afterEvent outcome number place) (begin-known table known number operation place)
+    ∙ narrow-begun table thread operation object
 run-known table known (Step thread) =
     let number = narrowOf thread in
-    ap (λ (outcome : Outcome). afterEvent outcome number (threadAt table number .object)) (step-known table known number)
+    ap (λ (outcome : Outcome). afterEvent outcome number (threadAt table number .object)) (step-known table known number) ∙ narrow-stepped table thread
 run-known table known Malformed = refl
 
 react-with : (stage : Stage) (table : Table) {issound : Bool} → issound ≡ soundBy stage table → (line : Line) → reactWith stage table line issound ≡ reactBy stage table line
@@ -90,8 +93,8 @@ run-kept : (table : Table) → Whole table → (line : Line) → soundSession (r
 unfolding runOf soundBy
 run-kept table whole (Header threads objects reserved) = refl
 run-kept table whole (Begin operation thread object) =
-    event-same table whole (BeginEvent operation (narrowOf thread) (narrowOf object)) (soundOf table) refl
-run-kept table whole (Step thread) = event-same table whole (StepEvent (narrowOf thread)) (soundOf table) refl
+    event-same table whole (BeginEvent operation thread object) (soundOf table) refl
+run-kept table whole (Step thread) = event-same table whole (StepEvent thread) (soundOf table) refl
 run-kept table whole Malformed = refl
 
 react-kept : (stage : Stage) (table : Table) → Whole table → (line : Line) → soundSession (reactBy stage table line .session) ≡ soundBy stage table

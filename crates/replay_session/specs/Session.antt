@@ -1,18 +1,18 @@
 -- The session of a replay and what each line does to it (document 01, "The replay program"), by the engine's own begin and step.
 use Prim.Native.Nat.{ℕ}
-use mathlib.Core.Bool.{false}
+use mathlib.Core.Bool.{Bool, true, false}
 use lib.Dec.{leb}
 use Rattle.laws.specs.Choice.{pick}
 use Rattle.lock_table.specs.Access.{threadAt, objectAt}
 use Rattle.lock_table.specs.Phase.{phaseNumberOf}
-use Rattle.lock_table.specs.Fresh.{freshOf}
+use Rattle.lock_table.specs.Fresh.{freshOf, freshReturnedOf}
 use Rattle.lock_table.specs.declared.record.Table.{Table}
 use Rattle.lock_table.specs.declared.fresh_table.FreshAnswer.{FreshAnswer}
 use Rattle.lock_table.specs.declared.fresh_table.FreshAnswer.the-variants.{Made, SizeOutOfRange}
-use Rattle.lock_table.specs.Narrow.{narrowOf}
-use Rattle.lock_engine.specs.Outcome.{returnedOf, wokenOf}
+use Rattle.lock_engine.specs.Outcome.{refusalNumberOf, returnedOf, wokenOf}
 use Rattle.lock_engine.specs.Begin.{beginOf}
 use Rattle.lock_engine.specs.Step.{stepOf}
+use Rattle.lock_engine.specs.declared.outcome.Refusal.the-variants.{NotSound}
 use Rattle.lock_engine.specs.declared.outcome.Outcome.{Outcome}
 use Rattle.replay_lines.specs.declared.reading.Line.{Line}
 use Rattle.replay_lines.specs.declared.reading.Line.the-variants.{Header, Begin, Step, Malformed}
@@ -25,16 +25,13 @@ use Rattle.replay_session.specs.declared.session.Stage.the-variants.{Ope
 use Rattle.replay_session.specs.declared.session.Session.{Session}
 use Rattle.replay_session.specs.declared.reacting.Reaction.{Reaction}
 
--- 21: a malformed line, or a header that is missing or not of its form; 22: a header with only its sizes out of range
+-- 21: a malformed line, or a header that is missing or not of its form. The other numbers are the engine's own
 abbrev pub malformed : ℕ
 malformed = 21
 
-abbrev pub bad-sizes : ℕ
-bad-sizes = 22
-
--- numbers from this one on are refusals
-abbrev pub first-refusal : ℕ
-first-refusal = 11
+-- numbers from this one on are refusals: the first of the list
+abbrev pub firstRefusal : ℕ
+firstRefusal = refusalNumberOf NotSound
 
 abbrev pub noTable : Table
 noTable = freshOf 0 0 false .table
@@ -45,10 +42,10 @@ freshSession = record { stage = Opening; table = noTable }
 abbrev pub staying : Stage → Table → Answer → Reaction
 staying stage table answer = record { session = record { stage = stage; table = table }; answer = answer }
 
--- a good header prints nothing; one with bad sizes 22, and ends the run
+-- a good header prints nothing; one with bad sizes the fresh table's number, 22, and ends the run
 unfoldable pub openedBy : FreshAnswer → Table → Reaction
 openedBy Made table = staying Running table Silent
-openedBy SizeOutOfRange table = staying Over table (Refused bad-sizes)
+openedBy SizeOutOfRange table = staying Over table (Refused (freshReturnedOf SizeOutOfRange))
 
 unfoldable pub openOf : Table → Line → Reaction
 openOf table (Header threads objects reserved) = let made = freshOf threads objects reserved in openedBy (made .answer) (made .table)
@@ -63,8 +60,11 @@ abbrev pub wordOf : Table → ℕ → ℕ
 wordOf table object = objectAt table object .word
 
 -- a refused event prints its number alone; else returned, phase, woken, word
-unfoldable pub answerWith : ℕ → ℕ → ℕ → ℕ → Answer
-answerWith number phase woken word = pick (leb first-refusal number) (Refused number) (Accepted number phase woken word)
+unfoldable pub answerFrom : ℕ → ℕ → ℕ → ℕ → ℕ → Answer
+answerFrom first number phase woken word = pick (leb first number) (Refused number) (Accepted number phase woken word)
+
+abbrev pub answerWith : ℕ → ℕ → ℕ → ℕ → Answer
+answerWith number phase woken word = answerFrom firstRefusal number phase woken word
 
 abbrev pub afterEvent : Outcome → ℕ → ℕ → Reaction
 afterEvent outcome thread object =
@@ -78,11 +78,10 @@ begunBy table thread operation object = afterEvent (beginOf table thread operati
 abbrev pub steppedBy : Table → ℕ → Reaction
 steppedBy table thread = afterEvent (stepOf table thread) thread (threadAt table thread .object)
 
--- numbers above 255, which no table has, are no thread's and no object's
 unfoldable pub runOf : Table → Line → Reaction
 runOf table (Header threads objects reserved) = staying Running table (Refused malformed)
-runOf table (Begin operation thread object) = begunBy table (narrowOf thread) operation (narrowOf object)
-runOf table (Step thread) = steppedBy table (narrowOf thread)
+runOf table (Begin operation thread object) = begunBy table thread operation object
+runOf table (Step thread) = steppedBy table thread
 runOf table Malformed = staying Running table (Refused malformed)
 
 unfoldable pub reactBy : Stage → Table → Line → Reaction
@@ -94,18 +93,27 @@ abbrev pub reactOf : Session → Line → Reaction
 reactOf session line = reactBy (session .stage) (session .table) line
 
 -- the end of the input: a header that never came is missing
-unfoldable pub closingBy : Stage → Answer
-closingBy Opening = Refused malformed
-closingBy Running = Silent
-closingBy Over = Silent
+unfoldable pub closingBy : Stage → Table → Reaction
+closingBy Opening table = staying Over table (Refused malformed)
+closingBy Running table = staying Running table Silent
+closingBy Over table = staying Over table Silent
 
-abbrev pub closingOf : Session → Answer
-closingOf session = closingBy (session .stage)
+abbrev pub closingOf : Session → Reaction
+closingOf session = closingBy (session .stage) (session .table)
+
+-- a bad header has ended the run
+unfoldable pub overBy : Stage → Bool
+overBy Opening = false
+overBy Running = false
+overBy Over = true
+
+abbrev pub overOf : Session → Bool
+overOf session = overBy (session .stage)
 
 -- the replay of the sessions
 abbrev pub session-replay : Replay Session
 session-replay = record {
   next = λ session line. reactOf session line .session;
   prints = λ session line. answerText (reactOf session line .answer);
-  closing = λ session. answerText (closingOf session);
+  closing = λ session. answerText (closingOf session .answer);
 }

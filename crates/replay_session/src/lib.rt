@@ -4,8 +4,9 @@ mod session;
 
 pub use reacting::Reaction;
 pub use reacting::closing;
-pub use reacting::react;
+pub use reacting::react_trusting;
 pub use session::Session;
 pub use session::Stage;
 pub use session::fresh_session;
+pub use session::session_over;
 pub use session::session_sound;

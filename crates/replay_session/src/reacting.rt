@@ -2,6 +2,8 @@
 use crate::session::Session;
 use crate::session::Stage;
 use lock_engine::Outcome;
+use lock_engine::Refusal;
+use lock_engine::Reply;
 use lock_engine::begin_trusting;
 use lock_engine::returned;
 use lock_engine::step_trusting;
@@ -10,6 +12,7 @@ use lock_table::FreshAnswer;
 use lock_table::FreshTable;
 use lock_table::Table;
 use lock_table::fresh;
+use lock_table::fresh_returned;
 use lock_table::narrow;
 use lock_table::object_at;
 use lock_table::phase_number;
@@ -17,7 +20,7 @@ use lock_table::thread_at;
 use replay_lines::Line;
 use replay_text::Answer;
 ghost use mathlib.Core.Path.{_≡_};
-ghost use Rattle.replay_session.specs.Session.{staying, openedBy, openOf, phaseOf, wordOf, answerWith, afterEvent, closingBy, closingOf};
+ghost use Rattle.replay_session.specs.Session.{firstRefusal, staying, openedBy, openOf, phaseOf, wordOf, answerFrom, answerWith, afterEvent, closingBy, closingOf};
 ghost use Rattle.replay_session.specs.Known.{begunKnown, steppedKnown, runKnown, reactWith, reactKnown};
 
 pub struct Reaction {
@@ -26,10 +29,6 @@ pub struct Reaction {
 }
 
 const MALFORMED: u16 = 21;
-
-const BAD_SIZES: u16 = 22;
-// Numbers from this one on are refusals, which print alone.
-const FIRST_REFUSAL: u8 = 11;
 
 fn stay(stage: Stage, table: Table, answer: Answer) -> Reaction
     ensures { λ r. ⌜ r ≡ staying stage table answer ⌝ }
@@ -51,7 +50,9 @@ fn opened(answer: FreshAnswer, table: Table) -> Reaction
         FreshAnswer::SizeOutOfRange => stay(
             Stage::Over,
             table,
-            Answer::Refused { number: BAD_SIZES },
+            Answer::Refused {
+                number: fresh_returned(answer) as u16,
+            },
         ),
     }
 }
@@ -99,11 +100,18 @@ fn word_of(table: Table, object: u8) -> u32
     kept.word
 }
 
-// A refusal prints its number alone; else returned, phase, woken and word.
-fn answer_with(number: u8, phase: u8, woken: u8, word: u32) -> Answer
-    ensures { λ r. ⌜ r ≡ answerWith number phase woken word ⌝ }
+// Numbers from this one on are refusals, which print alone.
+fn first_refusal() -> u8
+    ensures { λ r. ⌜ r ≡ firstRefusal ⌝ }
 {
-    if FIRST_REFUSAL <= number {
+    returned(Reply::Refused(Refusal::NotSound))
+}
+
+// A refusal prints its number alone; else returned, phase, woken and word.
+fn answer_from(first: u8, number: u8, phase: u8, woken: u8, word: u32) -> Answer
+    ensures { λ r. ⌜ r ≡ answerFrom first number phase woken word ⌝ }
+{
+    if first <= number {
         return Answer::Refused {
             number: number as u16,
         };
@@ -114,6 +122,12 @@ fn answer_with(number: u8, phase: u8, woken: u8, word: u32) -> Answer
         woken: woken,
         word: word,
     }
+}
+
+fn answer_with(number: u8, phase: u8, woken: u8, word: u32) -> Answer
+    ensures { λ r. ⌜ r ≡ answerWith number phase woken word ⌝ }
+{
+    answer_from(first_refusal(), number, phase, woken, word)
 }
 
 // What an event of this thread prints; `object` is that of its operation, which may just have finished.
@@ -184,8 +198,9 @@ fn react_by(stage: Stage, table: Table, line: Line, issound: bool) -> Reaction
     }
 }
 
-// A line is taken. With `issound` as session_sound has it this is what document 01 says of the line (replay_session/proofs/Known.antt).
-pub fn react(session: Session, line: Line, issound: bool) -> Reaction
+// A line is taken by a caller that is trusted to know whether the session's table is sound: with `issound` as session_sound has it this is
+// what document 01 says of the line (replay_session/proofs/Known.antt).
+pub fn react_trusting(session: Session, line: Line, issound: bool) -> Reaction
     ensures { λ r. ⌜ r ≡ reactKnown session line issound ⌝ }
 {
     let stage = session.stage;
@@ -193,20 +208,21 @@ pub fn react(session: Session, line: Line, issound: bool) -> Reaction
     react_by(stage, table, line, issound)
 }
 
-fn closing_by(stage: Stage) -> Answer
-    ensures { λ r. ⌜ r ≡ closingBy stage ⌝ }
+fn closing_by(stage: Stage, table: Table) -> Reaction
+    ensures { λ r. ⌜ r ≡ closingBy stage table ⌝ }
 {
     match stage {
-        Stage::Opening => Answer::Refused { number: MALFORMED },
-        Stage::Running => Answer::Silent,
-        Stage::Over => Answer::Silent,
+        Stage::Opening => stay(Stage::Over, table, Answer::Refused { number: MALFORMED }),
+        Stage::Running => stay(Stage::Running, table, Answer::Silent),
+        Stage::Over => stay(Stage::Over, table, Answer::Silent),
     }
 }
 
-// The end of the input: a header that never came is 21.
-pub fn closing(session: Session) -> Answer
+// The end of the input: a header that never came is 21, and the run is over.
+pub fn closing(session: Session) -> Reaction
     ensures { λ r. ⌜ r ≡ closingOf session ⌝ }
 {
     let stage = session.stage;
-    closing_by(stage)
+    let table = session.table;
+    closing_by(stage, table)
 }

@@ -1,7 +1,7 @@
 // The state between two lines.
 use lock_table::Table;
 ghost use mathlib.Core.Path.{_≡_};
-ghost use Rattle.replay_session.specs.Session.{noTable, freshSession};
+ghost use Rattle.replay_session.specs.Session.{noTable, freshSession, overBy, overOf};
 ghost use Rattle.replay_session.specs.Known.{soundBy, soundSession};
 
 pub enum Stage {
@@ -52,4 +52,22 @@ pub fn session_sound(session: Session) -> bool
     let stage = session.stage;
     let table = session.table;
     sound_by(stage, table)
+}
+
+fn over_by(stage: Stage) -> bool
+    ensures { λ r. ⌜ r ≡ overBy stage ⌝ }
+{
+    match stage {
+        Stage::Opening => false,
+        Stage::Running => false,
+        Stage::Over => true,
+    }
+}
+
+// Whether a bad header has ended the run: whatever comes, nothing more is printed (replay_session/proofs/Over.antt).
+pub fn session_over(session: Session) -> bool
+    ensures { λ r. ⌜ r ≡ overOf session ⌝ }
+{
+    let stage = session.stage;
+    over_by(stage)
 }

@@ -8,14 +8,14 @@ use Rattle.lock_table.specs.Whole.{Whole}
 use Rattle.replay_lines.specs.Grammar.{lineOf}
 use Rattle.replay_text.specs.Text.{answerText, line-room}
 use Rattle.replay_text.specs.Written.{Put}
-use Rattle.replay_text.specs.declared.answer.Answer.{Answer}
 use Rattle.replay_text.proofs.Lengths.{answer-fits}
 use Rattle.replay_text.proofs.Room.{put-front, put-most, put-within}
 use Rattle.replay_session.specs.declared.session.Session.{Session}
 use Rattle.replay_session.specs.declared.reacting.Reaction.{Reaction}
-use Rattle.replay_session.specs.Session.{reactOf, closingOf}
+use Rattle.replay_session.specs.Session.{reactOf, closingOf, session-replay}
 use Rattle.replay_session.specs.Known.{soundSession, reactKnown}
 use Rattle.replay_session.proofs.Known.{react-known, sound-session-kept}
+use Rattle.replay_session.proofs.Over.{closed-silent}
 use Rattle.replay_stream.specs.Stream.{Turned, Closed}
 
 module _ {before after : List ℕ} {at wrote : ℕ} (session : Session) (fits : at + line-room ≤ length before) where
@@ -34,10 +34,12 @@ module _ {before after : List ℕ} {at wrote : ℕ} (session : Session) (fits : 
         sound-kept = ap (λ (x : Reaction). soundSession (x .session)) reacted ∙ sound-session-kept session whole (lineOf line);
       }
 
-  pub closed : {answer : Answer} → answer ≡ closingOf session → Put before after at wrote (answerText answer) → Closed session before after at wrote
-  closed {answer} closing put =
-      let short = answer-fits answer in
+  pub closed : {reaction : Reaction} → reaction ≡ closingOf session → Put before after at wrote (answerText (reaction .answer))
+      → Closed session before after at (record { session = reaction .session; wrote = wrote })
+  closed {reaction} closing put =
+      let short = answer-fits (reaction .answer) in
       record {
-        front = put-front fits short put ∙ ap (λ (x : Answer). take at before ++ answerText x) closing;
+        front = put-front fits short put ∙ ap (λ (x : Reaction). take at before ++ answerText (x .answer)) closing;
+        silent = ap (λ (x : Reaction). session-replay .closing (x .session)) closing ∙ closed-silent session;
         within = put-within fits short put;
       }

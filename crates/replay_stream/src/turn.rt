@@ -24,7 +24,7 @@ pub(crate) fn take_line(
     requires { ⌜ (at + line-room ≤ length (now out)) × (issound ≡ soundSession session) ⌝ }
     ensures { λ r. ⌜ Turned session (now (line .entry)) (now (out .entry)) (now (out .exit)) at r ⌝ }
 {
-    let reaction = replay_session::react(session, replay_lines::read_line(line), issound);
+    let reaction = replay_session::react_trusting(session, replay_lines::read_line(line), issound);
     let answer = reaction.answer;
     let next = reaction.session;
     let wrote = replay_text::put_answer(out, at, answer);
@@ -34,9 +34,17 @@ pub(crate) fn take_line(
     }
 }
 
-pub(crate) fn close(session: Session, out: &mut [u8], at: usize) -> usize
+// The end of the input.
+pub(crate) fn close(session: Session, out: &mut [u8], at: usize) -> Turn
     requires { ⌜ at + line-room ≤ length (now out) ⌝ }
     ensures { λ r. ⌜ Closed session (now (out .entry)) (now (out .exit)) at r ⌝ }
 {
-    replay_text::put_answer(out, at, replay_session::closing(session))
+    let reaction = replay_session::closing(session);
+    let answer = reaction.answer;
+    let next = reaction.session;
+    let wrote = replay_text::put_answer(out, at, answer);
+    Turn {
+        session: next,
+        wrote: wrote,
+    }
 }

@@ -2,20 +2,21 @@
 use native.Mathlib.Omega.{arith}
 use borrow.Author.Needs.{needs}
 use Rattle.replay.proofs.Counts.{counted}
+use Rattle.replay.proofs.Taking.{taken-part}
 use Rattle.replay.proofs.take_part.Statement.{statement}
 use Rattle.replay.proofs.take_part.Tie as tie
 
-held-less : tie.Need-sub-t15
+held-less : tie.Need-sub-t17
 held-less c =
     let drained = c .before .before .before .before .before .before .before in
     let start = drained .before .before .before .before .before in
-    omega (arith, counted (start .args .held) (start .args .buffer .now) (start .pre .0), drained .drain .ensures)
+    omega (arith, counted (start .args .held) (start .args .buffer .now) (start .pre .0), drained .drain .ensures .from-within)
 
 returns : tie.Need-returns
 returns c =
-    let drained = c .before .before .before .before .before .before .before in
-    let start = drained .before .before .before .before .before in
-    omega (arith, counted (start .args .held) (start .args .buffer .now) (start .pre .0), drained .drain .ensures)
+    let keep = c .before .before in
+    let drained = keep .before .before .before .before .before in
+    taken-part (drained .before .before .before .before .before .pre .0) (drained .drain .ensures) (keep .keep-rest .ensures)
 
 pub take-part-spec : {M : Type 1} → statement M
 take-part-spec =

@@ -10,8 +10,11 @@ closing-by-spec =
     tie.close
     (tie.spec
     (λ c. search needs)
+    (λ c κs. tt)
     (λ c. search needs)
+    (λ c κs. tt)
     (λ c. search needs)
-    (λ c. simp (c .enum-told .given .1))
-    (λ c. simp (c .enum-told2 .given .1))
-    (λ c. simp (c .enum-told3 .given .1)))
+    (λ c κs. tt)
+    (λ c. simp (c .stay .ensures, c .before .enum-told .given .1))
+    (λ c. simp (c .stay2 .ensures, c .before .enum-told2 .given .1))
+    (λ c. simp (c .stay3 .ensures, c .before .enum-told3 .given .1)))

@@ -1,8 +1,19 @@
--- `replay_stream::feeding::feed` meets its contract: the rest of an answered line, whole lines, or a line that is too long.
-use native.Mathlib.Omega.{arith}
+-- `replay_stream::feeding::feed` meets its contract: lines, and in the last part the end of the input.
+use mathlib.Core.Path.{sym, _∙_}
 use borrow.Author.Needs.{needs}
+use Rattle.laws.proofs.Choice.{false≢true}
 use Rattle.replay_stream.proofs.feeding.feed.Statement.{statement}
 use Rattle.replay_stream.proofs.feeding.feed.Tie as tie
+
+returns : tie.Need-returns
+returns c =
+    let part = c .before .before in
+    rw (part .before .before .if1 .taken) (part .feed-last .ensures)
+
+returns-2 : tie.Need-returns-2
+returns-2 c =
+    let part = c .before .before in
+    part .feed-lines .ensures _ (λ ends room. false≢true (sym (part .before .before .if1 .left) ∙ ends))
 
 pub feed-spec : {M : Type 1} → statement M
 feed-spec =
@@ -10,17 +21,7 @@ feed-spec =
     (tie.spec
     (λ c κs. tt)
     (λ c. search needs)
-    (λ c. let part = c .before .before in rw (part .before .before .if1 .taken) (part .skip-line .ensures))
-    (λ c κs. λ room long. absurd (omega (arith, long, c .before .if2 .taken)))
-    (λ c. search needs)
-    (λ c. let part = c .before .before in rw (part .before .before .before .if1 .left) (part .take-lines .ensures))
-    (λ c κs. λ room long. absurd (omega (arith, room, c .before .if3 .taken)))
-    (λ c. search needs)
-    (λ c. let part = c .before .before in rw (part .before .before .before .before .if1 .left) (part .take-lines2 .ensures))
+    returns
     (λ c κs. tt)
-    (λ c κs. search needs)
     (λ c. search needs)
-    (λ c. let part = c .before .before in rw (part .before .before .before .before .before .before .if1 .left) (part .take-long-line .ensures))
-    (λ c κs. λ room long. omega (arith, c .before .if4 .left, c .before .before .line-end .ensures))
-    (λ c. search needs)
-    (λ c. let part = c .before .before in rw (part .before .before .before .before .before .before .if1 .left) (part .take-lines3 .ensures)))
+    returns-2)

@@ -9,5 +9,5 @@ skip-line-spec =
     tie.close
     (tie.spec
     (λ c κs. tt)
-    (λ c. skipped-part _ _ _ _ (sym (c .before .line-end .ensures) ∙ c .if1 .taken))
-    (λ c. skipped-line _ _ _ _ (c .before .line-end .ensures) (c .if1 .left)))
+    (λ c. λ last goes-on. skipped-part _ _ _ _ (sym (c .before .line-end .ensures) ∙ c .if1 .taken) goes-on)
+    (λ c. λ last goes-on. skipped-line _ _ _ _ (c .before .line-end .ensures) (c .if1 .left)))

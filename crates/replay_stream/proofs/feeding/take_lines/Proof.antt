@@ -20,7 +20,8 @@ abbrev μ-loop : tie.MeasureT-loop
 returns : tie.Need-returns Inv-loop μ-loop
 returns c =
     let loop = c .before .before .before in
-    going-stops (loop .loop .inv .0) (inr (sym (c .before .line-end .ensures) ∙ c .if1 .taken)) (loop .before .before .before .before .pre)
+    λ last goes-on.
+    going-stops (loop .loop .inv .0) (inr (sym (c .before .line-end .ensures) ∙ c .if1 .taken)) (loop .before .before .before .before .pre) goes-on
 
 line-count : tie.Need-slice-aggregate-take-line Inv-loop μ-loop
 line-count c =
@@ -49,7 +50,7 @@ loop-again c =
     )
 
 returns-2 : tie.Need-returns-2 Inv-loop μ-loop
-returns-2 c = going-stops (c .before .loop .inv .0) (inl (c .loop-test .left)) (c .before .before .before .before .before .pre)
+returns-2 c = λ last goes-on. going-stops (c .before .loop .inv .0) (inl (c .loop-test .left)) (c .before .before .before .before .before .pre) goes-on
 
 pub take-lines-spec : {M : Type 1} → statement M
 take-lines-spec =

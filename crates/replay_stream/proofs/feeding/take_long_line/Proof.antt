@@ -9,7 +9,7 @@ returns c =
     let turn = c .before .before .before in
     let start = turn .before .before .before .before .before in
     let turned = turn .take-line .ensures in
-    long-part (start .pre .0) (start .pre .1) (turned .moved) (turned .front) (turned .within)
+    λ last goes-on. long-part (start .pre .0) (start .pre .1) (turned .moved) (turned .front) (turned .within)
 
 pub take-long-line-spec : {M : Type 1} → statement M
 take-long-line-spec = tie.close (tie.spec (λ c κs. tt) (λ c κs. (search needs, c .before .session-sound .ensures)) (λ c. search needs) returns)

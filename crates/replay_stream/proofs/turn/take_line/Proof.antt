@@ -10,7 +10,7 @@ returns c =
     let put = c .before .before in
     let react = put .before .before .before in
     let start = react .before .before .before .before in
-    let gave = rw (react .before .read-line .ensures) at (react .react .ensures) in
+    let gave = rw (react .before .read-line .ensures) at (react .react-trusting .ensures) in
     turned (start .args .session) (start .pre .0) (session-whole (start .args .session) _ (start .good .0)) (start .args .line .now) (start .pre .1) gave
     (put .put-answer .ensures)
 

@@ -1,0 +1,64 @@
+-- What the run has read and passed on between two reads, and what that gives where it ends.
+use Prim.Native.Nat.{ℕ, _+_, _-_, _≤_}
+use mathlib.Core.Path.{_≡_, refl, ap, sym, _∙_, subst}
+use mathlib.Core.Bool.{Bool, true, false}
+use mathlib.Core.List.{List, [], _++_}
+use native.Mathlib.Omega.{arith}
+use lib.ListN.{length, take, drop}
+use lib.Seq.{take-add, length-take-le}
+use Rattle.replay_lines.specs.Cutting.{line-limit}
+use Rattle.replay_parts.specs.Part.{Passed}
+use Rattle.replay_parts.proofs.Passing.{passed-none, passed-both, passed-more}
+use Rattle.replay_session.specs.Session.{freshSession, session-replay}
+use Rattle.replay_stream.specs.declared.feeding.Stream.{Stream}
+use Rattle.replay_stream.specs.Stream.{freshStream}
+use Rattle.replay.specs.declared.Ending.{Ending}
+use Rattle.replay.specs.declared.Held.{Held}
+use Rattle.replay.specs.declared.Moved.{Moved}
+use Rattle.replay.specs.Run.{PassedOn, SettledAt, Takes, ReadBehind, EndsRight, Runs}
+
+-- some input was read, and passed on up to `rest`; `ended` says that it has ended
+pub record Read (ended : Bool) (stream : Stream) (rest : List ℕ) : Type 0 where
+  pub input : List ℕ
+  pub passed : Passed session-replay freshSession false ended input (stream .session) (stream .inside) rest
+
+pub read-first : {stream : Stream} → stream ≡ freshStream → Read false stream []
+read-first fresh =
+    subst (λ (x : Stream). Read false x []) (sym fresh) (record { input = []; passed = passed-none session-replay freshSession false false [] })
+
+module _ {stream : Stream} {held : ℕ} {before after : List ℕ} {r : Moved} (behind : ReadBehind held before after r)
+    (read : Read false stream (take held before)) where
+  -- nothing came
+  pub read-same : Read false stream (take held after)
+  read-same = subst (λ (x : List ℕ). Read false stream x) (sym (behind .kept)) read
+
+  -- what came stands behind what was held
+  pub read-more : Read false stream (take (r .count) after)
+  read-more =
+      let more = take (r .count - held) (drop held after) in
+      let order = behind .from-held in
+      let whole : held + (r .count - held) ≡ r .count = omega arith in
+      let joined : take held before ++ more ≡ take (r .count) after =
+      ap (λ (x : List ℕ). x ++ more) (sym (behind .kept)) ∙ sym (take-add held (r .count - held) after) ∙ ap (λ (n : ℕ). take n after) whole in
+      record {
+        input = read .input ++ more;
+        passed =
+            subst (λ (x : List ℕ). Passed session-replay freshSession false false (read .input ++ more) (stream .session) (stream .inside) x) joined
+            (passed-more more (read .passed));
+      }
+
+-- a part was taken
+module _ {start : Stream} {last : Bool} {count : ℕ} {before after : List ℕ} {r : Held} (takes : Takes start last count before after r) where
+  pub read-taken : Read false start (take count before) → Read last (r .stream) (take (r .held) after)
+  read-taken read = record { input = read .input; passed = passed-both (read .passed) (takes .passed) }
+
+  pub held-short : r .failed ≡ false → r .held ≤ line-limit
+  held-short wrote = omega (arith, takes .settled wrote .short, length-take-le (r .held) after (takes .held-within))
+
+-- the input has not ended
+pub read-open : {ended : Bool} {stream : Stream} {rest : List ℕ} → ended ≡ false → Read ended stream rest → Read false stream rest
+read-open {stream = stream} {rest} more read = subst (λ (x : Bool). Read x stream rest) more read
+
+pub runs : {ended : Bool} {stream : Stream} {held : ℕ} {buffer : List ℕ} {ending : Ending} → Read ended stream (take held buffer)
+    → EndsRight ending ended stream (take held buffer) → Runs buffer (record { stream = stream; held = held; ending = ending })
+runs {ended} read right = record { input = read .input; ended = ended; passed = read .passed; right = right }

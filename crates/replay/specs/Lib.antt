@@ -1,0 +1,2 @@
+-- What the program's functions promise of the values that they pass on.
+pub mod Run

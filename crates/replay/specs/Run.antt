@@ -1,0 +1,70 @@
+-- The program's loop, of values: no contract can speak of what was read or written. What is handed to `write` is what the feed just gave.
+use Prim.Native.Nat.{ℕ, _+_, _≤_}
+use mathlib.Core.Path.{_≡_}
+use mathlib.Core.Bool.{Bool, true, false}
+use mathlib.Core.List.{List, []}
+use lib.ListN.{length, take, drop}
+use Rattle.replay_text.specs.Bytes.{digit-zero}
+use Rattle.replay_parts.specs.Replay.{restOf}
+use Rattle.replay_parts.specs.Part.{Passed, Settled}
+use Rattle.replay_session.specs.declared.session.Session.{Session}
+use Rattle.replay_session.specs.Session.{freshSession, overOf, session-replay}
+use Rattle.replay_stream.specs.declared.feeding.Stream.{Stream}
+use Rattle.replay.specs.declared.Ending.{Ending}
+use Rattle.replay.specs.declared.Ending.the-variants.{AllRead, BadHeader, ReadFailed, WriteFailed}
+use Rattle.replay.specs.declared.Drained.{Drained}
+use Rattle.replay.specs.declared.Held.{Held}
+use Rattle.replay.specs.declared.Moved.{Moved}
+use Rattle.replay.specs.declared.Ran.{Ran}
+
+-- a stream passed the input on up to `rest`, and there is something that it printed on the way
+abbrev pub PassedOn : Stream → Bool → List ℕ → Stream → List ℕ → Type 0
+PassedOn start last input stream rest =
+    Passed session-replay (start .session) (start .inside) last input (stream .session) (stream .inside) rest
+
+-- nothing more can be taken of the rest
+abbrev pub SettledAt : Stream → Bool → List ℕ → Type 0
+SettledAt stream last rest = Settled session-replay (stream .session) (stream .inside) last rest
+
+pub record Drains (start : Stream) (last : Bool) (input : List ℕ) (r : Drained) : Type 0 where
+  pub from-within : r .from ≤ length input
+  pub passed : PassedOn start last input (r .stream) (drop (r .from) input)
+  pub settled : r .failed ≡ false → SettledAt (r .stream) last (drop (r .from) input)
+
+-- the same, with the rest at the front of the buffer
+pub record Takes (start : Stream) (last : Bool) (held : ℕ) (before after : List ℕ) (r : Held) : Type 0 where
+  pub held-within : r .held ≤ length after
+  pub passed : PassedOn start last (take held before) (r .stream) (take (r .held) after)
+  pub settled : r .failed ≡ false → SettledAt (r .stream) last (take (r .held) after)
+
+-- bytes come behind those that the buffer holds
+pub record ReadBehind (held : ℕ) (before after : List ℕ) (r : Moved) : Type 0 where
+  pub from-held : held ≤ r .count
+  pub within : r .count ≤ length after
+  pub kept : take held after ≡ take held before
+
+-- all of an input that ended was printed; or the run is over, so that whatever follows prints nothing; or a read failed before the end
+abbrev pub EndsRight : Ending → Bool → Stream → List ℕ → Type 0
+EndsRight AllRead ended stream rest =
+    (ended ≡ true) × (overOf (stream .session) ≡ false) × (restOf session-replay (stream .session) (stream .inside) rest ≡ [])
+EndsRight BadHeader ended stream rest = overOf (stream .session) ≡ true
+EndsRight ReadFailed ended stream rest = ended ≡ false
+EndsRight WriteFailed ended stream rest = ended ≡ ended
+
+-- there is an input, that which was read, which a fresh session passed on up to the rest that the buffer holds
+pub record Runs (buffer : List ℕ) (r : Ran) : Type 0 where
+  pub input : List ℕ
+  pub ended : Bool
+  pub passed : Passed session-replay freshSession false ended input (r .stream .session) (r .stream .inside) (take (r .held) buffer)
+  pub right : EndsRight (r .ending) ended (r .stream) (take (r .held) buffer)
+
+-- the exit status of the script
+unfoldable pub statusOf : Ending → ℕ
+statusOf AllRead = 0
+statusOf BadHeader = 3
+statusOf ReadFailed = 4
+statusOf WriteFailed = 5
+
+-- its digit
+unfoldable pub endingByteOf : Ending → ℕ
+endingByteOf ending = digit-zero + statusOf ending

@@ -1,0 +1,62 @@
+-- The code hands a table's numbers on in eight bits, 255 for all larger ones; what a line does and prints does not change by it.
+use Prim.Native.Nat.{ℕ, _<_}
+use mathlib.Core.Path.{_≡_, refl, ap, sym, _∙_}
+use native.Mathlib.Omega.{arith}
+use borrow.Author.Tests.{lt-ltb, ne-eqb}
+use Rattle.lock_table.specs.Limits.{thread-limit, object-limit}
+use Rattle.lock_table.specs.Access.{threadAt, objectAt}
+use Rattle.lock_table.specs.Narrow.{narrowOf}
+use Rattle.lock_table.specs.declared.record.ThreadRecord.{ThreadRecord}
+use Rattle.lock_table.specs.declared.record.ObjectRecord.{ObjectRecord}
+use Rattle.lock_table.specs.declared.record.Table.{Table}
+use Rattle.lock_table.proofs.Narrowed.{narrowed}
+use Rattle.lock_engine.specs.Begin.{beginOf}
+use Rattle.lock_engine.specs.Step.{stepOf}
+use Rattle.lock_engine.specs.declared.outcome.Outcome.{Outcome}
+use Rattle.lock_engine.proofs.Narrow.{narrow-begin, narrow-step}
+use Rattle.replay_session.specs.Session.{afterEvent, begunBy, steppedBy}
+use Rattle.replay_session.specs.declared.reacting.Reaction.{Reaction}
+
+narrow-twice : (n : ℕ) → narrowOf (narrowOf n) ≡ narrowOf n
+unfolding narrowOf
+narrow-twice n = narrowed narrowOf (λ k past. rw (lt-ltb 255 k past) refl) n
+
+module _ (table : Table) where
+  thread-past : (n : ℕ) → 255 < n → threadAt table 255 ≡ threadAt table n
+  unfolding threadAt
+  thread-past n past = rw (ne-eqb n 0 (λ none. omega (arith, none, past)), lt-ltb thread-limit n (omega (arith, past))) refl
+
+  narrow-thread : (thread : ℕ) → threadAt table (narrowOf thread) ≡ threadAt table thread
+  narrow-thread thread = narrowed (threadAt table) thread-past thread
+
+  object-past : (n : ℕ) → 255 < n → objectAt table 255 ≡ objectAt table n
+  unfolding objectAt
+  object-past n past = rw (ne-eqb n 0 (λ none. omega (arith, none, past)), lt-ltb object-limit n (omega (arith, past))) refl
+
+  narrow-object : (object : ℕ) → objectAt table (narrowOf object) ≡ objectAt table object
+  narrow-object object = narrowed (objectAt table) object-past object
+
+  begun : (thread operation object : ℕ) → beginOf table (narrowOf thread) operation (narrowOf object) ≡ beginOf table thread operation object
+  begun thread operation object =
+      sym (narrow-begin table (narrowOf thread) operation (narrowOf object))
+      ∙ ap (λ (n : ℕ). beginOf table n (narrowOf operation) (narrowOf (narrowOf object))) (narrow-twice thread)
+      ∙ ap (λ (n : ℕ). beginOf table (narrowOf thread) (narrowOf operation) n) (narrow-twice object) ∙ narrow-begin table thread operation object
+
+-- what is printed of the thread and the object
+narrow-after : (outcome : Outcome) (thread object : ℕ) → afterEvent outcome (narrowOf thread) (narrowOf object) ≡ afterEvent outcome thread object
+narrow-after outcome thread object = rw (narrow-thread (outcome .table) thread, narrow-object (outcome .table) object) refl
+
+narrow-after-step : (outcome : Outcome) (thread object : ℕ) → afterEvent outcome (narrowOf thread) object ≡ afterEvent outcome thread object
+narrow-after-step outcome thread object = rw (narrow-thread (outcome .table) thread) refl
+
+pub narrow-begun : (table : Table) (thread operation object : ℕ)
+    → begunBy table (narrowOf thread) operation (narrowOf object) ≡ begunBy table thread operation object
+narrow-begun table thread operation object =
+    ap (λ (outcome : Outcome). afterEvent outcome (narrowOf thread) (narrowOf object)) (begun table thread operation object)
+    ∙ narrow-after (beginOf table thread operation object) thread object
+
+pub narrow-stepped : (table : Table) (thread : ℕ) → steppedBy table (narrowOf thread) ≡ steppedBy table thread
+narrow-stepped table thread =
+    ap (λ (outcome : Outcome). afterEvent outcome (narrowOf thread) (threadAt table (narrowOf thread) .object)) (narrow-step table thread)
+    ∙ ap (λ (record′ : ThreadRecord). afterEvent (stepOf table thread) (narrowOf thread) (record′ .object)) (narrow-thread table thread)
+    ∙ narrow-after-step (stepOf table thread) thread (threadAt table thread .object)
