@@ -10,12 +10,13 @@ use Rattle.lock_table.specs.declared.record.ThreadRecord.{ThreadRecord}
 use Rattle.lock_table.specs.declared.record.ObjectRecord.{ObjectRecord}
 use Rattle.lock_table.specs.declared.record.Table.{Table}
 use Rattle.lock_table.proofs.Narrowed.{narrowed}
+use Rattle.lock_engine.specs.Outcome.{returnedOf, wokenOf}
 use Rattle.lock_engine.specs.Begin.{beginOf}
 use Rattle.lock_engine.specs.Step.{stepOf}
 use Rattle.lock_engine.specs.declared.outcome.Outcome.{Outcome}
 use Rattle.lock_engine.proofs.Narrow.{narrow-begin, narrow-step}
-use Rattle.replay_session.specs.Session.{afterEvent, begunBy, steppedBy}
-use Rattle.replay_session.specs.declared.reacting.Reaction.{Reaction}
+use Rattle.replay_session.specs.Session.{staying, phaseOf, answerWith, afterEvent, begunBy, steppedBy}
+use Rattle.replay_session.specs.declared.session.Stage.the-variants.{Running}
 
 narrow-twice : (n : ℕ) → narrowOf (narrowOf n) ≡ narrowOf n
 unfolding narrowOf
@@ -42,21 +43,24 @@ module _ (table : Table) where
       ∙ ap (λ (n : ℕ). beginOf table n (narrowOf operation) (narrowOf (narrowOf object))) (narrow-twice thread)
       ∙ ap (λ (n : ℕ). beginOf table (narrowOf thread) (narrowOf operation) n) (narrow-twice object) ∙ narrow-begin table thread operation object
 
--- what is printed of the thread and the object
-narrow-after : (outcome : Outcome) (thread object : ℕ) → afterEvent outcome (narrowOf thread) (narrowOf object) ≡ afterEvent outcome thread object
-narrow-after outcome thread object = rw (narrow-thread (outcome .table) thread, narrow-object (outcome .table) object) refl
+-- what is printed of the thread and of the object
+narrow-phase : (outcome : Outcome) (thread object : ℕ) → afterEvent outcome (narrowOf thread) object ≡ afterEvent outcome thread object
+narrow-phase outcome thread object = rw (narrow-thread (outcome .table) thread) refl
 
-narrow-after-step : (outcome : Outcome) (thread object : ℕ) → afterEvent outcome (narrowOf thread) object ≡ afterEvent outcome thread object
-narrow-after-step outcome thread object = rw (narrow-thread (outcome .table) thread) refl
+narrow-word : (outcome : Outcome) (thread object : ℕ) → afterEvent outcome thread (narrowOf object) ≡ afterEvent outcome thread object
+narrow-word outcome thread object =
+    ap (λ (at : ObjectRecord). staying Running (outcome .table)
+    (answerWith (returnedOf (outcome .reply)) (phaseOf (outcome .table) thread) (wokenOf (outcome .reply)) (at .word)))
+    (narrow-object (outcome .table) object)
 
 pub narrow-begun : (table : Table) (thread operation object : ℕ)
     → begunBy table (narrowOf thread) operation (narrowOf object) ≡ begunBy table thread operation object
 narrow-begun table thread operation object =
     ap (λ (outcome : Outcome). afterEvent outcome (narrowOf thread) (narrowOf object)) (begun table thread operation object)
-    ∙ narrow-after (beginOf table thread operation object) thread object
+    ∙ narrow-phase (beginOf table thread operation object) thread (narrowOf object) ∙ narrow-word (beginOf table thread operation object) thread object
 
 pub narrow-stepped : (table : Table) (thread : ℕ) → steppedBy table (narrowOf thread) ≡ steppedBy table thread
 narrow-stepped table thread =
     ap (λ (outcome : Outcome). afterEvent outcome (narrowOf thread) (threadAt table (narrowOf thread) .object)) (narrow-step table thread)
-    ∙ ap (λ (record′ : ThreadRecord). afterEvent (stepOf table thread) (narrowOf thread) (record′ .object)) (narrow-thread table thread)
-    ∙ narrow-after-step (stepOf table thread) thread (threadAt table thread .object)
+    ∙ ap (λ (at : ThreadRecord). afterEvent (stepOf table thread) (narrowOf thread) (at .object)) (narrow-thread table thread)
+    ∙ narrow-phase (stepOf table thread) thread (threadAt table thread .object)

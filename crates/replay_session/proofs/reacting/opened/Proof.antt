@@ -1,12 +1,11 @@
 -- `replay_session::reacting::opened` meets its contract: each way through the code is that of the definition.
 use borrow.Author.Needs.{needs}
-use Rattle.lock_table.specs.Fresh.{freshReturnedOf}
 use Rattle.replay_session.specs.Session.{openedBy}
 use Rattle.replay_session.proofs.reacting.opened.Statement.{statement}
 use Rattle.replay_session.proofs.reacting.opened.Tie as tie
 
 pub opened-spec : {M : Type 1} → statement M
-unfolding openedBy freshReturnedOf
+unfolding openedBy
 opened-spec =
     tie.close
     (tie.spec
@@ -14,5 +13,7 @@ opened-spec =
     (λ c κs. tt)
     (λ c. search needs)
     (λ c κs. tt)
+    (λ c. search needs)
+    (λ c κs. tt)
     (λ c. simp (c .stay .ensures, c .before .enum-told .given .1))
-    (λ c. simp (c .stay2 .ensures, c .before .enum-told2 .given .1)))
+    (λ c. simp (c .stay2 .ensures, c .before .fresh-returned .ensures, c .before .before .enum-told2 .given .1)))
