@@ -1,14 +1,24 @@
 #!/usr/bin/env python3
-"""Checks that every `path/to/file:name` in docs/PROMISES.md and docs/ARCHITECTURE.md names a file of the repository in which that name is declared.
+"""Checks that what the documents point to is there.
 
-Last line: 'N passed, M failed', one for each such place.
+- every `path/to/file:name` in PROMISES, ARCHITECTURE, DECISIONS and PROOFS names a file of the repository in which that name is declared;
+- every path in backquotes, must-fail edits among them, and every link names a file, and a link's heading is one of that file;
+- every must-fail edit, named or not, says in its first line which claim it shows;
+- PROMISES has a row for each of K1 to K9, with as many rows of the table of cases as that file has.
+
+Last line: 'N passed, M failed', one for each place, edit and case.
 """
 import pathlib
 import re
 import sys
 
 ROOT = pathlib.Path(__file__).resolve().parent.parent
-DOCUMENTS = ['PROMISES.md', 'ARCHITECTURE.md']
+NAMING = ['PROMISES.md', 'ARCHITECTURE.md', 'DECISIONS.md', 'PROOFS.md']
+FOLDERS = 'crates|tests|tools|docs|examples|bench|include|rust'
+
+
+def documents():
+    return [path for path in sorted(ROOT.glob('*.md')) + sorted(ROOT.glob('*/*.md')) if path.parent.name != 'target']
 
 
 def declared(path, name):
@@ -17,21 +27,60 @@ def declared(path, name):
         return False
     text = path.read_text(encoding='utf-8')
     plain = re.escape(name)
-    forms = [rf'^\s*(unfoldable |abbrev )*(pub )?(data |record )?{plain}( |$)', rf'\b(fn|struct|enum|const|mod|impl) {plain}\b', rf'^# {plain}$']
+    forms = [rf'^\s*(unfoldable |abbrev )*(pub )?(data |record )?{plain}( |$)', rf'\b(fn|struct|enum|const|mod|impl|type) {plain}\b', rf'^# {plain}$']
     return any(re.search(form, text, re.M) for form in forms)
 
 
+def anchors(path):
+    headings = re.findall(r'^#+ (.*)$', path.read_text(encoding='utf-8'), re.M)
+    return {re.sub(r'[^\w\- ]', '', heading.lower()).replace(' ', '-') for heading in headings}
+
+
+def places():
+    """(what is wrong or None) for each name, path and link of the documents."""
+    for document in documents():
+        text = document.read_text(encoding='utf-8')
+        shown = document.relative_to(ROOT)
+        if document.name in NAMING:
+            for file, name in sorted(set(re.findall(r'`([\w./-]+\.\w+):([^`\s]+)`', text))):
+                yield None if declared(ROOT / file, name) else f'{shown}: {file} declares no {name}'
+        for path in sorted(set(re.findall(rf'`((?:{FOLDERS})/[\w./-]+)`', text))):
+            yield None if (ROOT / path).exists() else f'{shown}: there is no {path}'
+        for target in sorted(set(re.findall(r'\]\(([^)\s]+)\)', text))):
+            yield None if linked(document, target) else f'{shown}: no {target}'
+
+
+def linked(document, target):
+    file, _, heading = target.partition('#')
+    path = document.parent / file if file else document
+    return path.exists() and (not heading or heading in anchors(path))
+
+
+def edits():
+    """(what is wrong or None) for each must-fail edit."""
+    for edit in sorted(ROOT.glob('crates/*/must-fail/*.edit')):
+        first = edit.read_text(encoding='utf-8').split('\n')[0]
+        yield None if re.match(r'^# \w', first) else f'{edit.relative_to(ROOT)}: its first line names no claim'
+
+
+def cases():
+    """(what is wrong or None) for each of K1 to K9."""
+    text = (ROOT / 'docs' / 'PROMISES.md').read_text(encoding='utf-8')
+    rows = {int(case): (int(number), file) for case, number, file in re.findall(r'^\| K(\d) \|.*\| (\d+) in `([^`]+)` \|$', text, re.M)}
+    for case in range(1, 10):
+        number, file = rows.get(case, (0, ''))
+        path = ROOT / file
+        found = len(re.findall(rf'number = {case};', path.read_text(encoding='utf-8'))) if path.is_file() else 0
+        yield None if 0 < number == found else f'docs/PROMISES.md: K{case} has {number} rows, {found} found in {file or "no file"}'
+
+
 def main():
-    text = ''.join((ROOT / 'docs' / name).read_text(encoding='utf-8') for name in DOCUMENTS)
-    places = sorted(set(re.findall(r'`([\w./-]+\.\w+):([^`\s]+)`', text)))
-    missing = [(file, name) for file, name in places if not declared(ROOT / file, name)]
-    for file, name in missing:
-        print(f'promises: {file} declares no {name}')
-    if not places:
-        print('promises: no place is named')
-        missing = ['none']
-    print(f'{max(len(places) - len(missing), 0)} passed, {len(missing)} failed')
-    sys.exit(1 if missing else 0)
+    results = [*places(), *edits(), *cases()]
+    wrong = [result for result in results if result]
+    for result in wrong:
+        print(f'promises: {result}')
+    print(f'{len(results) - len(wrong)} passed, {len(wrong)} failed')
+    sys.exit(1 if wrong else 0)
 
 
 if __name__ == '__main__':
