@@ -44,8 +44,9 @@ def places():
         if document.name in NAMING:
             for file, name in sorted(set(re.findall(r'`([\w./-]+\.\w+):([^`\s]+)`', text))):
                 yield None if declared(ROOT / file, name) else f'{shown}: {file} declares no {name}'
-        for path in sorted(set(re.findall(rf'`((?:{FOLDERS})/[\w./-]+)`', text))):
-            yield None if (ROOT / path).exists() else f'{shown}: there is no {path}'
+        for path in sorted(set(re.findall(rf'`((?:{FOLDERS})/[\w./-]+|\w+/(?:src|specs|proofs)/[\w./-]+)`', text))):
+            if not re.search('NAME|CRATE|FILE', path):
+                yield None if any((top / path).exists() for top in (ROOT, ROOT / 'crates', document.parent)) else f'{shown}: there is no {path}'
         for target in sorted(set(re.findall(r'\]\(([^)\s]+)\)', text))):
             yield None if linked(document, target) else f'{shown}: no {target}'
 
