@@ -4,9 +4,10 @@
 - every `path/to/file:name` in PROMISES, ARCHITECTURE, DECISIONS and PROOFS names a file of the repository in which that name is declared;
 - every path in backquotes, must-fail edits among them, and every link names a file, and a link's heading is one of that file;
 - every must-fail edit, named or not, says in its first line which claim it shows;
-- PROMISES has a row for each of K1 to K9, with as many rows of the table of cases as that file has.
+- PROMISES has a row for each of K1 to K9, with as many rows of the table of cases as that file has;
+- returned numbers and phases have in REFERENCE the numbers and names that the header gives them.
 
-Last line: 'N passed, M failed', one for each place, edit and case.
+Last line: 'N passed, M failed', one for each place, edit, case and number.
 """
 import pathlib
 import re
@@ -75,8 +76,20 @@ def cases():
         yield None if 0 < number == found else f'docs/PROMISES.md: K{case} has {number} rows, {found} found in {file or "no file"}'
 
 
+def numbers():
+    """(what is wrong or None) for each returned number and phase of the header."""
+    text = (ROOT / 'docs' / 'REFERENCE.md').read_text(encoding='utf-8')
+    header = (ROOT / 'include' / 'duskclamp.h').read_text(encoding='utf-8')
+    returned = header[header.index('/* The returned numbers'):]
+    for name, number in re.findall(r'^#define DUSKCLAMP_(\w+) (\d+) ', returned, re.M):
+        yield None if f'| {number} | `{name}` |' in text else f'docs/REFERENCE.md: {name} is {number} in the header'
+    for name, number in re.findall(r'^#define DUSKCLAMP_PHASE_(\w+) (\d+) ', header, re.M):
+        name = name.lower().replace('_', ' ')
+        yield None if f'| {number} | {name} |' in text else f'docs/REFERENCE.md: phase {number} is {name} in the header'
+
+
 def main():
-    results = [*places(), *edits(), *cases()]
+    results = [*places(), *edits(), *cases(), *numbers()]
     wrong = [result for result in results if result]
     for result in wrong:
         print(f'promises: {result}')
