@@ -6,6 +6,7 @@ use mathlib.Core.List.{List}
 use lib.Dec.{eqb}
 use lib.ListN.{length}
 use Rattle.laws.specs.Choice.{pick, either}
+use Rattle.lock_rules.specs.Numbers.{returned-of}
 use Rattle.lock_rules.specs.declared.Answer.{Answer}
 use Rattle.lock_rules.specs.declared.Answer.the-variants.{GoneOn, Finished, Parked, NotOwner, TooDeep, NoRule}
 use Rattle.lock_table.specs.Fresh.{freshOf, freshReturnedOf}
@@ -52,7 +53,7 @@ eventBytes istable bytes outcome = pick istable (bytesOf (outcome .table)) bytes
 
 -- what a refused event leaves: every byte; but 18 and 19 make the thread idle, and leave every byte of all other records
 abbrev pub leftBytes : ℕ → List ℕ → ℕ → List ℕ
-leftBytes number bytes thread = pick (either (eqb number 18) (eqb number 19)) (idledBytes bytes thread) bytes
+leftBytes number bytes thread = pick (either (eqb number (returned-of NotOwner)) (eqb number (returned-of TooDeep))) (idledBytes bytes thread) bytes
 
 -- an event of the thread on these bytes, what it left and what it answered
 abbrev pub RefusedLeaves : List ℕ → ℕ → List ℕ → ℕ → Type 0
