@@ -1,4 +1,5 @@
-/* Duskclamp: lock words, monitors and single steps of a runtime, over a table that the caller lends as bytes.
+/* Duskclamp: lock words, monitors and single steps of a runtime, over a table that the caller lends as bytes. docs/REFERENCE.md of the repository says
+ * what each number, phase and word means and which tables are sound.
  *
  * Link liblock_engine_c.a, which `rt staticlib lock_engine_c` writes to target/staticlib, or install it as libduskclamp.a by `make install`.
  * Of other libraries it needs memcpy and memset alone. It is built for x86-64.
