@@ -1,5 +1,6 @@
 #!/bin/sh
-# Input that no schedule has: very long lines, very many empty ones, noise, damaged headers, an output that is closed.
+# Input and output that no schedule has: very long lines, very many empty ones, noise, damaged headers, an input that does not end, reads and
+# writes that fail. How a run ended is read from descriptor 3: 0 all read, 3 bad header, 4 read failed, 5 write failed.
 # tests/bad_input.sh PROGRAM REFERENCE; the last line is 'N passed, M failed'.
 set -u
 program=$1 reference=$2
@@ -46,6 +47,36 @@ for header in '' ' ' 'L' 'L 1 1' 'L 1 1 0 ' ' L 1 1 0' 'L 1 1 2' 'L 01 1 0' 'L 1
 done
 printf 'L 1 1 0' >"$work/header"
 same 'a header without its newline' "$work/header"
+
+# A bad header ends the run at once, with nothing more read: also where the input does not end.
+found=$(yes | timeout 20 "$program" 3>"$work/ending" | tr '\n' ';')
+check 'no header, endless' "$found $(cat "$work/ending")" '21; 3'
+found=$({ printf 'L 33 1 0\n'; yes 'E 1 1'; } | timeout 20 "$program" 3>"$work/ending" | tr '\n' ';')
+check 'sizes out of range, endless' "$found $(cat "$work/ending")" '22; 3'
+found=$(head -c 100000 /dev/zero | tr '\0' 'L' | "$program" 3>"$work/ending" | tr '\n' ';')
+check 'a header that is too long' "$found $(cat "$work/ending")" '21; 3'
+found=$("$program" </dev/null 3>"$work/ending" | tr '\n' ';')
+check 'no input' "$found $(cat "$work/ending")" '21; 3'
+
+# A good header and the end of the input; descriptor 3 closed, or open for reading only, is as good as none.
+found=$(printf 'L 1 1 0\nE 1 1\n' | "$program" 3>"$work/ending" | tr '\n' ';')
+check 'all read' "$found $(cat "$work/ending")" '0 1 0 000000; 0'
+found=$(printf 'L 1 1 0\nE 1 1' | "$program" 3>"$work/ending" | tr '\n' ';')
+check 'a last line without its newline' "$found $(cat "$work/ending")" '21; 0'
+found=$(printf 'L 1 1 0\nE 1 1\n' | "$program" 3>&- 2>&1 | tr '\n' ';')
+check 'descriptor 3 closed' "$found" '0 1 0 000000;'
+found=$(printf 'L 1 1 0\nE 1 1\n' | "$program" 3</dev/null 2>&1 | tr '\n' ';')
+check 'descriptor 3 not for writing' "$found" '0 1 0 000000;'
+
+# A write that fails stops the run and is said on standard error; so does a read, which is not the end of the input.
+printf 'L 1 1 0\nE 1 1\n' | "$program" 3>"$work/ending" >/dev/full 2>"$work/said"
+check 'a full device' "$(cat "$work/ending") $(wc -l <"$work/said")" '5 1'
+printf 'L 1 1 0\nE 1 1\n' | "$program" 3>"$work/ending" >&- 2>"$work/said"
+check 'no standard output' "$(cat "$work/ending") $(wc -l <"$work/said")" '5 1'
+found=$("$program" <. 3>"$work/ending" 2>"$work/said")
+check 'a folder as input' "$found$(cat "$work/ending") $(wc -l <"$work/said")" '4 1'
+found=$("$(dirname "$0")"/pipes.py "$program" | tr '\n' ';')
+check 'a bad header on an open pipe; a pipe with nothing in it yet; a slow reader' "$found" '21 3;4;a start 5;'
 
 # A reader that goes away ends the run.
 { printf 'L 1 1 0\n'; yes 'E 1 1' | head -n 3000000; } >"$work/long"
