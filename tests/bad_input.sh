@@ -3,19 +3,10 @@
 # writes that fail. How a run ended is read from descriptor 3: 0 all read, 3 bad header, 4 read failed, 5 write failed.
 # tests/bad_input.sh PROGRAM REFERENCE; the last line is 'N passed, M failed'.
 set -u
+. "$(dirname "$0")/counting.sh"
 program=$1 reference=$2
 work=$(mktemp -d) || exit 2
 trap 'rm -rf "$work"' EXIT
-passed=0 failed=0
-
-check() {
-    if [ "$2" = "$3" ]; then
-        passed=$((passed + 1))
-    else
-        failed=$((failed + 1))
-        echo "bad input: $1: expected '$3', found '$2'"
-    fi
-}
 
 # both programs print the same for the file
 same() {
@@ -84,5 +75,4 @@ timeout 20 sh -c '"$1" <"$2" | head -n 1 >"$3"' sh "$program" "$work/long" "$wor
 check 'a closed output, status' "$?" 0
 check 'a closed output, first line' "$(cat "$work/first")" '0 1 0 000000'
 
-echo "$passed passed, $failed failed"
-[ "$failed" -eq 0 ]
+finish

@@ -2,6 +2,7 @@
 # Every schedule of examples/, through the proved program and the second one, byte for byte.
 # tests/examples.sh PROGRAM REFERENCE; the last line is 'N passed, M failed'.
 set -u
+. "$(dirname "$0")/counting.sh"
 if [ $# -ne 2 ]; then
     echo "usage: tests/examples.sh PROGRAM REFERENCE"
     exit 2
@@ -16,18 +17,13 @@ done
 examples=$(dirname "$0")/../examples
 work=$(mktemp -d) || exit 2
 trap 'rm -rf "$work"' EXIT
-passed=0 failed=0
 
 "$examples/to-the-limit.sh" >"$work/to-the-limit.txt"
 for schedule in "$examples"/*.txt "$work/to-the-limit.txt"; do
     "$program" <"$schedule" >"$work/found"
     "$reference" <"$schedule" >"$work/expected"
-    if [ -s "$work/expected" ] && cmp "$work/found" "$work/expected"; then
-        passed=$((passed + 1))
-    else
-        failed=$((failed + 1))
-        echo "examples: $(basename "$schedule"): the two programs differ, or print nothing"
-    fi
+    verdict=different
+    [ -s "$work/expected" ] && cmp "$work/found" "$work/expected" && verdict=same
+    check "$(basename "$schedule")" "$verdict" same
 done
-echo "$passed passed, $failed failed"
-[ "$failed" -eq 0 ]
+finish

@@ -2,19 +2,10 @@
 # The script ./replay over a program that is built: its statuses, its arguments, a link to it, and that it builds again where a source is newer.
 # tests/replay_script.sh; the last line is 'N passed, M failed'.
 set -u
+. "$(dirname "$0")/counting.sh"
 here=$(cd "$(dirname "$0")/.." && pwd -P) || exit 2
 work=$(mktemp -d) || exit 2
 trap 'rm -rf "$work"' EXIT
-passed=0 failed=0
-
-check() {
-    if [ "$2" = "$3" ]; then
-        passed=$((passed + 1))
-    else
-        failed=$((failed + 1))
-        echo "replay script: $1: expected '$3', found '$2'"
-    fi
-}
 
 script=$here/replay listing=$here/examples/listing.txt expected=$here/crates/replay/stdout
 
@@ -84,5 +75,4 @@ check 'and is tried again' "$(outcome "$work/copy/replay" "$listing") $(asked)" 
 PATH=$(echo "$PATH" | tr ':' '\n' | while IFS= read -r place; do [ -x "$place/rt" ] || printf '%s:' "$place"; done)
 check 'no kit' "$(outcome "$work/copy/replay" "$listing") $(grep -c 'the Rattle kit (rattle-kit-' "$work/said")" ' 1 1'
 
-echo "$passed passed, $failed failed"
-[ "$failed" -eq 0 ]
+finish
