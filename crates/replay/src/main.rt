@@ -141,12 +141,12 @@ fn take_part(start: Stream, buffer: &mut [u8], held: usize, last: bool, out: &mu
     ensures { λ r. ⌜ Takes start last held (now (buffer .entry)) (now (buffer .exit)) r ⌝ }
 {
     let drained = drain(start, &buffer[..held], last, out);
-    let stream = drained.stream;
+    let next = drained.stream;
     let from = drained.from;
     let failed = drained.failed;
     replay_buffer::keep_rest(buffer, from, held);
     Held {
-        stream: stream,
+        stream: next,
         held: held - from,
         failed: failed,
     }
