@@ -4,7 +4,12 @@
 # tests/bad_input.sh PROGRAM REFERENCE; the last line is 'N passed, M failed'.
 set -u
 . "$(dirname "$0")/counting.sh"
+if [ $# -ne 2 ]; then
+    echo "usage: tests/bad_input.sh PROGRAM REFERENCE"
+    exit 2
+fi
 program=$1 reference=$2
+programs_there "$program" "$reference" || exit 2
 work=$(mktemp -d) || exit 2
 trap 'rm -rf "$work"' EXIT
 

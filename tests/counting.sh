@@ -14,3 +14,13 @@ finish() {
     echo "$passed passed, $failed failed"
     [ "$failed" -eq 0 ]
 }
+
+# Whether the proved replay and the second one are built; says how where one is not.
+programs_there() {
+    for needed in "$@"; do
+        if [ ! -x "$needed" ]; then
+            echo "$(basename "$0" .sh): $needed is not there: rt check replay builds target/bin/replay, cargo build in tests/reference builds reference_replay"
+            return 1
+        fi
+    done
+}

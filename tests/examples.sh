@@ -8,12 +8,7 @@ if [ $# -ne 2 ]; then
     exit 2
 fi
 program=$1 reference=$2
-for needed in "$program" "$reference"; do
-    if [ ! -x "$needed" ]; then
-        echo "examples: $needed is not there: rt check replay builds target/bin/replay, cargo build in tests/reference builds reference_replay"
-        exit 2
-    fi
-done
+programs_there "$program" "$reference" || exit 2
 examples=$(dirname "$0")/../examples
 work=$(mktemp -d) || exit 2
 trap 'rm -rf "$work"' EXIT

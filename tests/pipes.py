@@ -106,4 +106,6 @@ def main():
 
 if len(sys.argv) != 2:
     sys.exit(__doc__)
+if not os.access(sys.argv[1], os.X_OK):
+    sys.exit(f'pipes: {sys.argv[1]} is no program: rt check replay builds target/bin/replay')
 main()

@@ -18,8 +18,12 @@ use Rattle.lock_engine.specs.declared.outcome.Reply.{Reply}
 use Rattle.lock_engine.specs.declared.outcome.Reply.the-variants.{Begun, Refused, Answered}
 use Rattle.lock_engine.specs.declared.outcome.Outcome.{Outcome}
 
+-- an event is refused with any number from this one up
+abbrev pub first-refusal : ℕ
+first-refusal = 11
+
 unfoldable pub refusalNumberOf : Refusal → ℕ
-refusalNumberOf NotSound = 11
+refusalNumberOf NotSound = first-refusal
 refusalNumberOf NoSuchThread = 12
 refusalNumberOf NoSuchObject = 13
 refusalNumberOf NotIdle = 14

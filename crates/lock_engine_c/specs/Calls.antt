@@ -14,7 +14,7 @@ use Rattle.lock_table.specs.declared.fresh_table.FreshAnswer.{FreshAnswer}
 use Rattle.lock_table.specs.declared.fresh_table.FreshAnswer.the-variants.{Made, SizeOutOfRange}
 use Rattle.lock_table.specs.declared.fresh_table.FreshTable.{FreshTable}
 use Rattle.lock_table.specs.declared.record.Table.{Table}
-use Rattle.lock_engine.specs.Outcome.{refusalNumberOf, returnedOf, wokenOf}
+use Rattle.lock_engine.specs.Outcome.{first-refusal, refusalNumberOf, returnedOf, wokenOf}
 use Rattle.lock_engine.specs.Begin.{beginOf}
 use Rattle.lock_engine.specs.Step.{stepOf}
 use Rattle.lock_engine.specs.declared.outcome.Refusal.the-variants.{NotSound}
@@ -57,7 +57,7 @@ leftBytes number bytes thread = pick (either (eqb number (returned-of NotOwner))
 
 -- an event of the thread on these bytes, what it left and what it answered
 abbrev pub RefusedLeaves : List ℕ → ℕ → List ℕ → ℕ → Type 0
-RefusedLeaves before thread after answer = 11 ≤ returnedIn answer → after ≡ leftBytes (returnedIn answer) before thread
+RefusedLeaves before thread after answer = first-refusal ≤ returnedIn answer → after ≡ leftBytes (returnedIn answer) before thread
 
 -- which replies go with a table that may have changed: all but the refusals before any rule and 20
 unfoldable pub answerChanges : Answer → Bool

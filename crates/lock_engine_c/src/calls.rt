@@ -20,6 +20,7 @@ use table_bytes::read_table;
 use table_bytes::write_table;
 ghost use mathlib.Core.Path.{_≡_};
 ghost use Prim.Native.Nat.{_≤_};
+ghost use Rattle.lock_engine.specs.Outcome.{first-refusal};
 ghost use Rattle.lock_engine.specs.Begin.{beginOf};
 ghost use Rattle.lock_engine.specs.Step.{stepOf};
 ghost use Rattle.table_bytes.specs.Layout.{table-size};
@@ -162,7 +163,7 @@ pub extern "C" fn duskclamp_fresh(
 pub extern "C" fn duskclamp_begin(bytes: &mut [u8], thread: u32, operation: u32, object: u32) -> u32
     ensures { λ r. ⌜ r ≡ eventAnswer (isTable (now (bytes .entry))) (begunOn (now (bytes .entry)) thread operation object) ⌝ }
     ensures { λ _. ⌜ now (bytes .exit) ≡ eventBytes (isTable (now (bytes .entry))) (now (bytes .entry)) (begunOn (now (bytes .entry)) thread operation object) ⌝ }
-    ensures { λ r. ⌜ (11 ≤ returnedIn r → now (bytes .exit) ≡ now (bytes .entry)) ⌝ }
+    ensures { λ r. ⌜ (first-refusal ≤ returnedIn r → now (bytes .exit) ≡ now (bytes .entry)) ⌝ }
 {
     let istable = is_table(bytes);
     begin_gated(

@@ -9,7 +9,7 @@ use Rattle.lock_rules.specs.Events.{Event, Begin, Step}
 use Rattle.lock_table.specs.Record.{noThread}
 use Rattle.lock_table.specs.Access.{setThread}
 use Rattle.lock_table.specs.declared.record.Table.{Table}
-use Rattle.lock_engine.specs.Outcome.{returnedOf}
+use Rattle.lock_engine.specs.Outcome.{first-refusal, returnedOf}
 use Rattle.lock_engine.specs.declared.outcome.Outcome.{Outcome}
 use Rattle.lock_schedule.specs.Schedule.{eventOf}
 use Rattle.lock_table.specs.Whole.{Whole}
@@ -18,9 +18,9 @@ use Rattle.lock_refusals.specs.Refusals.{Row, IsFirst, NoneApplies, begi
 abbrev pub returned : Outcome → ℕ
 returned outcome = returnedOf (outcome .reply)
 
--- an event is refused with any number from 11 up; 0 for one that is not
+-- the number of a refused event; 0 for one that is not
 abbrev pub refused-number : Outcome → ℕ
-refused-number outcome = pick (leb 11 (returned outcome)) (returned outcome) 0
+refused-number outcome = pick (leb first-refusal (returned outcome)) (returned outcome) 0
 
 -- the refusals of an event, and the thread that it is of
 abbrev pub refusals : Table → Event → List Row
@@ -33,7 +33,7 @@ thread-of (Step thread) = thread
 
 -- "It is refused only where a refusal of document 01 applies, with the first that applies in its order, and otherwise accepted."
 pub record RefusedByFirst (rows : List Row) (outcome : Outcome) : Type 0 where
-  pub refused : (number : ℕ) → 11 ≤ number → (returned outcome ≡ number) ↔ IsFirst number rows
+  pub refused : (number : ℕ) → first-refusal ≤ number → (returned outcome ≡ number) ↔ IsFirst number rows
   -- accepted is 0, 1 and 2
   pub accepted : (returned outcome ≤ 2) ↔ NoneApplies rows
 
@@ -42,7 +42,7 @@ abbrev pub left-by : ℕ → Table → ℕ → Table
 left-by number table thread = pick (either (eqb number 18) (eqb number 19)) (setThread table thread noThread) table
 
 abbrev pub Leaves : Table → ℕ → Outcome → Type 0
-Leaves table thread outcome = 11 ≤ returned outcome → outcome .table ≡ left-by (returned outcome) table thread
+Leaves table thread outcome = first-refusal ≤ returned outcome → outcome .table ≡ left-by (returned outcome) table thread
 
 -- every event on every table that the code can have
 abbrev pub DemandOne : Type 0

@@ -15,7 +15,7 @@ use Rattle.replay_stream.specs.Stream.{freshStream}
 use Rattle.replay.specs.declared.Ending.{Ending}
 use Rattle.replay.specs.declared.Held.{Held}
 use Rattle.replay.specs.declared.Moved.{Moved}
-use Rattle.replay.specs.Run.{PassedOn, SettledAt, Takes, ReadBehind, EndsRight, Runs}
+use Rattle.replay.specs.Run.{PassedOn, SettledAt, Takes, ReadBehind, EndedAs, Runs}
 
 -- some input was read, and passed on up to `rest`; `ended` says that it has ended
 pub record Read (ended : Bool) (stream : Stream) (rest : List ℕ) : Type 0 where
@@ -60,5 +60,5 @@ pub read-open : {ended : Bool} {stream : Stream} {rest : List ℕ} → ended ≡
 read-open {stream = stream} {rest} more read = subst (λ (x : Bool). Read x stream rest) more read
 
 pub runs : {ended : Bool} {stream : Stream} {held : ℕ} {buffer : List ℕ} {ending : Ending} → Read ended stream (take held buffer)
-    → EndsRight ending ended stream (take held buffer) → Runs buffer (record { stream = stream; held = held; ending = ending })
+    → EndedAs ending ended stream (take held buffer) → Runs buffer (record { stream = stream; held = held; ending = ending })
 runs {ended} read right = record { input = read .input; ended = ended; passed = read .passed; right = right }

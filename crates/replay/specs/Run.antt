@@ -44,19 +44,19 @@ pub record ReadBehind (held : ℕ) (before after : List ℕ) (r : Moved) : Type 
   pub kept : take held after ≡ take held before
 
 -- all of an input that ended was printed; or the run is over, so that whatever follows prints nothing; or a read failed before the end
-abbrev pub EndsRight : Ending → Bool → Stream → List ℕ → Type 0
-EndsRight AllRead ended stream rest =
+abbrev pub EndedAs : Ending → Bool → Stream → List ℕ → Type 0
+EndedAs AllRead ended stream rest =
     (ended ≡ true) × (overOf (stream .session) ≡ false) × (restOf session-replay (stream .session) (stream .inside) rest ≡ [])
-EndsRight BadHeader ended stream rest = overOf (stream .session) ≡ true
-EndsRight ReadFailed ended stream rest = ended ≡ false
-EndsRight WriteFailed ended stream rest = ended ≡ ended
+EndedAs BadHeader ended stream rest = overOf (stream .session) ≡ true
+EndedAs ReadFailed ended stream rest = ended ≡ false
+EndedAs WriteFailed ended stream rest = Unit {0}
 
 -- there is an input, that which was read, which a fresh session passed on up to the rest that the buffer holds
 pub record Runs (buffer : List ℕ) (r : Ran) : Type 0 where
   pub input : List ℕ
   pub ended : Bool
   pub passed : Passed session-replay freshSession false ended input (r .stream .session) (r .stream .inside) (take (r .held) buffer)
-  pub right : EndsRight (r .ending) ended (r .stream) (take (r .held) buffer)
+  pub right : EndedAs (r .ending) ended (r .stream) (take (r .held) buffer)
 
 -- the exit status of the script
 unfoldable pub statusOf : Ending → ℕ

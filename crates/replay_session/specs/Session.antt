@@ -9,10 +9,9 @@ use Rattle.lock_table.specs.Fresh.{freshOf, freshReturnedOf}
 use Rattle.lock_table.specs.declared.record.Table.{Table}
 use Rattle.lock_table.specs.declared.fresh_table.FreshAnswer.{FreshAnswer}
 use Rattle.lock_table.specs.declared.fresh_table.FreshAnswer.the-variants.{Made, SizeOutOfRange}
-use Rattle.lock_engine.specs.Outcome.{refusalNumberOf, returnedOf, wokenOf}
+use Rattle.lock_engine.specs.Outcome.{first-refusal, returnedOf, wokenOf}
 use Rattle.lock_engine.specs.Begin.{beginOf}
 use Rattle.lock_engine.specs.Step.{stepOf}
-use Rattle.lock_engine.specs.declared.outcome.Refusal.the-variants.{NotSound}
 use Rattle.lock_engine.specs.declared.outcome.Outcome.{Outcome}
 use Rattle.replay_lines.specs.declared.reading.Line.{Line}
 use Rattle.replay_lines.specs.declared.reading.Line.the-variants.{Header, Begin, Step, Malformed}
@@ -28,10 +27,6 @@ use Rattle.replay_session.specs.declared.reacting.Reaction.{Reaction}
 -- 21: a malformed line, or a header that is missing or not of its form. The other numbers are the engine's own
 abbrev pub malformed : ℕ
 malformed = 21
-
--- numbers from this one on are refusals: the first of the list
-abbrev pub firstRefusal : ℕ
-firstRefusal = refusalNumberOf NotSound
 
 abbrev pub noTable : Table
 noTable = freshOf 0 0 false .table
@@ -64,7 +59,7 @@ unfoldable pub answerFrom : ℕ → ℕ → ℕ → ℕ → ℕ → Answer
 answerFrom first number phase woken word = pick (leb first number) (Refused number) (Accepted number phase woken word)
 
 abbrev pub answerWith : ℕ → ℕ → ℕ → ℕ → Answer
-answerWith number phase woken word = answerFrom firstRefusal number phase woken word
+answerWith number phase woken word = answerFrom first-refusal number phase woken word
 
 abbrev pub afterEvent : Outcome → ℕ → ℕ → Reaction
 afterEvent outcome thread object =

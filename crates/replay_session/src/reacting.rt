@@ -3,8 +3,8 @@ use crate::session::Session;
 use crate::session::Stage;
 use lock_engine::Outcome;
 use lock_engine::Refusal;
-use lock_engine::Reply;
 use lock_engine::begin_trusting;
+use lock_engine::refusal_number;
 use lock_engine::returned;
 use lock_engine::step_trusting;
 use lock_engine::woken;
@@ -20,7 +20,8 @@ use lock_table::thread_at;
 use replay_lines::Line;
 use replay_text::Answer;
 ghost use mathlib.Core.Path.{_≡_};
-ghost use Rattle.replay_session.specs.Session.{firstRefusal, staying, openedBy, openOf, phaseOf, wordOf, answerFrom, answerWith, afterEvent, closingBy, closingOf};
+ghost use Rattle.lock_engine.specs.Outcome.{first-refusal};
+ghost use Rattle.replay_session.specs.Session.{staying, openedBy, openOf, phaseOf, wordOf, answerFrom, answerWith, afterEvent, closingBy, closingOf};
 ghost use Rattle.replay_session.specs.Known.{begunKnown, steppedKnown, runKnown, reactWith, reactKnown};
 
 pub struct Reaction {
@@ -102,9 +103,9 @@ fn word_of(table: Table, object: u8) -> u32
 
 // Numbers from this one on are refusals, which print alone.
 fn first_refusal() -> u8
-    ensures { λ r. ⌜ r ≡ firstRefusal ⌝ }
+    ensures { λ r. ⌜ r ≡ first-refusal ⌝ }
 {
-    returned(Reply::Refused(Refusal::NotSound))
+    refusal_number(Refusal::NotSound)
 }
 
 // A refusal prints its number alone; else returned, phase, woken and word.

@@ -27,7 +27,7 @@ returns-2 : tie.Need-returns-2 Inv-loop μ-loop
 returns-2 c =
     let part = c .before .before .before .before .before .before in
     let read = part .before .before .before .before .before .before in
-    runs (read-taken (part .take-part .ensures) (read-more (read .read-behind .ensures) (read .before .before .before .loop .inv .3))) refl
+    runs (read-taken (part .take-part .ensures) (read-more (read .read-behind .ensures) (read .before .before .before .loop .inv .3))) tt
 
 returns-3 : tie.Need-returns-3 Inv-loop μ-loop
 returns-3 c =
