@@ -1,5 +1,3 @@
 -- The laws of sessions.
-pub mod Numbers
-pub mod Known
 pub mod OwnedSession
 pub mod Over

@@ -200,7 +200,7 @@ fn react_by(stage: Stage, table: Table, line: Line, issound: bool) -> Reaction
 }
 
 // A line is taken by a caller that is trusted to know whether the session's table is sound: with `issound` as session_sound has it this is
-// what document 01 says of the line (replay_session/proofs/Known.antt).
+// what document 01 says of the line (replay_stream/proofs/Known.antt).
 pub fn react_trusting(session: Session, line: Line, issound: bool) -> Reaction
     ensures { λ r. ⌜ r ≡ reactKnown session line issound ⌝ }
 {

@@ -1,2 +1,4 @@
--- The laws of the definitions in specs/.
+-- What a line does where soundness is known, and what a turn gives.
+pub mod Numbers
+pub mod Known
 pub mod Turned

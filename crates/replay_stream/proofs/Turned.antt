@@ -14,7 +14,7 @@ use Rattle.replay_session.specs.declared.session.Session.{Session}
 use Rattle.replay_session.specs.declared.reacting.Reaction.{Reaction}
 use Rattle.replay_session.specs.Session.{reactOf, closingOf, session-replay}
 use Rattle.replay_session.specs.Known.{soundSession, reactKnown}
-use Rattle.replay_session.proofs.Known.{react-known, sound-session-kept}
+use Rattle.replay_stream.proofs.Known.{react-known, sound-session-kept}
 use Rattle.replay_session.proofs.Over.{closed-silent}
 use Rattle.replay_stream.specs.Stream.{Turned, Closed}
 

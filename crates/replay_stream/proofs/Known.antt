@@ -25,12 +25,12 @@ use Rattle.lock_schedule.specs.Schedule.{eventOf}
 use Rattle.lock_schedule.proofs.Theorem.{sound-kept}
 use Rattle.replay_lines.specs.declared.reading.Line.{Line}
 use Rattle.replay_lines.specs.declared.reading.Line.the-variants.{Header, Begin, Step, Malformed}
-use Rattle.replay_session.proofs.Numbers.{narrow-begun, narrow-stepped}
+use Rattle.replay_stream.proofs.Numbers.{narrow-begun, narrow-stepped}
 use Rattle.replay_session.specs.Session.{openedBy, openOf, afterEvent, runOf, reactBy, reactOf}
 use Rattle.replay_session.specs.Known.{soundBy, soundSession, runKnown, reactWith, reactKnown}
 use Rattle.replay_session.specs.declared.session.Stage.{Stage}
 use Rattle.replay_session.specs.declared.session.Stage.the-variants.{Opening, Running, Over}
 use Rattle.replay_session.specs.declared.session.Session.{Session}
 
 run-known : (table : Table) {issound : Bool} → issound ≡ soundOf table → (line : Line) → runKnown table line issound ≡ runOf table line
 unfolding runKnown runOf
