@@ -69,7 +69,7 @@ def no_input_yet(program):
 
 
 def slow_reader(program):
-    """A non-blocking output that fills up, and is read while the input goes on: what was written is a start of the answers, and the run has failed."""
+    """A non-blocking output that fills up, and is read while the input goes on: a start of the answers is written, and the run has failed."""
     answers = b'0 1 0 000000\n' + b'14\n' * (2 * EVENTS - 1)
     reader, writer = os.pipe()
     nonblocking(writer)
