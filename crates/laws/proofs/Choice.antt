@@ -88,3 +88,7 @@ both-second false b e = false≢true e
 
 pub both-of : {a b : Bool} → a ≡ true → b ≡ true → both a b ≡ true
 both-of {a} {b} p q = rw p q
+
+pub both-no : (b : Bool) → both b false ≡ false
+both-no true = refl
+both-no false = refl

@@ -1,28 +1,25 @@
 -- A number that is taken as 255 where it is larger gives the same begin and the same step: a sound table has no thread or object above 64, and no
 -- operation is above 5.
 use Prim.Native.Nat.{ℕ, _≤_, _<_}
-use mathlib.Core.Path.{_≡_, refl, _∙_}
+use mathlib.Core.Path.{_≡_, refl, sym, _∙_}
 use mathlib.Core.Bool.{Bool, true, false}
 use native.Mathlib.Omega.{arith}
 use lib.Dec.{leb}
-use borrow.Author.Tests.{lt-leb, ne-eqb}
+use borrow.Author.Tests.{lt-leb}
 use Rattle.laws.specs.Choice.{both, within}
-use Rattle.laws.proofs.Choice.{both-first}
+use Rattle.laws.proofs.Choice.{both-first, both-no}
 use Rattle.lock_table.specs.Limits.{thread-limit, object-limit}
 use Rattle.lock_table.specs.Narrow.{narrowOf}
 use Rattle.lock_table.specs.Operation.{operationFromOf}
 use Rattle.lock_table.specs.declared.operation.Operation.{Operation}
 use Rattle.lock_table.specs.declared.operation.Operation.the-variants.{Idle, Enter, Exit, Wait, Notify, NotifyAll}
 use Rattle.lock_table.specs.declared.record.Table.{Table}
+use Rattle.lock_table.proofs.Operations.{no-operation}
 use Rattle.lock_table.proofs.Narrowed.{narrowed}
 use Rattle.lock_soundness.specs.Sound.{sizesFit, soundOf}
 use Rattle.lock_soundness.proofs.RecordReading.{reads-sizes}
 use Rattle.lock_engine.specs.Begin.{beginObject, beginOperation, beginRanged, beginTrusting, beginOf}
 use Rattle.lock_engine.specs.Step.{stepRanged, stepTrusting, stepOf}
-
-pub both-no : (b : Bool) → both b false ≡ false
-both-no true = refl
-both-no false = refl
 
 outside : (limit n : ℕ) → limit < n → within 1 limit n ≡ false
 outside limit n past = rw (lt-leb n limit past) (both-no (leb 1 n))
@@ -61,16 +58,7 @@ module _ (table : Table) where
           rw (outside (table .threadcount) 255 (omega (arith, few)), outside (table .threadcount) n (omega (arith, few, past))) refl
 
   operation-past : (n : ℕ) → 255 < n → operationFromOf 255 ≡ operationFromOf n
-  unfolding operationFromOf
-  operation-past n past =
-      rw (
-        ne-eqb n 1 (λ e. omega (arith, e, past)),
-        ne-eqb n 2 (λ e. omega (arith, e, past)),
-        ne-eqb n 3 (λ e. omega (arith, e, past)),
-        ne-eqb n 4 (λ e. omega (arith, e, past)),
-        ne-eqb n 5 (λ e. omega (arith, e, past)),
-      )
-      refl
+  operation-past n past = no-operation 255 (omega arith) ∙ sym (no-operation n (omega (arith, past)))
 
   begin-operation-past : (thread object n : ℕ) → 255 < n → beginOf table thread 255 object ≡ beginOf table thread n object
   unfolding beginOf beginTrusting beginRanged

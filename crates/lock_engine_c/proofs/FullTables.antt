@@ -152,14 +152,14 @@ module _ {table : Table} (full : Full table) where
       full-begin-operation thread (operationFromOf operation) object (within 1 (table .objectcount) object)
   full-begin-ranged thread operation object false = full
 
-  full-begin-gated : (thread operation object : ℕ) (issound : Bool) → GivesFull (beginTrusting table thread operation object issound)
+  full-begin-if-table : (thread operation object : ℕ) (issound : Bool) → GivesFull (beginTrusting table thread operation object issound)
   unfolding beginTrusting
-  full-begin-gated thread operation object true = full-begin-ranged thread operation object (within 1 (table .threadcount) thread)
-  full-begin-gated thread operation object false = full
+  full-begin-if-table thread operation object true = full-begin-ranged thread operation object (within 1 (table .threadcount) thread)
+  full-begin-if-table thread operation object false = full
 
   full-begin : (thread operation object : ℕ) → GivesFull (beginOf table thread operation object)
   unfolding beginOf
-  full-begin thread operation object = full-begin-gated thread operation object (soundOf table)
+  full-begin thread operation object = full-begin-if-table thread operation object (soundOf table)
 
 -- the bytes after an event on a table: a table, which is that of the engine
 pub record ReadsAs (bytes : List ℕ) (table : Table) : Type 0 where

@@ -86,7 +86,7 @@ fn settle(bytes: &mut [u8], outcome: Outcome) -> u32
     packed(returned(reply), woken(reply), outcome.commits)
 }
 
-fn begin_gated(bytes: &mut [u8], thread: u8, operation: u8, object: u8, istable: bool) -> u32
+fn begin_if_table(bytes: &mut [u8], thread: u8, operation: u8, object: u8, istable: bool) -> u32
     ensures { λ r. ⌜ r ≡ eventAnswer istable (beginOf (tableOf (now (bytes .entry))) thread operation object) ⌝ }
     ensures { λ _. ⌜ now (bytes .exit) ≡ eventOver istable (now (bytes .entry)) (beginOf (tableOf (now (bytes .entry))) thread operation object) ⌝ }
 {
@@ -97,7 +97,7 @@ fn begin_gated(bytes: &mut [u8], thread: u8, operation: u8, object: u8, istable:
     refusal_number(Refusal::NotSound) as u32
 }
 
-fn step_gated(bytes: &mut [u8], thread: u8, istable: bool) -> u32
+fn step_if_table(bytes: &mut [u8], thread: u8, istable: bool) -> u32
     ensures { λ r. ⌜ r ≡ eventAnswer istable (stepOf (tableOf (now (bytes .entry))) thread) ⌝ }
     ensures { λ _. ⌜ now (bytes .exit) ≡ eventOver istable (now (bytes .entry)) (stepOf (tableOf (now (bytes .entry))) thread) ⌝ }
 {
@@ -117,7 +117,7 @@ fn keep_made(bytes: &mut [u8], answer: FreshAnswer, table: Table)
     }
 }
 
-fn fresh_gated(bytes: &mut [u8], made: FreshTable, fits: bool) -> u32
+fn fresh_if_sized(bytes: &mut [u8], made: FreshTable, fits: bool) -> u32
     ensures { λ r. ⌜ r ≡ freshAnswer fits made ⌝ }
     ensures { λ _. ⌜ now (bytes .exit) ≡ freshOver fits (now (bytes .entry)) made ⌝ }
 {
@@ -155,7 +155,7 @@ pub extern "C" fn duskclamp_fresh(
         narrow(objects) as u16,
         reserved != 0,
     );
-    fresh_gated(bytes, made, fits)
+    fresh_if_sized(bytes, made, fits)
 }
 
 // The thread begins the operation with this number on the object. Refused, it leaves every byte.
@@ -166,7 +166,7 @@ pub extern "C" fn duskclamp_begin(bytes: &mut [u8], thread: u32, operation: u32,
     ensures { λ r. ⌜ (first-refusal ≤ returnedIn r → now (bytes .exit) ≡ now (bytes .entry)) ⌝ }
 {
     let istable = is_table(bytes);
-    begin_gated(
+    begin_if_table(
         bytes,
         narrow(thread),
         narrow(operation),
@@ -183,5 +183,5 @@ pub extern "C" fn duskclamp_step(bytes: &mut [u8], thread: u32) -> u32
     ensures { λ r. ⌜ RefusedLeaves (now (bytes .entry)) thread (now (bytes .exit)) r ⌝ }
 {
     let istable = is_table(bytes);
-    step_gated(bytes, narrow(thread), istable)
+    step_if_table(bytes, narrow(thread), istable)
 }

@@ -1,2 +1,3 @@
 -- The laws of performing.
 pub mod Lengths
+pub mod SentBack

@@ -6,7 +6,6 @@ use Rattle.lock_rules.specs.declared.ChainAction.{ChainAction}
 use Rattle.lock_rules.specs.declared.ChainAction.the-variants.{Stay, JoinEntry, Contend, GiveUp, HandOver, AdmitContenders, TellFirst}
 use Rattle.lock_rules.specs.declared.ChainAction.the-variants.{WakeFirst, WakeAll, SendBack}
 use Rattle.lock_table.specs.Limits.{thread-limit}
-use Rattle.lock_table.specs.Narrow.{narrowOf}
 use Rattle.lock_table.specs.Access.{threadAt, setThread, nextOf}
 use Rattle.lock_table.specs.Monitor.{handOf, joinEntry, joinContention, joinWaiting, admitContenders, tellFirst, wakeFirst, wakeAll}
 use Rattle.lock_table.specs.Chain.{hangOf, handFirstOf, queueFirstOf, queueAllOf}
@@ -105,4 +104,4 @@ actionOf AdmitContenders thread object moved = admitOf moved
 actionOf TellFirst thread object moved = tellOf moved
 actionOf WakeFirst thread object moved = wakeFirstOf moved
 actionOf WakeAll thread object moved = wakeAllOf moved
-actionOf (SendBack number) thread object moved = sendBackOf moved object (narrowOf number)
+actionOf (SendBack number) thread object moved = sendBackOf moved object number

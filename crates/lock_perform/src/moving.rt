@@ -190,13 +190,15 @@ fn sent_back(object: u8, thread: ThreadRecord) -> ThreadRecord
 }
 
 // The thread whose reservation is cancelled, if it is at its store on this object, goes back to its look.
-fn send_back(moved: Moved, object: u8, number: u8) -> Moved
+// A number beyond the records is nobody's.
+fn send_back(moved: Moved, object: u8, number: u16) -> Moved
     ensures { λ r. ⌜ r ≡ sendBackOf moved object number ⌝ }
 {
     let table = moved.table;
     let monitor = moved.monitor;
+    let place = narrow(number as u32);
     Moved {
-        table: set_thread(table, number, sent_back(object, thread_at(table, number))),
+        table: set_thread(table, place, sent_back(object, thread_at(table, place))),
         monitor: monitor,
     }
 }
@@ -214,6 +216,6 @@ pub fn act_on_chains(action: ChainAction, thread: u8, object: u8, moved: Moved) 
         ChainAction::TellFirst => tell_first(moved),
         ChainAction::WakeFirst => wake_first(moved),
         ChainAction::WakeAll => wake_all(moved),
-        ChainAction::SendBack(number) => send_back(moved, object, narrow(number as u32)),
+        ChainAction::SendBack(number) => send_back(moved, object, number),
     }
 }

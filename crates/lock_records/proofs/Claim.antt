@@ -7,7 +7,7 @@ use mathlib.Core.List.{List}
 use native.Mathlib.Omega.{arith}
 use lib.Dec.{T, eqb}
 use Rattle.laws.specs.Choice.{pick, both, either}
-use Rattle.laws.proofs.Choice.{by-test, pick-same, false≢true, Equal, equal}
+use Rattle.laws.proofs.Choice.{by-test, both-no, pick-same, false≢true, Equal, equal}
 use Rattle.chains.specs.Chain.{members}
 use Rattle.chains.proofs.Links.{Links}
 use Rattle.lock_word.specs.declared.reading.Decoded.the-variants.{Valid}
@@ -181,13 +181,9 @@ woken-seen n home o state next =
     here true = refl
     here false = refl
 
-    none : (a : Bool) → both a false ≡ false
-    none true = refl
-    none false = refl
-
     at : (state ≡ Idle) ⊎ (recordOf n home state next .object ≡ home)
         → both (eqb (recordOf n home state next .object) o) (is-woken state) ≡ is-woken (pick (eqb home o) state Idle)
-    at (inl idle) = rw idle (none (eqb (recordOf n home Idle next .object) o) ∙ sym (ap is-woken (pick-same (eqb home o) Idle)))
+    at (inl idle) = rw idle (both-no (eqb (recordOf n home Idle next .object) o) ∙ sym (ap is-woken (pick-same (eqb home o) Idle)))
     at (inr same) = ap (λ (b : ℕ). both (eqb b o) (is-woken state)) same ∙ here (eqb home o)
 
 module _ (threads objects : ℕ) (t : Table) (lists : ListTable) (represents : Represents threads objects t lists) (sound : SoundTable threads objects lists)

@@ -30,7 +30,6 @@ use Rattle.lock_table.proofs.Walks.{next-none}
 use Rattle.lock_table.specs.declared.phase.Onward.{Onward}
 use Rattle.lock_table.specs.declared.record.ThreadRecord.{ThreadRecord}
 use Rattle.lock_table.specs.declared.record.Table.{Table}
-use Rattle.lock_table.specs.Narrow.{narrowOf}
 use Rattle.lock_perform.specs.Moving.{sentBackOf}
 use Rattle.lock_records.proofs.Written.{relinked-written, sent-back-written}
 use Rattle.lock_records.proofs.Represents.{thread-record, ThreadsWritten, record-is, next-is}
@@ -145,34 +144,26 @@ module _ (before t : Table) (threads : ℕ → ListThread) (next : ℕ → ℕ) 
 
   -- the thread of a cancelled word sent back, if it has a record
   pub moves-send : (o number : ℕ) → ((n : ℕ) → (n ≡ 0) ⊎ (thread-limit < n) → threads n .state ≡ Idle)
-      → let owner = narrowOf number in
-      Moves before (setThread t owner (sentBackOf o (threadAt t owner))) (update threads number (sent-from o (threads number))) next
-  unfolding narrowOf
-  moves-send o number outside = at (ltb 255 number) (below 255 number)
+      → Moves before (setThread t number (sentBackOf o (threadAt t number))) (update threads number (sent-from o (threads number))) next
+  moves-send o number outside = by (equal? number 0) (ltb thread-limit number) (below thread-limit number)
     where
       -- nobody is there
-      still : (n : ℕ) → (n ≡ 0) ⊎ (thread-limit < n) → threads number .state ≡ Idle
-          → Moves before (setThread t n (sentBackOf o (threadAt t n))) (update threads number (sent-from o (threads number))) next
-      still n out idle =
+      still : (number ≡ 0) ⊎ (thread-limit < number) → threads number .state ≡ Idle
+          → Moves before (setThread t number (sentBackOf o (threadAt t number))) (update threads number (sent-from o (threads number))) next
+      still out idle =
           let there : Bool = eqb (threads number .object) o in
           let stays : pick there (sent-back (threads number .state)) (threads number .state) ≡ Idle =
           ap (λ (state : ThreadState). pick there (sent-back state) state) idle ∙ pick-same there Idle in
           let same : threads number ≡ sent-from o (threads number) = λ j. record { object = threads number .object; state = (idle ∙ sym stays) j } in
-          rw (set-thread-out t n (sentBackOf o (threadAt t n)) out, update-id threads number (sent-from o (threads number)) same) moves
+          rw (set-thread-out t number (sentBackOf o (threadAt t number)) out, update-id threads number (sent-from o (threads number)) same) moves
 
       by : (number ≡ 0) ⊎ (number ≢ 0) → (past : Bool) → Below past thread-limit number
           → Moves before (setThread t number (sentBackOf o (threadAt t number))) (update threads number (sent-from o (threads number))) next
-      by (inl e) past test = still number (inl e) (outside number (inl e))
-      by (inr real) true test = still number (inr test) (outside number (inr test))
+      by (inl e) past test = still (inl e) (outside number (inl e))
+      by (inr real) true test = still (inr test) (outside number (inr test))
       by (inr real) false test =
           moves-change (sentBackOf o) (sent-from o (threads number)) number (omega (arith, real)) test
           (sent-back-written o number (threads number .object) (threads number .state) (next number))
-
-      at : (far : Bool) → Below far 255 number
-          → let owner = pick far 255 number in
-          Moves before (setThread t owner (sentBackOf o (threadAt t owner))) (update threads number (sent-from o (threads number))) next
-      at true past = still 255 (inr (omega arith)) (outside number (inr (omega (arith, past))))
-      at false high = by (equal? number 0) (ltb thread-limit number) (below thread-limit number)
 
 -- each of a chain queued, its next index kept
 pub moves-all : (before : Table) (onward : Onward) (f : ThreadState → ThreadState) (next : ℕ → ℕ) (list : List ℕ) (fuel first : ℕ) (t : Table)

@@ -17,24 +17,13 @@ use Rattle.lock_table.specs.declared.operation.Operation.the-variants.{Idle as 
 use Rattle.lock_table.specs.declared.record.Table.{Table}
 use Rattle.lock_perform.specs.State.{stateOf}
 use Rattle.lock_soundness.specs.Sound.{soundOf}
+use Rattle.lock_table.proofs.Operations.{no-operation}
 use Rattle.lock_engine.specs.Outcome.{refusalNumberOf, returnedOf, refuseOf}
 use Rattle.lock_engine.specs.Begin.{beginOf, beginTrusting, beginRanged, beginOperation, beginObject, beginThread}
 use Rattle.lock_engine.specs.declared.outcome.Refusal.the-variants.{NotSound, NoSuchThread, NoSuchObject, NotIdle, NoSuchOperation}
 use Rattle.record_soundness.proofs.EveryNumber.{idle-phase, phase-idle}
 use Rattle.lock_refusals.specs.Refusals.{first-applies, begin-refusals}
 use Rattle.lock_refusals.proofs.Ended.{EndedSame, refuse-same}
-
--- the operations are 1 to 5
-no-operation : (number : ℕ) → 6 ≤ number → operationFromOf number ≡ NoOperation
-unfolding operationFromOf
-no-operation number high =
-    rw (
-      ne-eqb number 1 (λ is. omega (arith, is, high)),
-      ne-eqb number 2 (λ is. omega (arith, is, high)),
-      ne-eqb number 3 (λ is. omega (arith, is, high)),
-      ne-eqb number 4 (λ is. omega (arith, is, high)),
-      ne-eqb number 5 (λ is. omega (arith, is, high)),
-    )
 
 -- the first of a begin's refusals from 14, 13 and 17 on; `inside` says that the object is in 1..N
 abbrev from-thread : Table → ℕ → ℕ

@@ -3,4 +3,5 @@ pub mod Records
 pub mod Walks
 pub mod FreshObjects
 pub mod Owned
+pub mod Operations
 pub mod Narrowed

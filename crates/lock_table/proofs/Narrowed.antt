@@ -1,6 +1,6 @@
--- A number that is taken as 255 where it is larger gives the same of whatever does not tell 255 and larger numbers apart; a fresh table does not.
+-- A number that is taken as 255 where it is larger gives the same of whatever does not tell 255 and larger numbers apart: a fresh table, a record.
 use Prim.Native.Nat.{ℕ, _<_}
-use mathlib.Core.Path.{_≡_, refl, _∙_}
+use mathlib.Core.Path.{_≡_, refl, sym, _∙_}
 use mathlib.Core.Bool.{Bool, true, false}
 use native.Mathlib.Omega.{arith}
 use lib.Dec.{ltb}
@@ -9,6 +9,9 @@ use Rattle.laws.proofs.Choice.{split}
 use Rattle.lock_table.specs.Limits.{thread-limit, object-limit}
 use Rattle.lock_table.specs.Fresh.{freshOf}
 use Rattle.lock_table.specs.Narrow.{narrowOf}
+use Rattle.lock_table.specs.Access.{threadAt, objectAt}
+use Rattle.lock_table.specs.declared.record.Table.{Table}
+use Rattle.lock_table.proofs.Records.{thread-past, object-beyond}
 
 -- a number stays, or is 255 for a larger one
 pub narrow-small : (n : ℕ) → ltb 255 n ≡ false → narrowOf n ≡ n
@@ -37,3 +40,11 @@ pub narrow-fresh : (threads objects : ℕ) (reserved : Bool) → freshOf (narrow
 narrow-fresh threads objects reserved =
     narrowed (λ n. freshOf n (narrowOf objects) reserved) (threads-past (narrowOf objects) reserved) threads
     ∙ narrowed (λ n. freshOf threads n reserved) (objects-past threads reserved) objects
+
+-- access: past the records there is nobody and nothing
+module _ (table : Table) where
+  pub narrow-thread : (thread : ℕ) → threadAt table (narrowOf thread) ≡ threadAt table thread
+  narrow-thread = narrowed (threadAt table) (λ n past. thread-past table 255 (omega arith) ∙ sym (thread-past table n (omega (arith, past))))
+
+  pub narrow-object : (object : ℕ) → objectAt table (narrowOf object) ≡ objectAt table object
+  narrow-object = narrowed (objectAt table) (λ n past. object-beyond table 255 (omega arith) ∙ sym (object-beyond table n (omega (arith, past))))

@@ -82,6 +82,10 @@ pub thread-past : (t : Table) (n : ℕ) → thread-limit < n → threadAt t n �
 unfolding threadAt
 thread-past t n past = simp (ne-eqb n 0 (λ q. omega (arith, q, past)), lt-ltb thread-limit n past)
 
+pub object-beyond : (t : Table) (o : ℕ) → object-limit < o → objectAt t o ≡ noObject
+unfolding objectAt
+object-beyond t o past = rw (ne-eqb o 0 (λ q. omega (arith, q, past)), lt-ltb object-limit o past)
+
 pub set-thread-out : (t : Table) (n : ℕ) (thread : ThreadRecord) → (n ≡ 0) ⊎ (thread-limit < n) → setThread t n thread ≡ t
 unfolding setThread
 set-thread-out t n thread (inl none) = rw (eq-eqb n 0 none)

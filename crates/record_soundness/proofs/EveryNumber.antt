@@ -23,7 +23,7 @@ use Rattle.lock_table.specs.Access.{threadAt, objectAt, nextOf, phaseAt}
 use Rattle.lock_table.specs.Parked.{chainNamed, threadChain, firstIn, firstAt}
 use Rattle.lock_table.specs.declared.record.ThreadRecord.{ThreadRecord}
 use Rattle.lock_table.specs.declared.record.Table.{Table}
-use Rattle.lock_table.proofs.Records.{thread-none, thread-past}
+use Rattle.lock_table.proofs.Records.{thread-none, thread-past, object-beyond}
 use Rattle.lock_perform.specs.State.{stateOf}
 use Rattle.lock_soundness.specs.Sound.{soundOf}
 use Rattle.lock_soundness.specs.Meaning.{Within, chainAt, Sound}
@@ -48,10 +48,6 @@ thread-read t n = record { object = threadAt t n .object; state = stateOf (threa
 object-none : (t : Table) → objectAt t 0 ≡ noObject
 unfolding objectAt
 object-none t = refl
-
-object-beyond : (t : Table) (o : ℕ) → object-limit < o → objectAt t o ≡ noObject
-unfolding objectAt
-object-beyond t o past = rw (ne-eqb o 0 (λ q. omega (arith, q, past)), lt-ltb object-limit o past)
 
 -- no chain of the empty record has a thread
 no-first : (chain : Chain) → firstIn noMonitor (chain-number chain) ≡ 0

@@ -1,15 +1,13 @@
 -- The code hands a table's numbers on in eight bits, 255 for all larger ones; what a line does and prints does not change by it.
-use Prim.Native.Nat.{ℕ, _<_}
+use Prim.Native.Nat.{ℕ}
 use mathlib.Core.Path.{_≡_, refl, ap, sym, _∙_}
-use native.Mathlib.Omega.{arith}
-use borrow.Author.Tests.{lt-ltb, ne-eqb}
-use Rattle.lock_table.specs.Limits.{thread-limit, object-limit}
-use Rattle.lock_table.specs.Access.{threadAt, objectAt}
+use borrow.Author.Tests.{lt-ltb}
+use Rattle.lock_table.specs.Access.{threadAt}
 use Rattle.lock_table.specs.Narrow.{narrowOf}
 use Rattle.lock_table.specs.declared.record.ThreadRecord.{ThreadRecord}
 use Rattle.lock_table.specs.declared.record.ObjectRecord.{ObjectRecord}
 use Rattle.lock_table.specs.declared.record.Table.{Table}
-use Rattle.lock_table.proofs.Narrowed.{narrowed}
+use Rattle.lock_table.proofs.Narrowed.{narrowed, narrow-thread, narrow-object}
 use Rattle.lock_engine.specs.Outcome.{returnedOf, wokenOf}
 use Rattle.lock_engine.specs.Begin.{beginOf}
 use Rattle.lock_engine.specs.Step.{stepOf}
@@ -23,20 +21,6 @@ unfolding narrowOf
 narrow-twice n = narrowed narrowOf (λ k past. rw (lt-ltb 255 k past) refl) n
 
 module _ (table : Table) where
-  thread-past : (n : ℕ) → 255 < n → threadAt table 255 ≡ threadAt table n
-  unfolding threadAt
-  thread-past n past = rw (ne-eqb n 0 (λ none. omega (arith, none, past)), lt-ltb thread-limit n (omega (arith, past))) refl
-
-  narrow-thread : (thread : ℕ) → threadAt table (narrowOf thread) ≡ threadAt table thread
-  narrow-thread thread = narrowed (threadAt table) thread-past thread
-
-  object-past : (n : ℕ) → 255 < n → objectAt table 255 ≡ objectAt table n
-  unfolding objectAt
-  object-past n past = rw (ne-eqb n 0 (λ none. omega (arith, none, past)), lt-ltb object-limit n (omega (arith, past))) refl
-
-  narrow-object : (object : ℕ) → objectAt table (narrowOf object) ≡ objectAt table object
-  narrow-object object = narrowed (objectAt table) object-past object
-
   begun : (thread operation object : ℕ) → beginOf table (narrowOf thread) operation (narrowOf object) ≡ beginOf table thread operation object
   begun thread operation object =
       sym (narrow-begin table (narrowOf thread) operation (narrowOf object))

@@ -11,7 +11,7 @@ use Rattle.lock_table.specs.Access.{threadAt, objectAt}
 use Rattle.lock_table.specs.Ownership.{ownership-at}
 use Rattle.lock_table.specs.declared.record.Table.{Table}
 use Rattle.lock_table.proofs.Narrowed.{narrowed}
-use Rattle.lock_engine.proofs.Narrow.{both-no}
+use Rattle.laws.proofs.Choice.{both-no}
 use Rattle.lock_engine.specs.declared.outcome.Refusal.{Refusal}
 use Rattle.lock_engine.specs.declared.outcome.Refusal.the-variants.{NoSuchThread, NoSuchObject}
 use Rattle.lock_table.specs.Narrow.{narrowOf}

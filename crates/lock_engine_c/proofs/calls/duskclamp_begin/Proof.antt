@@ -27,8 +27,8 @@ duskclamp-begin-spec =
     let entry = asked .before .before in
     let given = entry .before .args in
     let small : AreBytes (given .bytes .now) = λ i. omega (arith, entry .slice-known .given i) in (
-      simp (gated .begin-gated .ensures .0, third .narrow3 .ensures, second .narrow2 .ensures, first .narrow .ensures, known, narrow-begin),
+      simp (gated .begin-if-table .ensures .0, third .narrow3 .ensures, second .narrow2 .ensures, first .narrow .ensures, known, narrow-begin),
       begin-promised (given .bytes .now) small (given .thread) (given .operation) (given .object) _ _
-          (simp (gated .begin-gated .ensures .0, third .narrow3 .ensures, second .narrow2 .ensures, first .narrow .ensures, known, narrow-begin))
-          (simp (gated .begin-gated .ensures .1, third .narrow3 .ensures, second .narrow2 .ensures, first .narrow .ensures, known, narrow-begin)),
+          (simp (gated .begin-if-table .ensures .0, third .narrow3 .ensures, second .narrow2 .ensures, first .narrow .ensures, known, narrow-begin))
+          (simp (gated .begin-if-table .ensures .1, third .narrow3 .ensures, second .narrow2 .ensures, first .narrow .ensures, known, narrow-begin)),
     )))

@@ -24,6 +24,6 @@ duskclamp-fresh-spec =
     let first = second .before in
     let given = first .before .before .args in
     let new = freshOn (given .threads) (given .objects) (given .reserved) in (
-      simp (gated .fresh-gated .ensures .0, made .fresh .ensures, second .narrow2 .ensures, first .narrow .ensures, narrow-fresh),
-      simp (gated .fresh-gated .ensures .1, made .fresh .ensures, second .narrow2 .ensures, first .narrow .ensures, narrow-fresh) (fresh-written (given .bytes .now) (new .answer) (new .table)),
+      simp (gated .fresh-if-sized .ensures .0, made .fresh .ensures, second .narrow2 .ensures, first .narrow .ensures, narrow-fresh),
+      simp (gated .fresh-if-sized .ensures .1, made .fresh .ensures, second .narrow2 .ensures, first .narrow .ensures, narrow-fresh) (fresh-written (given .bytes .now) (new .answer) (new .table)),
     )))

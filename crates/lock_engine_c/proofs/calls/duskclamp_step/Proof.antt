@@ -23,8 +23,8 @@ duskclamp-step-spec =
     let entry = asked .before .before in
     let given = entry .before .args in
     let small : AreBytes (given .bytes .now) = λ i. omega (arith, entry .slice-known .given i) in (
-      simp (gated .step-gated .ensures .0, number, known, narrow-step),
+      simp (gated .step-if-table .ensures .0, number, known, narrow-step),
       step-promised (given .bytes .now) small (given .thread) _ _
-          (simp (gated .step-gated .ensures .0, number, known, narrow-step))
-          (simp (gated .step-gated .ensures .1, number, known, narrow-step)),
+          (simp (gated .step-if-table .ensures .0, number, known, narrow-step))
+          (simp (gated .step-if-table .ensures .1, number, known, narrow-step)),
     )))

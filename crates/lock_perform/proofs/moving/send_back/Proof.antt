@@ -1,4 +1,5 @@
--- `lock_perform::moving::send_back` meets its contract: each way through the code is that of the definition.
+-- `lock_perform::moving::send_back` meets its contract: the thread that the code reaches by its narrow number is the one that is named.
+use Rattle.lock_perform.proofs.SentBack.{narrow-send}
 use Rattle.lock_perform.proofs.moving.send_back.Statement.{statement}
 use Rattle.lock_perform.proofs.moving.send_back.Tie as tie
 
@@ -9,4 +10,8 @@ send-back-spec =
     (λ c κs. tt)
     (λ c κs. tt)
     (λ c κs. tt)
-    (λ c. simp (c .set-thread .ensures, c .before .sent-back .ensures, c .before .before .thread-at .ensures)))
+    (λ c κs. tt)
+    (λ c.
+    let given = c .before .before .before .before .before .before .args in
+    simp (c .set-thread .ensures, c .before .sent-back .ensures, c .before .before .thread-at .ensures, c .before .before .before .narrow .ensures)
+    (narrow-send (given .moved) (given .object) (given .number))))

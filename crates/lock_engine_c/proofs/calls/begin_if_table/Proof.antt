@@ -1,10 +1,10 @@
--- `lock_engine_c::calls::begin_gated` meets its contract: on a table, the engine's begin on what the bytes say.
+-- `lock_engine_c::calls::begin_if_table` meets its contract: on a table, the engine's begin on what the bytes say.
 use borrow.Author.Needs.{needs}
-use Rattle.lock_engine_c.proofs.calls.begin_gated.Statement.{statement}
-use Rattle.lock_engine_c.proofs.calls.begin_gated.Tie as tie
+use Rattle.lock_engine_c.proofs.calls.begin_if_table.Statement.{statement}
+use Rattle.lock_engine_c.proofs.calls.begin_if_table.Tie as tie
 
-pub begin-gated-spec : {M : Type 1} → statement M
-begin-gated-spec =
+pub begin-if-table-spec : {M : Type 1} → statement M
+begin-if-table-spec =
     tie.close
     (tie.spec
     (λ c κs. tt)

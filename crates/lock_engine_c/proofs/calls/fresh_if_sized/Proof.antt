@@ -1,10 +1,10 @@
--- `lock_engine_c::calls::fresh_gated` meets its contract: with the right number of bytes the table is kept.
+-- `lock_engine_c::calls::fresh_if_sized` meets its contract: with the right number of bytes the table is kept.
 use borrow.Author.Needs.{needs}
-use Rattle.lock_engine_c.proofs.calls.fresh_gated.Statement.{statement}
-use Rattle.lock_engine_c.proofs.calls.fresh_gated.Tie as tie
+use Rattle.lock_engine_c.proofs.calls.fresh_if_sized.Statement.{statement}
+use Rattle.lock_engine_c.proofs.calls.fresh_if_sized.Tie as tie
 
-pub fresh-gated-spec : {M : Type 1} → statement M
-fresh-gated-spec =
+pub fresh-if-sized-spec : {M : Type 1} → statement M
+fresh-if-sized-spec =
     tie.close
     (tie.spec
     (λ c κs. tt)

@@ -1,10 +1,10 @@
--- `lock_engine_c::calls::step_gated` meets its contract: on a table, the engine's step on what the bytes say.
+-- `lock_engine_c::calls::step_if_table` meets its contract: on a table, the engine's step on what the bytes say.
 use borrow.Author.Needs.{needs}
-use Rattle.lock_engine_c.proofs.calls.step_gated.Statement.{statement}
-use Rattle.lock_engine_c.proofs.calls.step_gated.Tie as tie
+use Rattle.lock_engine_c.proofs.calls.step_if_table.Statement.{statement}
+use Rattle.lock_engine_c.proofs.calls.step_if_table.Tie as tie
 
-pub step-gated-spec : {M : Type 1} → statement M
-step-gated-spec =
+pub step-if-table-spec : {M : Type 1} → statement M
+step-if-table-spec =
     tie.close
     (tie.spec
     (λ c κs. tt)
