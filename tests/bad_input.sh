@@ -72,7 +72,7 @@ check 'no standard output' "$(cat "$work/ending") $(wc -l <"$work/said")" '5 1'
 found=$("$program" <. 3>"$work/ending" 2>"$work/said")
 check 'a folder as input' "$found$(cat "$work/ending") $(wc -l <"$work/said")" '4 1'
 found=$("$(dirname "$0")"/pipes.py "$program" | tr '\n' ';')
-check 'a bad header on an open pipe; a pipe with nothing in it yet; a slow reader' "$found" '21 3;4;a start 5;'
+check 'a bad header on an open pipe; a pipe with nothing in it yet; an input in pieces; a slow reader' "$found" '21 3;4;all 0;a start 5;'
 
 # A reader that goes away ends the run.
 { printf 'L 1 1 0\n'; yes 'E 1 1' | head -n 3000000; } >"$work/long"

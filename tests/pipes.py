@@ -68,6 +68,19 @@ def no_input_yet(program):
     return f'{child.stdout.read().decode()}{result}'
 
 
+def in_pieces(program):
+    """An input that comes in pieces, cut inside a line and at its end: what has not come yet is not the end of the input."""
+    child, told = start(program, subprocess.PIPE, subprocess.PIPE)
+    for piece in (b'L 1 1', b' 0\nE 1 1\n', b'S 1\nX', b' 1 1\nS 1\n'):
+        child.stdin.write(piece)
+        child.stdin.flush()
+        time.sleep(0.2)
+    child.stdin.close()
+    result = ending(child, told)
+    answers = b'0 1 0 000000\n1 0 0 000100\n0 1 0 000100\n0 9 0 000000\n'
+    return f'{"all" if child.stdout.read() == answers else "other answers"} {result}'
+
+
 def slow_reader(program):
     """A non-blocking output that fills up, and is read while the input goes on: a start of the answers is written, and the run has failed."""
     answers = b'0 1 0 000000\n' + b'14\n' * (2 * EVENTS - 1)
@@ -100,7 +113,7 @@ def slow_reader(program):
 
 def main():
     keep_ending_taken()
-    for case in (bad_header_then_silence, no_input_yet, slow_reader):
+    for case in (bad_header_then_silence, no_input_yet, in_pieces, slow_reader):
         print(case(sys.argv[1]), flush=True)
 
 

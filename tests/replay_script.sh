@@ -33,6 +33,14 @@ check 'a folder' "$(outcome "$script" "$here")" ' 4'
 check 'a full device' "$?" 5
 "$script" "$listing" >&- 2>/dev/null
 check 'no standard output' "$?" 5
+check 'no standard input' "$(outcome "$script" <&-)" ' 4'
+mkfifo "$work/open"
+exec 7<>"$work/open"
+"$script" <"$work/open" >"$work/output" 2>&1 &
+sleep 0.5
+kill "$!"
+wait "$!"
+check 'ended by a signal to it alone' "$?" 143
 check 'no such file' "$(outcome "$script" "$work/none")" ' 2'
 check 'an option that there is not' "$(outcome "$script" --fast)" ' 2'
 check 'two files' "$(outcome "$script" "$listing" "$listing")" ' 2'
@@ -51,6 +59,7 @@ cat >"$work/bin/rt" <<'EOF'
 #!/bin/sh
 case $1 in version) echo a kit; exit ;; esac
 echo "rt: $*" >>../asked
+[ ! -e ../slow ] || sleep 1
 [ ! -e ../fails ] || { echo 'rt: replay NOT PROVED'; exit 1; }
 mkdir -p target/log
 echo 'rt: replay proved (1 s)' >target/log/replay.out
@@ -69,9 +78,16 @@ sleep 0.1
 echo more >"$work/copy/crates/replay/src/more.rt" && rm "$work/copy/crates/replay/src/more.rt"
 check 'built again after a file is gone' "$(outcome "$work/copy/replay" "$listing") $(asked)" ' 0 3'
 sleep 0.1
+touch "$work/copy/crates.txt" "$work/slow"
+"$work/copy/replay" "$listing" 2>/dev/null &
+check 'two calls at once build once' "$(outcome "$work/copy/replay" "$listing") $(asked)" ' 0 4'
+wait "$!"
+check 'and both are answered' "$?" 0
+rm "$work/slow"
+sleep 0.1
 touch "$work/copy/crates.txt" "$work/fails"
-check 'a build that fails' "$(outcome "$work/copy/replay" "$listing") $(asked)" ' 1 4'
-check 'and is tried again' "$(outcome "$work/copy/replay" "$listing") $(asked)" ' 1 5'
+check 'a build that fails' "$(outcome "$work/copy/replay" "$listing") $(asked)" ' 1 5'
+check 'and is tried again' "$(outcome "$work/copy/replay" "$listing") $(asked)" ' 1 6'
 PATH=$(echo "$PATH" | tr ':' '\n' | while IFS= read -r place; do [ -x "$place/rt" ] || printf '%s:' "$place"; done)
 check 'no kit' "$(outcome "$work/copy/replay" "$listing") $(grep -c 'the Rattle kit (rattle-kit-' "$work/said")" ' 1 1'
 

@@ -8,6 +8,7 @@ ghost use Rattle.replay_lines.specs.Cutting.{line-limit};
 ghost use Rattle.replay_text.specs.Text.{line-room};
 ghost use Rattle.replay_parts.specs.Part.{end-room};
 ghost use Rattle.replay.specs.Run.{Drains, Takes, ReadBehind, Runs, endingByteOf};
+use libc::STDERR_FILENO;
 use libc::STDIN_FILENO;
 use libc::STDOUT_FILENO;
 use replay_session::session_over;
@@ -71,16 +72,17 @@ fn write_once(bytes: &[u8]) -> Moved
             failed: false,
         };
     }
-    if count == 0 {
+    if got < 0 {
         os::fail(b"replay: standard output");
-        return Moved {
-            count: count,
-            failed: true,
-        };
+    } else if count == 0 {
+        io::write_all(
+            STDERR_FILENO,
+            b"replay: standard output: nothing was written\n",
+        );
     }
     Moved {
         count: count,
-        failed: false,
+        failed: count == 0,
     }
 }
 
@@ -269,10 +271,17 @@ fn ending_byte(ending: Ending) -> u8
     }
 }
 
-// Tells how the run ended. Where descriptor 3 is not open nobody asks, and the write fails.
+// Tells how the run ended; tried again where it was interrupted. Where descriptor 3 is not open nobody asks, and the write fails.
 fn tell(ending: Ending) {
     let told = [ending_byte(ending)];
-    libc::write(ENDING_FILENO, &told);
+    let mut turns = u64::MAX;
+    while 0 < turns {
+        turns = turns - 1;
+        let got = libc::write(ENDING_FILENO, &told);
+        if !interrupted(got) {
+            return;
+        }
+    }
 }
 
 fn main() {

@@ -28,21 +28,21 @@ fn write_phase(table: Table, thread: u8) {
     write_number(lock_table::phase_number(phase) as u64);
 }
 
-// 0, the phases of threads 1 and 2, and the words of objects 1 and 2; or 22.
+// The number returned; then, of a table that was made, the phases of threads 1 and 2, and the words of objects 1 and 2.
 fn report_run(name: &[u8], result: RunResult) {
     io::write_all(STDOUT_FILENO, name);
     io::write_all(STDOUT_FILENO, b":");
     let table = result.table;
     let answer = result.answer;
+    write_number(lock_table::fresh_returned(answer) as u64);
     match answer {
         FreshAnswer::Made => {
-            write_number(0);
             write_phase(table, 1);
             write_phase(table, 2);
             write_word(lock_table::object_at(table, 1).word);
             write_word(lock_table::object_at(table, 2).word);
         }
-        FreshAnswer::SizeOutOfRange => write_number(22),
+        FreshAnswer::SizeOutOfRange => {}
     }
     io::write_all(STDOUT_FILENO, b"\n");
 }
