@@ -17,7 +17,7 @@ static void run(uint32_t thread, uint32_t operation, uint32_t object) {
         answer = duskclamp_step(table, sizeof table, thread);
         steps++;
     }
-    printf("thread %" PRIu32 " %s %" PRIu32 ": %s after %" PRIu32 " steps\n", thread, duskclamp_operation_name(operation), object,
+    printf("thread %" PRIu32 " %s %" PRIu32 ": %s, steps: %" PRIu32 "\n", thread, duskclamp_operation_name(operation), object,
            duskclamp_returned_name(DUSKCLAMP_RETURNED(answer)), steps);
 }
 
