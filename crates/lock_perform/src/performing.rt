@@ -11,6 +11,7 @@ use lock_table::Table;
 use lock_table::set_object;
 use lock_table::set_thread;
 use lock_table::thread_at;
+use lock_word::Depth;
 ghost use mathlib.Core.Path.{_≡_};
 ghost use Rattle.lock_perform.specs.Perform.{wordAfter, begunMonitor, writeBack, performOf};
 
@@ -28,7 +29,7 @@ fn word_after(thread: u8, object: u8, word: u32, change: WordChange) -> u32
 }
 
 // The monitor that the chain action begins with.
-fn begun_monitor(monitor: Monitor, holder: u8, depth: u16) -> Monitor
+fn begun_monitor(monitor: Monitor, holder: u8, depth: Depth) -> Monitor
     ensures { λ r. ⌜ r ≡ begunMonitor monitor holder depth ⌝ }
 {
     monitor.held_by(holder).with_depth(depth)

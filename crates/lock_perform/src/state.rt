@@ -7,6 +7,7 @@ use lock_table::Onward;
 use lock_table::Operation;
 use lock_table::Phase;
 use lock_table::ThreadRecord;
+use lock_word::Depth;
 ghost use mathlib.Core.Path.{_≡_};
 ghost use Rattle.lock_perform.specs.State.{lookOf, storeOf, cancelOf, goInOf, carriedOf, stateBy, stateOf, threadWith, doingRecordOf, carriedRecordOf, recordOf};
 
@@ -118,7 +119,7 @@ fn with_fields(
     object: u8,
     phase: Phase,
     kept: u32,
-    saved: u16,
+    saved: Depth,
     next: u8,
 ) -> ThreadRecord
     ensures { λ r. ⌜ r ≡ threadWith operation object phase kept saved next ⌝ }

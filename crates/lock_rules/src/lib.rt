@@ -1,13 +1,11 @@
 // What a thread is doing, what it sees of its object, and what a step decides: document 01, "The table" and "Steps".
 // Nothing here knows of tables or of the links of a chain.
+use lock_word::Depth;
 use lock_word::WordSeen;
-
-// The greatest depth of a monitor: an enter at it is 19.
-pub const DEPTH_LIMIT: u16 = 65535;
 
 // What a wait keeps from giving the monitor up until it resumes.
 pub struct Suspension {
-    pub depth: u16, // saved depth
+    pub depth: Depth, // saved depth
 }
 
 // What a queued thread goes on with when the monitor is handed to it.
@@ -66,7 +64,7 @@ pub struct Sight {
     pub word: WordSeen,
     pub flag: bool, // contention flag
     pub holder: u8, // the monitor's holder, 0 for none
-    pub depth: u16, // the monitor's depth
+    pub depth: Depth, // the monitor's depth
     pub entryempty: bool, // nobody is in the entry chain
     pub contentionempty: bool, // nobody is in the contention chain
     pub waiters: u8, // how many are in the waiting chain
@@ -104,7 +102,7 @@ pub struct Effect {
     pub word: WordChange,
     pub flag: bool,
     pub holder: u8,
-    pub depth: u16,
+    pub depth: Depth,
     pub answer: Answer,
     pub commits: bool,
 }

@@ -1,13 +1,13 @@
 // What soundness asks of one thread's record. `phase` and `carried` are document 01's numbers of the thread's phase and of the one it carries.
 use crate::choice::implies;
 use crate::choice::within;
-use lock_rules::DEPTH_LIMIT;
 use lock_table::Operation;
 use lock_table::ThreadRecord;
 use lock_table::carried_number;
 use lock_table::operation_number;
 use lock_table::phase_number;
 use lock_word::COUNT_LIMIT;
+use lock_word::DEPTH_LIMIT;
 use lock_word::Decoded;
 use lock_word::LockWord;
 ghost use mathlib.Core.Path.{_≡_};

@@ -1,6 +1,7 @@
 // What is done to a monitor: going in, handing it on, joining and moving chains. Each method takes the monitor and gives it back altered.
 // A chain's other threads are reached through the table (chain.rt); a method is told the next index that it needs.
 use crate::record::Monitor;
+use lock_word::Depth;
 ghost use mathlib.Core.Path.{_≡_};
 ghost use Rattle.chains.specs.Chain.{first-with};
 ghost use Rattle.lock_table.specs.Monitor.{heldBy, withDepth, handOf, joinEntry, joinContention, joinWaiting, admitContenders, tellFirst, wakeFirst, wakeAll};
@@ -29,7 +30,7 @@ impl Monitor {
         self
     }
 
-    pub fn with_depth(mut self, depth: u16) -> Monitor
+    pub fn with_depth(mut self, depth: Depth) -> Monitor
         ensures { λ r. ⌜ r ≡ withDepth self depth ⌝ }
     {
         self.depth = depth;

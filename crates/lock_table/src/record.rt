@@ -1,6 +1,7 @@
 // The records of a table, and each record with one field changed. Fields lie widest first, as the compiler keeps their order.
 use crate::operation::Operation;
 use crate::phase::Phase;
+use lock_word::Depth;
 ghost use mathlib.Core.Path.{_≡_};
 ghost use Rattle.lock_table.specs.Record.{noThread, noMonitor, noObject, withPhase, withNext, withWord, withFlag, withMonitor};
 
@@ -13,7 +14,7 @@ pub struct ThreadRecord {
     // the reserved word read in phase 1 and about to be stored in phase 2
     pub kept: u32,
     // the depth that a wait gave up
-    pub saved: u16,
+    pub saved: Depth,
     pub object: u8,
     pub next: u8,
     pub operation: Operation,
@@ -21,7 +22,7 @@ pub struct ThreadRecord {
 }
 
 pub struct Monitor {
-    pub depth: u16,
+    pub depth: Depth,
     pub holder: u8,
     // the first thread of each chain, 0 if there is none
     pub entry: u8,

@@ -1,4 +1,5 @@
 -- What lock words are, in document 01's words.
+pub mod Depth
 pub mod Layout
 pub mod Read
 pub mod Write

@@ -7,12 +7,15 @@
 //
 //  s shape: 0 flat or reserved, 1 fat.   r reserved.   count: six bits.   number: a thread, or of a fat word its object.
 //  flat, number 0, count 0: free.   reserved, number 0, count 0: anonymous.   Number 0 with a count is no lock word.
+mod depth;
 mod kinds;
 mod layout;
 mod meaning;
 mod reading;
 mod writing;
 
+pub use depth::DEPTH_LIMIT;
+pub use depth::Depth;
 pub use layout::COUNT_LIMIT;
 pub use meaning::Ownership;
 pub use meaning::WordSeen;

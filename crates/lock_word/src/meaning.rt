@@ -1,4 +1,5 @@
 // What a word says to the rules, who owns an object by it, and what cancelling its reservation makes of it.
+use crate::depth::Depth;
 use crate::reading::Decoded;
 use crate::reading::LockWord;
 use crate::reading::read_word;
@@ -21,7 +22,7 @@ pub enum WordSeen {
 // The thread that owns an object, and its depth; 0 and 0 where nobody does.
 pub struct Ownership {
     pub thread: u16,
-    pub depth: u16,
+    pub depth: Depth,
 }
 
 pub fn seen_word(word: LockWord) -> WordSeen
@@ -53,7 +54,7 @@ pub fn kept_count(decoded: Decoded) -> u8
 }
 
 // The owner by the word, and of a fat word by its monitor's holder and depth; 0 for nobody.
-pub fn owner_of(word: WordSeen, holder: u8, depth: u16) -> u16
+pub fn owner_of(word: WordSeen, holder: u8, depth: Depth) -> u16
     ensures { λ r. ⌜ r ≡ owner-of word holder depth ⌝ }
 {
     match word {
@@ -75,19 +76,19 @@ pub fn owner_of(word: WordSeen, holder: u8, depth: u16) -> u16
     }
 }
 
-fn depth_of(word: WordSeen, depth: u16) -> u16
+fn depth_of(word: WordSeen, depth: Depth) -> Depth
     ensures { λ r. ⌜ r ≡ depth-of word depth ⌝ }
 {
     match word {
         WordSeen::Free => 0,
         WordSeen::Anonymous => 0,
         WordSeen::Fat => depth,
-        WordSeen::Flat(_, count) => (count as u16) + 1,
-        WordSeen::Reserved(_, count) => count as u16,
+        WordSeen::Flat(_, count) => (count as Depth) + 1,
+        WordSeen::Reserved(_, count) => count as Depth,
     }
 }
 
-fn owned_by(owner: u16, depth: u16) -> Ownership
+fn owned_by(owner: u16, depth: Depth) -> Ownership
     ensures { λ r. ⌜ r ≡ ownedBy owner depth ⌝ }
 {
     if owner == 0 {
@@ -103,7 +104,7 @@ fn owned_by(owner: u16, depth: u16) -> Ownership
 }
 
 // Who owns the object, and how deep. Holder and depth are the monitor's.
-pub fn ownership_of(word: WordSeen, holder: u8, depth: u16) -> Ownership
+pub fn ownership_of(word: WordSeen, holder: u8, depth: Depth) -> Ownership
     ensures { λ r. ⌜ r ≡ ownershipOf word holder depth ⌝ }
 {
     owned_by(owner_of(word, holder, depth), depth_of(word, depth))

@@ -3,11 +3,12 @@ use lock_rules::Action;
 use lock_rules::Answer;
 use lock_rules::Carried;
 use lock_rules::ChainAction;
-use lock_rules::DEPTH_LIMIT;
 use lock_rules::Doing;
 use lock_rules::Sight;
 use lock_rules::Suspension;
 use lock_rules::ThreadState;
+use lock_word::DEPTH_LIMIT;
+use lock_word::Depth;
 use lock_word::WordSeen;
 use rule_actions::become_holder;
 use rule_actions::finish_depth;
@@ -101,7 +102,7 @@ pub fn enter_check(thread: u8, sight: Sight, word: WordSeen) -> Action
             if owner == (thread as u16) {
                 return inflate(
                     sight,
-                    (count as u16) + 2,
+                    (count as Depth) + 2,
                     ThreadState::Idle,
                     Answer::Finished(0),
                     true,
@@ -200,7 +201,7 @@ pub fn wait_inflate(thread: u8, sight: Sight, word: WordSeen) -> Action
             if owner == (thread as u16) {
                 return inflate(
                     sight,
-                    (count as u16) + 1,
+                    (count as Depth) + 1,
                     ThreadState::Running(Doing::WaitGiveUp),
                     Answer::GoneOn,
                     false,

@@ -7,6 +7,7 @@ use lock_rules::Effect;
 use lock_rules::Sight;
 use lock_rules::ThreadState;
 use lock_rules::WordChange;
+use lock_word::Depth;
 ghost use mathlib.Core.Path.{_≡_};
 ghost use Rattle.lock_rules.specs.Actions.{keep-object, go-on, not-owner, finish, finish-word, finish-depth, let-go, inflate, cancel-word, become-holder, raise-flag};
 
@@ -83,7 +84,7 @@ pub fn finish_word(sight: Sight, word: WordChange) -> Action
     })
 }
 
-pub fn finish_depth(sight: Sight, depth: u16) -> Action
+pub fn finish_depth(sight: Sight, depth: Depth) -> Action
     ensures { λ r. ⌜ r ≡ finish-depth sight depth ⌝ }
 {
     Action::Do(Effect {
@@ -98,7 +99,7 @@ pub fn finish_depth(sight: Sight, depth: u16) -> Action
     })
 }
 
-pub fn let_go(sight: Sight, word: WordChange, depth: u16, doing: Doing) -> Action
+pub fn let_go(sight: Sight, word: WordChange, depth: Depth, doing: Doing) -> Action
     ensures { λ r. ⌜ r ≡ let-go sight word depth doing ⌝ }
 {
     Action::Do(Effect {
@@ -116,7 +117,7 @@ pub fn let_go(sight: Sight, word: WordChange, depth: u16, doing: Doing) -> Actio
 // Word fat, flag down, all contenders to the entry chain.
 pub fn inflate(
     sight: Sight,
-    depth: u16,
+    depth: Depth,
     state: ThreadState,
     answer: Answer,
     commits: bool,
