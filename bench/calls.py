@@ -1,51 +1,62 @@
 #!/usr/bin/env python3
-"""Times a call of the library for C: nanoseconds and, where valgrind is there, instructions, by the difference of two numbers of turns.
+"""Times the calls of the library for C: a begin, a step and a refused event on three tables, and several events in one call.
 
-    bench/calls.py
+    bench/calls.py [LIBRARY]
 
-Needs gcc and target/staticlib/liblock_engine_c.a (rt staticlib lock_engine_c). The least user time of seven runs is taken.
+LIBRARY is target/staticlib/liblock_engine_c.a unless named; `rt staticlib lock_engine_c` makes it. bench/calls.c makes the calls, each on the same
+bytes; the copying that this takes is measured alone and taken off. The rows of `duskclamp_run` are there where the header declares it. common.py
+says how time and instructions are taken.
 """
 import pathlib
-import re
-import resource
-import shutil
 import subprocess
 import sys
 import tempfile
 
-ROOT = pathlib.Path(__file__).resolve().parent.parent
-LIBRARY = ROOT / 'target' / 'staticlib' / 'liblock_engine_c.a'
-CASES = {'typical (8 threads, 16 objects, 3 objects contended by 7 threads)': ['8', '16', '3'],
-         'full    (32 threads, 64 objects, one contended by 31 threads)': ['32', '64', '1'],
-         'small   (1 thread, 1 object)': ['1', '1', '1']}
-CALLS_OF_TURN, RUNS = 5, 7
+from common import ROOT, built, instructions_each, least_times, print_table, shown
+
+TABLES = {'typical': 'typical (8 threads, 7 of them at 3 of 16 objects)', 'idle': 'idle (32 threads, 64 objects)',
+          'worst': 'worst (31 threads queued on one of 64 objects, all in use)'}
+CALLS = {'begin': 'begin', 'step': 'step', 'refused': 'refused step'}
+EVENTS_OF_CALL = [1, 8, 64]
+TIMED, COUNTED = (1_000, 101_000), (100, 300)
 
 
-def user_time(program, case, turns):
-    before = resource.getrusage(resource.RUSAGE_CHILDREN).ru_utime
-    subprocess.run([program, *case, str(turns)], check=True)
-    return resource.getrusage(resource.RUSAGE_CHILDREN).ru_utime - before
+def compiled(folder, library):
+    program = f'{folder}/calls'
+    runs = ['-DHAS_RUN'] if 'duskclamp_run(' in (ROOT / 'include' / 'duskclamp.h').read_text(encoding='utf-8') else []
+    subprocess.run(['gcc', '-O2', *runs, '-I', ROOT / 'include', ROOT / 'bench' / 'calls.c', library, '-o', program], check=True)
+    return program, bool(runs)
 
 
-def instructions(program, case, turns):
-    run = subprocess.run(['valgrind', '--tool=callgrind', '--callgrind-out-file=/dev/null', program, *case, str(turns)], capture_output=True, text=True, check=True)
-    return int(re.search(r'refs:\s+([\d,]+)', run.stderr).group(1).replace(',', ''))
+def costs(program, table, cases):
+    """Seconds and instructions of one call for each (call, events) of the cases, with what the copying costs taken off."""
+    def jobs(repeats):
+        return [([program, table, call, str(events), str(repeats)],) for call, events in [('none', 1), *cases]]
 
-
-def by_call(measure, few, many):
-    return (measure(many) - measure(few)) / ((many - few) * CALLS_OF_TURN)
+    few, many = (least_times(jobs(repeats)) for repeats in TIMED)
+    times = [(more - less) / (TIMED[1] - TIMED[0]) for less, more in zip(few, many)]
+    counts = [instructions_each(less, more, COUNTED[1] - COUNTED[0]) for less, more in zip(jobs(COUNTED[0]), jobs(COUNTED[1]))]
+    return [(time - times[0], None if count is None else count - counts[0]) for time, count in zip(times[1:], counts[1:])]
 
 
 def main():
-    if not shutil.which('gcc') or not LIBRARY.exists():
-        sys.exit('calls: needs gcc, and the library: rt staticlib lock_engine_c')
+    if len(sys.argv) > 2:
+        sys.exit('usage: bench/calls.py [LIBRARY]')
+    library = built(sys.argv[1] if len(sys.argv) > 1 else ROOT / 'target' / 'staticlib' / 'liblock_engine_c.a', 'rt staticlib lock_engine_c')
     with tempfile.TemporaryDirectory() as folder:
-        program = f'{folder}/calls'
-        subprocess.run(['gcc', '-O2', '-I', ROOT / 'include', ROOT / 'bench' / 'calls.c', LIBRARY, '-o', program], check=True)
-        for name, case in CASES.items():
-            time = by_call(lambda turns: min(user_time(program, case, turns) for _ in range(RUNS)), 1000, 21000)
-            counted = f', {by_call(lambda turns: instructions(program, case, turns), 100, 300):,.0f} instructions' if shutil.which('valgrind') else ''
-            print(f'{name}: {time * 1e9:,.0f} ns a call{counted}')
+        program, runs = compiled(folder, pathlib.Path(library))
+        calls, several = [], []
+        for table, name in TABLES.items():
+            for call, (time, count) in zip(CALLS.values(), costs(program, table, [(call, 1) for call in CALLS])):
+                calls.append([name, call, shown(time * 1e9, ' ns'), shown(count)])
+        if runs:
+            for events, (time, count) in zip(EVENTS_OF_CALL, costs(program, 'typical', [('run', events) for events in EVENTS_OF_CALL])):
+                several.append([str(events), *(shown(time / part * 1e9, ' ns') for part in (1, events)),
+                                *(shown(count and count / part) for part in (1, events))])
+    print_table(['Table', 'Call', 'Time', 'Instructions'], calls)
+    if several:
+        print()
+        print_table(['Events in one call', 'Time', 'for each', 'Instructions', 'for each'], several)
 
 
 if __name__ == '__main__':

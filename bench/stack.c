@@ -25,6 +25,13 @@ static void call_fresh(void) { answer = duskclamp_fresh(table, sizeof table, siz
 static void call_begin(void) { answer = duskclamp_begin(table, sizeof table, thread, operation, object); }
 static void call_step(void) { answer = duskclamp_step(table, sizeof table, thread); }
 
+/* The same begin and step in one call. */
+static void call_run(void) {
+    uint64_t answers[2];
+    duskclamp_event events[2] = {{DUSKCLAMP_KIND_BEGIN, (uint8_t)thread, (uint8_t)operation, (uint8_t)object, 0}, {DUSKCLAMP_KIND_STEP, (uint8_t)thread, 0, 0, 0}};
+    answer = duskclamp_run(table, sizeof table, (const uint8_t *)events, sizeof events, answers, 2);
+}
+
 static void call_questions(void) {
     answer = duskclamp_thread_count(table, sizeof table);
     answer = duskclamp_phase(table, sizeof table, thread);
@@ -62,7 +69,7 @@ static void keep(size_t *most, size_t found) {
 }
 
 int main(void) {
-    size_t fresh = 0, begin = 0, step = 0, questions = 0, nothing = used(call_nothing);
+    size_t fresh = 0, begin = 0, step = 0, run = 0, questions = 0, nothing = used(call_nothing);
     for (int round = 0; round < 8; round++) {
         sizes = 32;
         kind = round % 2;
@@ -71,12 +78,17 @@ int main(void) {
             thread = draw(32) + 1;
             operation = draw(5) + 1;
             object = draw(4) + 1;
-            keep(&begin, used(call_begin));
-            keep(&step, used(call_step));
+            if (event % 2 == 0) {
+                keep(&begin, used(call_begin));
+                keep(&step, used(call_step));
+            } else {
+                keep(&run, used(call_run));
+            }
             if (event % 16 == 0)
                 keep(&questions, used(call_questions));
         }
     }
-    printf("fresh %zu, begin %zu, step %zu, questions %zu bytes\n", fresh - nothing, begin - nothing, step - nothing, questions - nothing);
+    printf("fresh %zu, begin %zu, step %zu, run %zu, questions %zu bytes\n", fresh - nothing, begin - nothing, step - nothing, run - nothing,
+           questions - nothing);
     return 0;
 }

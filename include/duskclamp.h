@@ -7,9 +7,10 @@
  * A table is DUSKCLAMP_TABLE_SIZE bytes, which the caller owns, keeps and may copy. No call keeps a pointer, allocates, or blocks. Two calls on
  * one table at the same time are a data race, as on any other memory: the caller sees to it that there is one at a time.
  *
- * `bytes` must point to `length` bytes that may be read and, in duskclamp_fresh, duskclamp_begin and duskclamp_step, written. That is all that is
- * asked of a caller: any bytes and any numbers are answered. A refused event stores nothing, save that 18 and 19 write the table back with the
- * thread idle. What each call answers, and which bytes it leaves, is proved of the library; this declaration of it is not checked against its source.
+ * `bytes` must point to `length` bytes that may be read and, in duskclamp_fresh, duskclamp_begin, duskclamp_step and duskclamp_run, written. That is
+ * all that is asked of a caller, with the events and the room for answers of duskclamp_run: any bytes and any numbers are answered. A refused event
+ * stores nothing in the table, save that 18 and 19 write it back with the thread idle. What each call answers, and which bytes it leaves, is proved of
+ * the library; this declaration of it is not checked against its source.
  *
  * What bytes are no table, and are answered 11 by every call that takes a table:
  *  - any number of bytes but DUSKCLAMP_TABLE_SIZE;
@@ -21,8 +22,8 @@
  *     DUSKCLAMP_RETURNED(answer) == DUSKCLAMP_FINISHED
  * and never `answer == DUSKCLAMP_FINISHED`.
  *
- * Stack: a step needs 9.6 KB, a begin 8.3 KB, a fresh table 5.2 KB and a question 4.9 KB, beside what memcpy and memset need. bench/stack.c measures it
- * on a stack filled with a pattern; the frames of the machine code add up to the same along the deepest calls, and no function calls itself.
+ * Stack: a begin, a step and a run need up to 9.6 KB, a fresh table 5.5 KB and a question 6.0 KB, beside what memcpy and memset need. The frames of the
+ * machine code add up to that along the deepest calls, and no function calls itself; bench/stack.c, on a stack filled with a pattern, measures no more.
  */
 #ifndef DUSKCLAMP_H
 #define DUSKCLAMP_H
@@ -36,7 +37,7 @@ extern "C" {
 
 /* The version of the library that this header declares; duskclamp_version gives that of the library which is linked. */
 #define DUSKCLAMP_VERSION_MAJOR 0
-#define DUSKCLAMP_VERSION_MINOR 2
+#define DUSKCLAMP_VERSION_MINOR 3
 #define DUSKCLAMP_VERSION_PATCH 0
 #define DUSKCLAMP_VERSION ((DUSKCLAMP_VERSION_MAJOR << 16) | (DUSKCLAMP_VERSION_MINOR << 8) | DUSKCLAMP_VERSION_PATCH)
 
@@ -114,6 +115,30 @@ uint32_t duskclamp_begin(uint8_t *bytes, size_t length, uint32_t thread, uint32_
 
 /* The thread takes one step of its operation. Returned: 0, 1, 2, or the first of 11, 12, 15, 16, 18, 19, 20 that applies. */
 uint32_t duskclamp_step(uint8_t *bytes, size_t length, uint32_t thread);
+
+/* An event of duskclamp_run, eight bytes. The limit is reserved and 0: no event reads it yet. */
+typedef struct duskclamp_event {
+    uint8_t kind;
+    uint8_t thread;
+    uint8_t operation; /* of a begin; a step reads neither this nor the object */
+    uint8_t object;
+    uint32_t limit;
+} duskclamp_event;
+
+/* The kinds. Any other is the begin of no operation: 17, unless 11 or 12 applies. */
+#define DUSKCLAMP_KIND_BEGIN 0
+#define DUSKCLAMP_KIND_STEP 1
+
+/* How many bytes an event has. */
+#define DUSKCLAMP_EVENT_SIZE 8
+
+/* Runs the events one behind the other on the table, as calls of duskclamp_begin and duskclamp_step would, and writes the answer of each: what such a
+ * call answers in bits 0 to 31, and 0 in bits 32 to 63. `events` points to `events_length` bytes, DUSKCLAMP_EVENT_SIZE for each event, and `answers`
+ * has room for `answers_length` answers; neither overlaps the table or the other. As many events are run as there are whole ones and as there is room
+ * for, and that number is given back; no other answer is written. A refused event does not end the run.
+ * The table is read, tested for soundness and written back once, not for each event: a sound table stays sound, and one that is not stays as it is. If
+ * no event changes it, nothing is stored in it. */
+size_t duskclamp_run(uint8_t *bytes, size_t length, const uint8_t *events, size_t events_length, uint64_t *answers, size_t answers_length);
 
 /* Questions. Of bytes that are no table 11; then 12 or 13 if there is no such thread or object. They are answered of a table that is not sound
  * too, by what its records say, so a number there need not be that of a thread: a loop along a chain of such a table counts its turns. */

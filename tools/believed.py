@@ -16,7 +16,7 @@ ROOT = pathlib.Path(__file__).resolve().parent.parent
 DOCUMENT = ROOT / 'docs' / 'ARCHITECTURE.md'
 MARKS = ('<!-- written by tools/believed.py -->', '<!-- end of what tools/believed.py writes -->')
 CLAIM = [(('lock_schedule', 'Demand'), 'DemandThree')]
-ENGINE = [(('lock_engine', 'Begin'), 'beginOf'), (('lock_engine', 'Step'), 'stepOf')]
+ENGINE = [(('lock_engine', 'Handle'), 'handle')]
 
 HEAD = re.compile(r'^(?:unfoldable |abbrev )*(?:pub )?(?:record |data )?(\S+)(?: .*)? :(?: |$)')
 IMPORT = re.compile(r'^use (\S+?)\.\{([^}]*)\}', re.M)

@@ -1,7 +1,7 @@
 #!/usr/bin/env python3
 """Checks that what the documents point to is there.
 
-- every `path/to/file:name` in PROMISES, ARCHITECTURE, DECISIONS and PROOFS names a file of the repository in which that name is declared;
+- every `path/to/file:name` in PROMISES, ARCHITECTURE, DECISIONS, PROOFS and CHANGING names a file of the repository in which that name is declared;
 - every path in backquotes, must-fail edits among them, and every link names a file, and a link's heading is one of that file;
 - every must-fail edit, named or not, says in its first line which claim it shows;
 - PROMISES has a row for each of K1 to K9, with as many rows of the table of cases as that file has;
@@ -14,7 +14,7 @@ import re
 import sys
 
 ROOT = pathlib.Path(__file__).resolve().parent.parent
-NAMING = ['PROMISES.md', 'ARCHITECTURE.md', 'DECISIONS.md', 'PROOFS.md']
+NAMING = ['PROMISES.md', 'ARCHITECTURE.md', 'DECISIONS.md', 'PROOFS.md', 'CHANGING.md']
 FOLDERS = 'crates|tests|tools|docs|examples|bench|include|rust'
 
 

@@ -93,7 +93,7 @@ class Places:
 
 def definition_of(crate, name, source):
     """The definition that a function's contract cites, as (module path, name), where it is one that stays shut until unfolded."""
-    contract = re.search(r'fn ' + name + r'\(.*?ensures \{ λ \w+\. ⌜ \w+ ≡ (\S+)', source, re.S)
+    contract = re.search(r'fn ' + name + r'\(.*?ensures \{ λ \w+\. ⌜ (?:\w+|now \(\w+ \.exit\)) ≡ (\S+)', source, re.S)
     if not contract:
         return None
     cited = contract.group(1)

@@ -21,6 +21,19 @@ static void run(uint32_t thread, uint32_t operation, uint32_t object) {
            duskclamp_returned_name(DUSKCLAMP_RETURNED(answer)), steps);
 }
 
+/* Three events in one call: thread 2 enters another object, and thread 3, which is parked, is refused its step. */
+static void run_events(void) {
+    duskclamp_event events[] = {
+        {DUSKCLAMP_KIND_BEGIN, 2, DUSKCLAMP_ENTER, 2, 0},
+        {DUSKCLAMP_KIND_STEP, 2, 0, 0, 0},
+        {DUSKCLAMP_KIND_STEP, 3, 0, 0, 0},
+    };
+    uint64_t answers[3];
+    size_t count = duskclamp_run(table, sizeof table, (const uint8_t *)events, sizeof events, answers, 3);
+    for (size_t place = 0; place < count; place++)
+        printf("event %zu of the run: %s\n", place + 1, duskclamp_returned_name(DUSKCLAMP_RETURNED(answers[place])));
+}
+
 static void print_threads(void) {
     uint32_t count = DUSKCLAMP_VALUE(duskclamp_thread_count(table, sizeof table));
     for (uint32_t thread = 1; thread <= count; thread++) {
@@ -79,6 +92,7 @@ int main(void) {
     run(3, DUSKCLAMP_ENTER, 2);
     run(2, DUSKCLAMP_ENTER, 3);
     run(2, DUSKCLAMP_EXIT, 2);
+    run_events();
     print_threads();
     print_objects();
     printf("a byte short: %s\n", duskclamp_returned_name(DUSKCLAMP_RETURNED(duskclamp_step(table, sizeof table - 1, 2))));

@@ -1,18 +1,18 @@
 -- All chains of a table at once, by any numbering of them: every thread is in one chain at most.
 -- Here c and d are chain numbers, n and x threads.
 use Prim.Native.Nat.{ℕ, _+_, _≤_, _<_}
-use mathlib.Core.Path.{_≡_, refl, sym, _∙_}
+use mathlib.Core.Path.{_≡_, sym, _∙_}
 use mathlib.Core.Logic.{_≢_, _⊎_, inl, inr}
-use mathlib.Core.List.{List, [], _∷_, _++_}
+use mathlib.Core.List.{List, [], _++_}
 use native.Mathlib.Omega.{arith}
 use lib.ListN.{length}
 use Rattle.laws.specs.Update.{update}
 use Rattle.laws.specs.Count.{count}
 use Rattle.laws.proofs.Choice.{equal?}
 use Rattle.laws.proofs.Update.{update-same, update-other}
-use Rattle.laws.proofs.Count.{count-none, count-same, count-other, count-append}
+use Rattle.laws.proofs.Count.{count-none, count-append}
 use Rattle.chains.specs.Chain.{first-with, linked}
-use Rattle.chains.proofs.Chain.{Chain, chain-without-zero, chain-frame, chain-first-once, chain-link, chain-leave, linked-other}
+use Rattle.chains.proofs.Chain.{Chain, chain-without-zero, chain-frame, chain-link, linked-other}
 
 -- no thread is in two of the lists
 abbrev pub Apart : (ℕ → List ℕ) → Type 0
@@ -44,7 +44,7 @@ apart-less list c kept apart less a b n h k = apart a b n (omega (arith, fewer a
     fewer d (inl e) = rw (e, update-same list c kept) (less n)
     fewer d (inr away) = rw (update-other list c kept d away) (omega arith)
 
--- Hanging the chain aside behind chain c: joining and moving are both this.
+-- Hanging the chain aside behind chain c.
 module _ (next first : ℕ → ℕ) (list : ℕ → List ℕ) (back : ℕ) (moved : List ℕ) (aside : Aside next first list back moved)
     (fuel c : ℕ) (short : length (list c) ≤ fuel) where
   -- the lists then
@@ -97,25 +97,6 @@ module _ (next first : ℕ → ℕ) (list : ℕ → List ℕ) (chains : Chains n
   pub chains-zero : next 0 ≡ 0
   chains-zero = chains .loose 0 (λ c. chain-without-zero next (first c) (list c) (chains .chain c))
 
-  -- thread n, in no chain, joins chain c at the end
-  pub chains-join : (fuel c n : ℕ) → length (list c) ≤ fuel → n ≢ 0 → ((d : ℕ) → count n (list d) ≡ 0)
-      → Chains (linked fuel next (first c) n) (update first c (first-with (first c) n)) (update list c (list c ++ (n ∷ [])))
-  chains-join fuel c n short real out = chains-hang next first list n (n ∷ []) alone fuel c short
-    where
-      free : (d m : ℕ) → 0 < count m (n ∷ []) → (m ≡ n) ⊎ (m ≢ n) → count m (list d) ≡ 0
-      free d m h (inl e) = rw e (out d)
-      free d m h (inr away) = absurd (omega (arith, count-other m n [] away, count-none m))
-
-      alone : Aside next first list n (n ∷ [])
-      alone =
-          record {
-            chain = chains .chain;
-            apart = chains .apart;
-            extra = (refl, real, chains .loose n out);
-            free = λ d m h. free d m h (equal? m n);
-            loose = λ m h none. chains .loose m h;
-          }
-
   -- all threads of chain `from`, in order, move to the end of chain `to`
   pub chains-move : (fuel from to : ℕ) → from ≢ to → length (list to) ≤ fuel
       → Chains (linked fuel next (first to) (first from)) (update (update first from 0) to (first-with (first to) (first from)))
@@ -148,42 +129,3 @@ module _ (next first : ℕ → ℕ) (list : ℕ → List ℕ) (chains : Chains n
             free = λ d n h. free d n h (equal? d from);
             loose = λ n out none. chains .loose n (λ d. loose n out none d (equal? d from));
           }
-
-  -- the first thread of chain c leaves it
-  pub chains-leave : (c x : ℕ) (rest : List ℕ) → list c ≡ x ∷ rest → Chains (update next x 0) (update first c (next x)) (update list c rest)
-  chains-leave c x rest is =
-      record {
-        chain = λ d. chain d (equal? d c);
-        apart = apart-less list c rest (chains .apart) (λ n. less n (equal? n x));
-        loose = λ n out. loose n out (equal? n x);
-      }
-    where
-      here : Chain next (first c) (x ∷ rest)
-      here = rw is at (chains .chain c)
-
-      less : (n : ℕ) → (n ≡ x) ⊎ (n ≢ x) → count n rest ≤ count n (list c)
-      less n (inl e) = rw (is, e) (omega (arith, count-same x rest))
-      less n (inr away) = rw is (omega (arith, count-other n x rest away))
-
-      chain : (d : ℕ) → (d ≡ c) ⊎ (d ≢ c) → Chain (update next x 0) (update first c (next x) d) (update list c rest d)
-      chain d (inl e) = rw (e, update-same first c (next x), update-same list c rest) (chain-leave next (first c) x rest here)
-      chain d (inr away) =
-          let out : count x (list d) ≡ 0 = others list (chains .apart) c d x away (rw is (omega (arith, count-same x rest))) in
-          rw (update-other first c (next x) d away, update-other list c rest d away)
-          (chain-frame next (update next x 0) (first d) (list d) (λ n h. update-other next x 0 n (λ e. omega (arith, out, rw e at h))) (chains .chain d))
-
-      loose : (n : ℕ) → ((d : ℕ) → count n (update list c rest d) ≡ 0) → (n ≡ x) ⊎ (n ≢ x) → update next x 0 n ≡ 0
-      loose n out (inl e) = rw (e, update-same next x 0)
-      loose n out (inr away) = update-other next x 0 n away ∙ chains .loose n (λ d. at d (equal? d c))
-        where
-          at : (d : ℕ) → (d ≡ c) ⊎ (d ≢ c) → count n (list d) ≡ 0
-          at d (inl e) = rw (e, is) (count-other n x rest away ∙ (rw (update-same list c rest) at (out c)))
-          at d (inr away) = rw (update-other list c rest d away) at (out d)
-
-  -- and is then in no chain
-  pub chains-left : (c x : ℕ) (rest : List ℕ) → list c ≡ x ∷ rest → (d : ℕ) → count x (update list c rest d) ≡ 0
-  chains-left c x rest is d = at (equal? d c)
-    where
-      at : (d ≡ c) ⊎ (d ≢ c) → count x (update list c rest d) ≡ 0
-      at (inl e) = rw (e, update-same list c rest) (chain-first-once next (first c) x rest (rw is at (chains .chain c)))
-      at (inr away) = rw (update-other list c rest d away) (others list (chains .apart) c d x away (rw is (omega (arith, count-same x rest))))

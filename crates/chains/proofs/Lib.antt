@@ -4,4 +4,5 @@ pub mod Test
 pub mod Turn
 pub mod Walk
 pub mod Family
+pub mod Relink
 pub mod Links

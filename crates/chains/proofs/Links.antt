@@ -1,16 +1,19 @@
 -- The links of all chains and the lists that they stand for: threads leave, join and move on both alike.
 -- Every action on the chains of a table is one of these four or a few of them in a row.
 use Prim.Native.Nat.{ℕ, _≤_}
-use mathlib.Core.Path.{_≡_, refl, sym, ap, _∙_, subst}
-use mathlib.Core.Logic.{_≢_}
+use mathlib.Core.Path.{_≡_, refl, sym, ap, _∙_, subst, fun-ext}
+use mathlib.Core.Logic.{_≢_, _⊎_, inl, inr}
+use native.Mathlib.Omega.{arith}
 use mathlib.Core.List.{List, [], _∷_, _++_, tail, append-nil}
 use lib.ListN.{length, take}
 use Rattle.laws.specs.Update.{update}
 use Rattle.laws.specs.Count.{count}
-use Rattle.laws.proofs.Update.{update-other, update-id}
+use Rattle.laws.proofs.Choice.{equal?}
+use Rattle.laws.proofs.Update.{update-same, update-other, update-id}
 use Rattle.chains.specs.Chain.{first-with, linked}
 use Rattle.chains.proofs.Chain.{Chain, head, chain-head, linked-none, first-with-none}
-use Rattle.chains.proofs.Family.{Chains, chains-zero, chains-join, chains-move, chains-leave, chains-left}
+use Rattle.chains.proofs.Family.{Chains, chains-zero, chains-move}
+use Rattle.chains.proofs.Relink.{chains-join, chains-leave, chains-left}
 
 -- the threads' next indexes, and the first thread of each chain by the chain's number
 pub record Links : Type 0 where
@@ -43,23 +46,56 @@ join-links fuel chain-number n links =
 abbrev pub join-lists : ℕ → ℕ → (ℕ → List ℕ) → ℕ → List ℕ
 join-lists chain-number n list = update list chain-number (list chain-number ++ (n ∷ []))
 
--- all threads of a chain move, in order, to the end of another
-abbrev pub move-links : ℕ → ℕ → ℕ → Links → Links
-move-links fuel from to links =
-    record {
-      next = linked fuel (links .next) (links .first to) (links .first from);
-      first = update (update (links .first) from 0) to (first-with (links .first to) (links .first from));
-    }
-
-abbrev pub move-lists : ℕ → ℕ → (ℕ → List ℕ) → ℕ → List ℕ
-move-lists from to list = update (update list from []) to (list to ++ list from)
-
--- the first thread of a chain, if there is one, moves to the end of another
+-- the first thread of a chain, if there is one, moves to the end of another, or of its own
 abbrev pub shift-links : ℕ → ℕ → ℕ → Links → Links
 shift-links fuel from to links = join-links fuel to (links .first from) (leave-links from links)
 
 abbrev pub shift-lists : ℕ → ℕ → (ℕ → List ℕ) → ℕ → List ℕ
-shift-lists from to list = update (leave-lists from list) to (list to ++ take 1 (list from))
+shift-lists from to list = update (leave-lists from list) to (leave-lists from list to ++ take 1 (list from))
+
+-- all threads of a chain move, in order, to the end of another, or of its own
+abbrev pub move-links : ℕ → ℕ → ℕ → Links → Links
+move-links fuel from to links =
+    let first = update (links .first) from 0 in
+    record {
+      next = linked fuel (links .next) (first to) (links .first from);
+      first = update first to (first-with (first to) (links .first from));
+    }
+
+abbrev pub move-lists : ℕ → ℕ → (ℕ → List ℕ) → ℕ → List ℕ
+move-lists from to list = let rest = update list from [] in update rest to (rest to ++ list from)
+
+-- a place emptied and filled again
+update-back {ℓ} : {A : Type ℓ} (f : ℕ → A) (place : ℕ) (value : A) → update (update f place value) place (f place) ≡ f
+update-back f place value = fun-ext (λ n. at n (equal? n place))
+  where
+    at : (n : ℕ) → (n ≡ place) ⊎ (n ≢ place) → update (update f place value) place (f place) n ≡ f n
+    at n (inl e) = rw (e, update-same (update f place value) place (f place))
+    at n (inr away) = update-other (update f place value) place (f place) n away ∙ update-other f place value n away
+
+-- who leaves a chain is no longer in it, and all others are
+tail-count : (n : ℕ) (list : List ℕ) → count n (tail list) ≤ count n list
+unfolding count
+tail-count n [] = omega arith
+tail-count n (x ∷ rest) = omega arith
+
+tail-length : (list : List ℕ) → length (tail list) ≤ length list
+tail-length [] = omega arith
+tail-length (x ∷ rest) = omega arith
+
+pub leave-within : (list : ℕ → List ℕ) (c d n : ℕ) → count n (leave-lists c list d) ≤ count n (list d)
+leave-within list c d n = at (equal? d c)
+  where
+    at : (d ≡ c) ⊎ (d ≢ c) → count n (leave-lists c list d) ≤ count n (list d)
+    at (inl e) = rw (e, update-same list c (tail (list c))) (tail-count n (list c))
+    at (inr away) = rw (update-other list c (tail (list c)) d away) (omega arith)
+
+pub leave-short : (list : ℕ → List ℕ) (c d : ℕ) → length (leave-lists c list d) ≤ length (list d)
+leave-short list c d = at (equal? d c)
+  where
+    at : (d ≡ c) ⊎ (d ≢ c) → length (leave-lists c list d) ≤ length (list d)
+    at (inl e) = rw (e, update-same list c (tail (list c))) (tail-length (list c))
+    at (inr away) = rw (update-other list c (tail (list c)) d away) (omega arith)
 
 module _ (links : Links) (list : ℕ → List ℕ) (stands : Stands links list) where
   -- a chain's first thread is its list's
@@ -97,11 +133,6 @@ module _ (links : Links) (list : ℕ → List ℕ) (stands : Stands links list) 
       same-first : update (links .first) c (first-with (links .first c) 0) ≡ links .first
       same-first = update-id (links .first) c (first-with (links .first c) 0) (sym (first-with-none (links .first c)))
 
-  -- nor shifting from an empty chain
-  pub shift-none : (fuel from to : ℕ) → length (list to) ≤ fuel → links .first from ≡ 0 → shift-links fuel from to links ≡ links
-  shift-none fuel from to short empty =
-      ap (join-links fuel to (links .first from)) (leave-none from empty) ∙ (ap (λ (n : ℕ). join-links fuel to n links) empty ∙ join-none fuel to short)
-
   -- Each action on links stands for the action on lists.
   -- the first of chain c leaves
   pub stands-leave : (c : ℕ) → Stands (leave-links c links) (leave-lists c list)
@@ -114,26 +145,39 @@ module _ (links : Links) (list : ℕ → List ℕ) (stands : Stands links list) 
   -- thread n, in no chain, joins chain c
   pub stands-join : (fuel c n : ℕ) → length (list c) ≤ fuel → n ≢ 0 → ((d : ℕ) → count n (list d) ≡ 0)
       → Stands (join-links fuel c n links) (join-lists c n list)
-  stands-join = chains-join (links .next) (links .first) list stands
+  stands-join fuel c n = chains-join (links .next) (links .first) list stands c fuel n
 
-  -- all threads of one chain move to the end of another
-  pub stands-move : (fuel from to : ℕ) → from ≢ to → length (list to) ≤ fuel → Stands (move-links fuel from to links) (move-lists from to list)
-  stands-move = chains-move (links .next) (links .first) list stands
-
-  -- the first thread of one chain moves to the end of another
-  pub stands-shift : (fuel from to : ℕ) → from ≢ to → length (list to) ≤ fuel → Stands (shift-links fuel from to links) (shift-lists from to list)
-  stands-shift fuel from to apart short = at (list from) refl
+  -- the first thread of a chain moves to the end of another
+  pub stands-shift : (fuel from to : ℕ) → length (list to) ≤ fuel → Stands (shift-links fuel from to links) (shift-lists from to list)
+  stands-shift fuel from to short = at (list from) refl
     where
+      brief : length (leave-lists from list to) ≤ fuel
+      brief = omega (arith, leave-short list from to, short)
+
       at : (threads : List ℕ) → list from ≡ threads
-          → Stands (shift-links fuel from to links) (update (update list from (tail threads)) to (list to ++ take 1 threads))
+          → Stands (shift-links fuel from to links) (update (leave-lists from list) to (leave-lists from list to ++ take 1 threads))
       at [] is =
-          subst (λ (s : Links). Stands s (update (update list from []) to (list to ++ [])))
-          (sym (shift-none fuel from to short (first-head from ∙ ap head is)))
-          (rw (append-nil (list to), update-id list from [] is, update-id list to (list to) refl) stands)
+          let empty : links .first from ≡ 0 = first-head from ∙ ap head is in
+          let still : shift-links fuel from to links ≡ links =
+          ap (join-links fuel to (links .first from)) (leave-none from empty)
+          ∙ (ap (λ (n : ℕ). join-links fuel to n links) empty ∙ join-none fuel to short) in
+          let same : leave-lists from list ≡ list = update-id list from (tail (list from)) (is ∙ sym (ap tail is)) in
+          subst (λ (s : Links). Stands s (update (leave-lists from list) to (leave-lists from list to ++ []))) (sym still)
+          (rw (same, append-nil (list to), update-id list to (list to) refl) stands)
       at (x ∷ rest) is =
-          let same-list : update list from rest to ≡ list to = update-other list from rest to (λ e. apart (sym e)) in
           let is-first : links .first from ≡ x = first-head from ∙ ap head is in
-          let left : Stands (leave-links from links) (update list from rest) = rw is at (stands-leave from) in
-          subst (λ (threads : List ℕ). Stands (shift-links fuel from to links) (update (update list from rest) to threads)) (rw (same-list, is-first))
-          (chains-join (leave-links from links .next) (leave-links from links .first) (update list from rest) left fuel to (links .first from)
-          (rw same-list short) (rw is-first (head-real from x rest is)) (rw is-first (rw is at (stands-left from x rest is))))
+          subst (λ (n : ℕ). Stands (shift-links fuel from to links) (update (leave-lists from list) to (leave-lists from list to ++ (n ∷ [])))) is-first
+          (chains-join (leave-links from links .next) (leave-links from links .first) (leave-lists from list) (stands-leave from) to fuel (links .first from)
+          brief (rw is-first (head-real from x rest is)) (rw is-first (stands-left from x rest is)))
+
+  -- all threads of a chain move to the end of another
+  pub stands-move : (fuel from to : ℕ) → length (list to) ≤ fuel → Stands (move-links fuel from to links) (move-lists from to list)
+  unfolding linked
+  stands-move fuel from to short = at (equal? from to)
+    where
+      at : (from ≡ to) ⊎ (from ≢ to) → Stands (move-links fuel from to links) (move-lists from to list)
+      at (inl e) =
+          rw (← e, update-same list from [], update-same (links .first) from 0, update-back list from [], update-back (links .first) from 0) stands
+      at (inr apart) =
+          rw (update-other list from [] to (λ e. apart (sym e)), update-other (links .first) from 0 to (λ e. apart (sym e)))
+          (chains-move (links .next) (links .first) list stands fuel from to apart short)

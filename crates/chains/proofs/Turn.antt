@@ -7,7 +7,7 @@ use native.Mathlib.Omega.{arith}
 use lib.Dec.{eqb}
 use lib.ListN.{length}
 use Rattle.laws.specs.Choice.{pick}
-use Rattle.chains.specs.Chain.{members, chain-length, last-of, chain-test, in-chain}
+use Rattle.chains.specs.Chain.{members, chain-length, chain-test, in-chain}
 
 -- what a loop's test says of the fuel, taken and left
 one-left : {fuel : ℕ} → 0 < fuel → fuel ≡ suc (fuel - 1)
@@ -37,16 +37,6 @@ chain-length-step {fuel} h next first = rw (members-step h next first) (at (eqb 
 
 pub chain-length-end : {fuel : ℕ} → fuel ≤ 0 → (next : ℕ → ℕ) (first : ℕ) → chain-length fuel next first ≡ 0
 chain-length-end h next first = ap length (members-end h next first)
-
--- the walk to the last thread
-pub last-of-step : {fuel : ℕ} → 0 < fuel → (next : ℕ → ℕ) (first : ℕ)
-    → last-of fuel next first ≡ pick (eqb (next first) 0) first (last-of (fuel - 1) next (next first))
-unfolding last-of
-last-of-step h next first = ap (λ (k : ℕ). last-of k next first) (one-left h)
-
-pub last-of-end : {fuel : ℕ} → fuel ≤ 0 → (next : ℕ → ℕ) (first : ℕ) → last-of fuel next first ≡ first
-unfolding last-of
-last-of-end h next first = ap (λ (k : ℕ). last-of k next first) (none-left h)
 
 -- the walk that tests each thread
 pub chain-test-step : {fuel : ℕ} → 0 < fuel → (next : ℕ → ℕ) (ok : ℕ → Bool) (first : ℕ)

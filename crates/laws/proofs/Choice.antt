@@ -28,6 +28,11 @@ by-equal P a b same other = by-test P (eqb a b) (λ e. same (eqb-true a b e)) (�
 pub by-below : {A : Type 0} (P : A → Type 0) (a b : ℕ) {x y : A} → (a < b → P x) → (b ≤ a → P y) → P (pick (ltb a b) x y)
 by-below P a b under over = by-test P (ltb a b) (λ e. under (ltb-true a b e)) (λ e. over (ltb-false a b e))
 
+-- a fact that either way gives, where two ways of the code join
+pub either-way : {A B P : Type 0} → A ⊎ B → (A → P) → (B → P) → P
+either-way (inl a) one other = one a
+either-way (inr b) one other = other b
+
 pub pick-same {ℓ} : {A : Type ℓ} (b : Bool) (x : A) → pick b x x ≡ x
 pick-same true x = refl
 pick-same false x = refl

@@ -3,37 +3,38 @@ use mathlib.Core.Path.{refl}
 use mathlib.Core.List.{List, [], _∷_, _++_}
 use Rattle.laws.specs.Every.{all-up-to}
 use Rattle.chains.specs.Chain.{members, chain-test}
-use Rattle.lock_word.specs.Read.{decodeOf, flatOf, reservedOf, fatOf}
+use Rattle.lock_word.specs.Read.{read-word, read-flat, read-reserved, fat-of}
 use Rattle.lock_word.specs.Cases.{Case, AllHold, word-cases}
 use Rattle.lock_word.proofs.Cases.{word-cases-hold}
 use Rattle.lock_rules.specs.Rules.{decide, enter-look, exit-owned, go-in, go-in-again}
-use Rattle.lock_table.specs.Access.{threadAt, setThread, objectAt, setObject}
-use Rattle.lock_table.specs.Fresh.{freshOf, freshReturnedOf, firstWordOf}
-use Rattle.lock_table.specs.Operation.{operationNumberOf}
-use Rattle.lock_table.specs.Phase.{phaseNumberOf, carriedNumberOf}
-use Rattle.lock_table.specs.Empty.{emptyThread, emptyMonitor, emptyObject}
-use Rattle.lock_table.specs.Parked.{chainNamed, firstIn}
-use Rattle.lock_perform.specs.State.{stateBy, lookOf, goInOf, recordOf, doingRecordOf}
-use Rattle.lock_word.specs.Meaning.{seenOf}
-use Rattle.lock_perform.specs.Moving.{actionOf}
-use Rattle.lock_perform.specs.Perform.{wordAfter}
+use Rattle.lock_table.specs.Access.{thread-at, set-thread, object-at, set-object}
+use Rattle.lock_table.specs.Fresh.{fresh-of, fresh-returned, first-word}
+use Rattle.lock_table.specs.Operation.{operation-number}
+use Rattle.lock_table.specs.Phase.{phase-number, carried-number}
+use Rattle.lock_table.specs.Empty.{empty-thread, empty-monitor, empty-object}
+use Rattle.lock_table.specs.Parked.{chain-named, first-in}
+use Rattle.lock_perform.specs.State.{state-by, look-of, go-in-of, write-thread, doing-record}
+use Rattle.lock_word.specs.Meaning.{seen-word}
+use Rattle.lock_perform.specs.Perform.{word-after, stays}
 use Rattle.lock_soundness.specs.Sound.{
-  sizesFit,
-  wordFits,
-  usesPhase,
-  carriesPhase,
-  operationFits,
-  keptFits,
-  savesDepth,
-  savedFits,
-  unheldFits,
-  foundIn,
-  namesChain,
-  unusedFits,
-  soundOf,
+  sizes-fit,
+  word-fits,
+  uses-phase,
+  carries-phase,
+  operation-fits,
+  kept-fits,
+  saves-depth,
+  saved-fits,
+  unheld-fits,
+  found-in,
+  names-chain,
+  unused-fits,
+  sound-of,
 }
-use Rattle.lock_engine.specs.Outcome.{returnedOf}
-use Rattle.lock_engine.specs.Step.{stepOf, stepTrusting, stepRanged, stepThread, stepWord, settleOf}
+use Rattle.lock_engine.specs.Outcome.{reply-returned}
+use Rattle.lock_engine.specs.Turn.{action-turn, word-turn, state-turn, step-turn, open-turn, gate-turn}
+use Rattle.lock_gate.specs.Status.{thread-status}
+use Rattle.lock_engine.specs.Handle.{handle-trusting, handle}
 use Rattle.lock_engine.specs.Cases.{engine-cases, NineCases}
 
 both-hold : (rows more : List Case) → AllHold rows → AllHold more → AllHold (rows ++ more)
@@ -41,11 +42,11 @@ both-hold [] more p q = q
 both-hold (row ∷ rows) more p q = (p .0, both-hold rows more (p .1) q)
 
 engine-cases-hold : AllHold engine-cases
-unfolding all-up-to members chain-test decodeOf flatOf reservedOf fatOf decide enter-look exit-owned go-in go-in-again threadAt setThread objectAt
-    setObject freshOf freshReturnedOf firstWordOf operationNumberOf phaseNumberOf carriedNumberOf stateBy lookOf goInOf recordOf doingRecordOf seenOf
-    actionOf wordAfter sizesFit wordFits usesPhase carriesPhase operationFits keptFits savesDepth savedFits unheldFits chainNamed firstIn foundIn
-    namesChain emptyThread emptyMonitor emptyObject unusedFits soundOf returnedOf stepOf stepTrusting stepRanged stepThread stepWord
-    settleOf
+unfolding all-up-to members chain-test read-word read-flat read-reserved fat-of decide enter-look exit-owned go-in go-in-again thread-at set-thread object-at
+    set-object fresh-of fresh-returned first-word operation-number phase-number carried-number state-by look-of go-in-of write-thread doing-record seen-word
+    word-after sizes-fit word-fits uses-phase carries-phase operation-fits kept-fits saves-depth saved-fits unheld-fits chain-named first-in found-in
+    names-chain empty-thread empty-monitor empty-object unused-fits sound-of reply-returned thread-status action-turn word-turn state-turn step-turn open-turn gate-turn
+    handle-trusting handle stays
 engine-cases-hold = (
   (refl, refl, refl, refl),
   (

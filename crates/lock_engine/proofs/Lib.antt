@@ -1,4 +1,7 @@
 -- The laws of events.
-pub mod Cases
-pub mod Known
+pub mod InPlace
+pub mod Refused
 pub mod Narrow
+pub mod Full
+pub mod After
+pub mod Cases

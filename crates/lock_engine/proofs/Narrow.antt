@@ -5,91 +5,129 @@ use mathlib.Core.Path.{_≡_, refl, sym, _∙_}
 use mathlib.Core.Bool.{Bool, true, false}
 use native.Mathlib.Omega.{arith}
 use lib.Dec.{leb}
-use borrow.Author.Tests.{lt-leb}
-use Rattle.laws.specs.Choice.{both, within}
-use Rattle.laws.proofs.Choice.{both-first, both-no}
+use borrow.Author.Tests.{lt-leb, leb-true}
+use Rattle.laws.specs.Choice.{pick, both, within}
+use Rattle.laws.proofs.Choice.{split, both-first, both-second, both-no}
+use Rattle.lock_rules.specs.Gate.{begin-rows, step-rows, first-refusing, gate, event-thread}
+use Rattle.lock_rules.specs.Operations.{operation-limit}
+use Rattle.lock_rules.specs.declared.event.Event.{Event}
+use Rattle.lock_rules.specs.declared.event.Event.the-variants.{Begin, Step}
+use Rattle.lock_rules.specs.declared.event.ThreadStatus.{ThreadStatus}
+use Rattle.lock_rules.specs.declared.event.Refusal.{Refusal}
+use Rattle.lock_rules.specs.declared.event.Refusal.the-variants.{NotSound, NoSuchThread, NoSuchOperation, NoSuchObject}
+use Rattle.lock_rules.specs.declared.event.Gate.the-variants.{Shut}
 use Rattle.lock_table.specs.Limits.{thread-limit, object-limit}
-use Rattle.lock_table.specs.Narrow.{narrowOf}
-use Rattle.lock_table.specs.Operation.{operationFromOf}
-use Rattle.lock_table.specs.declared.operation.Operation.{Operation}
-use Rattle.lock_table.specs.declared.operation.Operation.the-variants.{Idle, Enter, Exit, Wait, Notify, NotifyAll}
+use Rattle.lock_table.specs.Narrow.{narrow-of}
 use Rattle.lock_table.specs.declared.record.Table.{Table}
-use Rattle.lock_table.proofs.Operations.{no-operation}
 use Rattle.lock_table.proofs.Narrowed.{narrowed}
-use Rattle.lock_soundness.specs.Sound.{sizesFit, soundOf}
-use Rattle.lock_soundness.proofs.RecordReading.{reads-sizes}
-use Rattle.lock_engine.specs.Begin.{beginObject, beginOperation, beginRanged, beginTrusting, beginOf}
-use Rattle.lock_engine.specs.Step.{stepRanged, stepTrusting, stepOf}
+use Rattle.lock_soundness.specs.Sound.{sizes-fit, sound-of}
+use Rattle.lock_soundness.proofs.Reading.{reads-sizes}
+use Rattle.lock_engine.specs.Handle.{trusted, handle-trusting, handle, begin, step}
+use Rattle.lock_engine.proofs.Refused.{handle-shut}
 
 outside : (limit n : ℕ) → limit < n → within 1 limit n ≡ false
 outside limit n past = rw (lt-leb n limit past) (both-no (leb 1 n))
 
-sizes : (table : Table) → soundOf table ≡ true → (table .threadcount ≤ thread-limit) × (table .objectcount ≤ object-limit)
-unfolding soundOf
+pub sizes : (table : Table) → sound-of table ≡ true → (table .threadcount ≤ thread-limit) × (table .objectcount ≤ object-limit)
+unfolding sound-of
 sizes table sound =
-    let fit = both-first (sizesFit (table .threadcount) (table .objectcount)) _ sound in
+    let fit = both-first (sizes-fit (table .threadcount) (table .objectcount)) _ sound in
     let read = reads-sizes (table .threadcount) (table .objectcount) .read fit in
     (read .0 .1, read .1 .1)
 
+-- the refusal of an event one of whose numbers is out of range, if none before it applies
+abbrev no-thread : Bool → Refusal
+no-thread sound = pick sound NoSuchThread NotSound
+
+abbrev no-operation : Bool → Bool → Refusal
+no-operation sound thread = pick sound (pick thread NoSuchOperation NoSuchThread) NotSound
+
+abbrev no-object : Bool → Bool → Bool → Refusal
+no-object sound thread operation = pick sound (pick thread (pick operation NoSuchObject NoSuchOperation) NoSuchThread) NotSound
+
+begin-no-thread : (sound operation object : Bool) (status : ThreadStatus)
+    → first-refusing (begin-rows sound false operation object status) ≡ Shut (no-thread sound)
+begin-no-thread true operation object status = refl
+begin-no-thread false operation object status = refl
+
+step-no-thread : (sound : Bool) (status : ThreadStatus) → first-refusing (step-rows sound false status) ≡ Shut (no-thread sound)
+step-no-thread true status = refl
+step-no-thread false status = refl
+
+begin-no-operation : (sound thread object : Bool) (status : ThreadStatus)
+    → first-refusing (begin-rows sound thread false object status) ≡ Shut (no-operation sound thread)
+begin-no-operation true true object status = refl
+begin-no-operation true false object status = refl
+begin-no-operation false thread object status = refl
+
+begin-no-object : (sound thread operation : Bool) (status : ThreadStatus)
+    → first-refusing (begin-rows sound thread operation false status) ≡ Shut (no-object sound thread operation)
+begin-no-object true true true status = refl
+begin-no-object true true false status = refl
+begin-no-object true false operation status = refl
+begin-no-object false thread operation status = refl
+
 module _ (table : Table) where
-  -- a step
-  step-past : (n : ℕ) → 255 < n → stepOf table 255 ≡ stepOf table n
-  unfolding stepOf stepTrusting stepRanged
-  step-past n past = gated (soundOf table) refl
+  abbrev sound : Bool
+  sound = trusted table (sound-of table)
+
+  abbrev threads : ℕ
+  threads = table .threadcount
+
+  abbrev objects : ℕ
+  objects = table .objectcount
+
+  -- two events that are refused alike, if the table is sound at all
+  alike : (refusal : Refusal) (one other : Event)
+      → ((status : ThreadStatus) → gate sound threads objects one status ≡ Shut refusal)
+      → ((status : ThreadStatus) → gate sound threads objects other status ≡ Shut refusal) → handle table one ≡ handle table other
+  unfolding handle
+  alike refusal one other shut-one shut-other =
+      handle-shut table one (sound-of table) refusal (shut-one _) ∙ sym (handle-shut table other (sound-of table) refusal (shut-other _))
+
+  -- an unsound table refuses every event alike
+  unsound : (one other : Event) → sound-of table ≡ false → handle table one ≡ handle table other
+  unsound one other is = alike NotSound one other (shut one) (shut other)
     where
-      gated : (issound : Bool) → soundOf table ≡ issound → stepTrusting table 255 issound ≡ stepTrusting table n issound
-      gated false unsound = refl
-      gated true sound =
-          let few = sizes table sound .0 in
-          rw (outside (table .threadcount) 255 (omega (arith, few)), outside (table .threadcount) n (omega (arith, few, past))) refl
+      shut : (event : Event) (status : ThreadStatus) → gate sound threads objects event status ≡ Shut NotSound
+      shut (Begin operation thread object) status = rw is refl
+      shut (Step thread) status = rw is refl
 
-  pub narrow-step : (thread : ℕ) → stepOf table (narrowOf thread) ≡ stepOf table thread
-  narrow-step thread = narrowed (stepOf table) step-past thread
+  tested : (one other : Event) → (sound-of table ≡ true → handle table one ≡ handle table other) → handle table one ≡ handle table other
+  tested one other same = split (sound-of table) same (unsound one other)
 
-  -- a begin: thread, operation, object
-  thread-past : (operation object n : ℕ) → 255 < n → beginOf table 255 operation object ≡ beginOf table n operation object
-  unfolding beginOf beginTrusting beginRanged
-  thread-past operation object n past = gated (soundOf table) refl
-    where
-      gated : (issound : Bool) → soundOf table ≡ issound → beginTrusting table 255 operation object issound ≡ beginTrusting table n operation object issound
-      gated false unsound = refl
-      gated true sound =
-          let few = sizes table sound .0 in
-          rw (outside (table .threadcount) 255 (omega (arith, few)), outside (table .threadcount) n (omega (arith, few, past))) refl
+  step-past : (n : ℕ) → 255 < n → step table 255 ≡ step table n
+  step-past n past = tested (Step 255) (Step n)
+      (λ is. let few = sizes table is .0 in
+      alike (no-thread sound) (Step 255) (Step n)
+      (λ status. rw (outside threads 255 (omega (arith, few))) (step-no-thread sound status))
+      (λ status. rw (outside threads n (omega (arith, few, past))) (step-no-thread sound status)))
 
-  operation-past : (n : ℕ) → 255 < n → operationFromOf 255 ≡ operationFromOf n
-  operation-past n past = no-operation 255 (omega arith) ∙ sym (no-operation n (omega (arith, past)))
+  thread-past : (operation object n : ℕ) → 255 < n → begin table 255 operation object ≡ begin table n operation object
+  thread-past operation object n past = tested (Begin operation 255 object) (Begin operation n object)
+      (λ is. let few = sizes table is .0 in
+      alike (no-thread sound) (Begin operation 255 object) (Begin operation n object)
+      (λ status. rw (outside threads 255 (omega (arith, few))) (begin-no-thread sound (within 1 operation-limit operation) (within 1 objects object) status))
+      (λ status. rw (outside threads n (omega (arith, few, past))) (begin-no-thread sound (within 1 operation-limit operation) (within 1 objects object) status)))
 
-  begin-operation-past : (thread object n : ℕ) → 255 < n → beginOf table thread 255 object ≡ beginOf table thread n object
-  unfolding beginOf beginTrusting beginRanged
-  begin-operation-past thread object n past = rw (operation-past n past) refl
+  operation-past : (thread object n : ℕ) → 255 < n → begin table thread 255 object ≡ begin table thread n object
+  operation-past thread object n past =
+      alike (no-operation sound (within 1 threads thread)) (Begin 255 thread object) (Begin n thread object)
+      (λ status. begin-no-operation sound (within 1 threads thread) (within 1 objects object) status)
+      (λ status. rw (outside operation-limit n (omega (arith, past))) (begin-no-operation sound (within 1 threads thread) (within 1 objects object) status))
 
-  -- whatever the operation, an object out of range is refused alike
-  refused-alike : (thread : ℕ) (operation : Operation) (one other : ℕ) → beginOperation table thread operation one false ≡ beginOperation table thread operation other false
-  unfolding beginOperation beginObject
-  refused-alike thread Idle one other = refl
-  refused-alike thread Enter one other = refl
-  refused-alike thread Exit one other = refl
-  refused-alike thread Wait one other = refl
-  refused-alike thread Notify one other = refl
-  refused-alike thread NotifyAll one other = refl
+  object-past : (thread operation n : ℕ) → 255 < n → begin table thread operation 255 ≡ begin table thread operation n
+  object-past thread operation n past = tested (Begin operation thread 255) (Begin operation thread n)
+      (λ is. let few = sizes table is .1 in
+      alike (no-object sound (within 1 threads thread) (within 1 operation-limit operation)) (Begin operation thread 255) (Begin operation thread n)
+      (λ status. rw (outside objects 255 (omega (arith, few))) (begin-no-object sound (within 1 threads thread) (within 1 operation-limit operation) status))
+      (λ status. rw (outside objects n (omega (arith, few, past))) (begin-no-object sound (within 1 threads thread) (within 1 operation-limit operation) status)))
 
-  object-past : (thread operation n : ℕ) → 255 < n → beginOf table thread operation 255 ≡ beginOf table thread operation n
-  unfolding beginOf beginTrusting beginRanged
-  object-past thread operation n past = gated (soundOf table) refl
-    where
-      ranged : table .objectcount ≤ object-limit → (inrange : Bool) → beginRanged table thread operation 255 inrange ≡ beginRanged table thread operation n inrange
-      ranged few false = refl
-      ranged few true =
-          rw (outside (table .objectcount) 255 (omega (arith, few)), outside (table .objectcount) n (omega (arith, few, past)))
-          (refused-alike thread (operationFromOf operation) 255 n)
+  pub narrow-step : (thread : ℕ) → step table (narrow-of thread) ≡ step table thread
+  narrow-step thread = narrowed (step table) step-past thread
 
-      gated : (issound : Bool) → soundOf table ≡ issound → beginTrusting table thread operation 255 issound ≡ beginTrusting table thread operation n issound
-      gated false unsound = refl
-      gated true sound = ranged (sizes table sound .1) (within 1 (table .threadcount) thread)
-
-  pub narrow-begin : (thread operation object : ℕ) → beginOf table (narrowOf thread) (narrowOf operation) (narrowOf object) ≡ beginOf table thread operation object
+  pub narrow-begin : (thread operation object : ℕ) → begin table (narrow-of thread) (narrow-of operation) (narrow-of object) ≡ begin table thread operation object
   narrow-begin thread operation object =
-      narrowed (λ n. beginOf table n (narrowOf operation) (narrowOf object)) (thread-past (narrowOf operation) (narrowOf object)) thread
-      ∙ narrowed (λ n. beginOf table thread n (narrowOf object)) (begin-operation-past thread (narrowOf object)) operation
-      ∙ narrowed (λ n. beginOf table thread operation n) (object-past thread operation) object
+      narrowed (λ n. begin table n (narrow-of operation) (narrow-of object)) (thread-past (narrow-of operation) (narrow-of object)) thread
+      ∙ narrowed (λ n. begin table thread n (narrow-of object)) (operation-past thread (narrow-of object)) operation
+      ∙ narrowed (λ n. begin table thread operation n) (object-past thread operation) object

@@ -7,29 +7,29 @@ use Rattle.lock_word.specs.Cases.{Case, AllHold, case-numbers, word-cases}
 use Rattle.lock_rules.specs.declared.Doing.the-variants.{EnterLook, EnterGoIn, ExitLook}
 use Rattle.lock_rules.specs.declared.Doing.{Doing}
 use Rattle.lock_rules.specs.declared.ThreadState.the-variants.{Running}
-use Rattle.lock_table.specs.Record.{noMonitor}
-use Rattle.lock_table.specs.Access.{threadAt, setThread, objectAt, setObject}
-use Rattle.lock_table.specs.Fresh.{freshOf, freshReturnedOf}
-use Rattle.lock_table.specs.Phase.{phaseNumberOf}
+use Rattle.lock_table.specs.Record.{no-monitor}
+use Rattle.lock_table.specs.Access.{thread-at, set-thread, object-at, set-object}
+use Rattle.lock_table.specs.Fresh.{fresh-of, fresh-returned}
+use Rattle.lock_table.specs.Phase.{phase-number}
 use Rattle.lock_table.specs.declared.record.Monitor.{Monitor}
 use Rattle.lock_table.specs.declared.record.Table.{Table}
-use Rattle.lock_perform.specs.State.{recordOf}
-use Rattle.lock_engine.specs.Outcome.{returnedOf}
-use Rattle.lock_engine.specs.Step.{stepOf}
+use Rattle.lock_perform.specs.State.{write-thread}
+use Rattle.lock_engine.specs.Outcome.{reply-returned}
+use Rattle.lock_engine.specs.Handle.{step}
 
 -- three threads and one object with this word and monitor; thread 3 is at it, doing this
 abbrev pub case-table : ℕ → Monitor → Doing → Table
 case-table word monitor doing =
-    setObject (setThread (freshOf 3 1 false .table) 3 (recordOf 3 1 (Running doing) 0)) 1 (record { word = word; monitor = monitor; flag = false })
+    set-object (set-thread (fresh-of 3 1 false .table) 3 (write-thread 3 1 (Running doing) 0)) 1 (record { word = word; monitor = monitor; flag = false })
 
 -- the step of thread 3 returns this number and leaves the thread in this phase and the object with this word and depth
 abbrev pub Steps : Table → ℕ → ℕ → ℕ → ℕ → Type 0
 Steps table returned phase word depth =
-    let outcome = stepOf table 3 in
-    (returnedOf (outcome .reply) ≡ returned)
-    × (phaseNumberOf (threadAt (outcome .table) 3 .phase) ≡ phase)
-    × (objectAt (outcome .table) 1 .word ≡ word)
-    × (objectAt (outcome .table) 1 .monitor .depth ≡ depth)
+    let outcome = step table 3 in
+    (reply-returned (outcome .reply) ≡ returned)
+    × (phase-number (thread-at (outcome .table) 3 .phase) ≡ phase)
+    × (object-at (outcome .table) 1 .word ≡ word)
+    × (object-at (outcome .table) 1 .monitor .depth ≡ depth)
 
 -- held by thread 3 at this depth
 abbrev pub held : ℕ → Monitor
@@ -37,11 +37,11 @@ held depth = record { depth = depth; holder = 3; entry = 0; contention = 0; wait
 
 abbrev pub engine-cases : List Case
 engine-cases =
-    record { number = 5; states = Steps (case-table 0x0003fc noMonitor EnterLook) 0 4 0x0003fc 0 }
-    ∷ record { number = 5; states = Steps (case-table 0x0003f8 noMonitor EnterLook) 1 0 0x0003fc 0 }
-    ∷ record { number = 7; states = freshReturnedOf (freshOf 32 1 false .answer) ≡ 0 }
-    ∷ record { number = 7; states = freshReturnedOf (freshOf 33 1 false .answer) ≡ 22 }
-    ∷ record { number = 8; states = Steps (case-table 0x000002 noMonitor ExitLook) 18 0 0x000002 0 }
+    record { number = 5; states = Steps (case-table 0x0003fc no-monitor EnterLook) 0 4 0x0003fc 0 }
+    ∷ record { number = 5; states = Steps (case-table 0x0003f8 no-monitor EnterLook) 1 0 0x0003fc 0 }
+    ∷ record { number = 7; states = fresh-returned (fresh-of 32 1 false .answer) ≡ 0 }
+    ∷ record { number = 7; states = fresh-returned (fresh-of 33 1 false .answer) ≡ 22 }
+    ∷ record { number = 8; states = Steps (case-table 0x000002 no-monitor ExitLook) 18 0 0x000002 0 }
     ∷ record { number = 9; states = Steps (case-table 0x000101 (held 65534) EnterGoIn) 1 0 0x000101 65535 }
     ∷ record { number = 9; states = Steps (case-table 0x000101 (held 65535) EnterGoIn) 19 0 0x000101 65535 }
     ∷ []

@@ -1,5 +1,5 @@
 -- What the engine gives back for every event on every table, in document 01's words.
 pub mod Outcome
-pub mod Begin
-pub mod Step
+pub mod Turn
+pub mod Handle
 pub mod Cases

@@ -1,27 +1,10 @@
 // What an event gives back, with document 01's numbers.
 use lock_rules::Answer;
+use lock_rules::Refusal;
 use lock_table::Table;
 ghost use mathlib.Core.Path.{_≡_};
-ghost use Rattle.lock_rules.specs.Numbers.{returned-of, woken-of};
-ghost use Rattle.lock_engine.specs.Outcome.{refusalNumberOf, returnedOf, wokenOf, refuseOf};
-
-// The refusals before any rule.
-pub enum Refusal {
-    // 11
-    NotSound,
-    // 12
-    NoSuchThread,
-    // 13, of a begin
-    NoSuchObject,
-    // 14, of a begin
-    NotIdle,
-    // 15, of a step
-    ThreadIdle,
-    // 16, of a step: phase 5, 8 or 14
-    ThreadParked,
-    // 17, of a begin
-    NoSuchOperation,
-}
+ghost use Rattle.lock_rules.specs.Numbers.{refusal-number, returned-of, woken-of};
+ghost use Rattle.lock_engine.specs.Outcome.{reply-returned, reply-woken};
 
 pub enum Reply {
     // 0, of a begin
@@ -40,7 +23,7 @@ pub struct Outcome {
 
 // The number of a refusal before any rule.
 pub fn refusal_number(refusal: Refusal) -> u8
-    ensures { λ r. ⌜ r ≡ refusalNumberOf refusal ⌝ }
+    ensures { λ r. ⌜ r ≡ refusal-number refusal ⌝ }
 {
     match refusal {
         Refusal::NotSound => 11,
@@ -81,7 +64,7 @@ fn answer_woken(answer: Answer) -> u8
 
 // The number returned.
 pub fn returned(reply: Reply) -> u8
-    ensures { λ r. ⌜ r ≡ returnedOf reply ⌝ }
+    ensures { λ r. ⌜ r ≡ reply-returned reply ⌝ }
 {
     match reply {
         Reply::Begun => 0,
@@ -92,22 +75,11 @@ pub fn returned(reply: Reply) -> u8
 
 // With 1, how many threads a notify woke, else 0.
 pub fn woken(reply: Reply) -> u8
-    ensures { λ r. ⌜ r ≡ wokenOf reply ⌝ }
+    ensures { λ r. ⌜ r ≡ reply-woken reply ⌝ }
 {
     match reply {
         Reply::Begun => 0,
         Reply::Refused(_) => 0,
         Reply::Answered(answer) => answer_woken(answer),
-    }
-}
-
-// The table comes back as it was.
-pub fn refuse(table: Table, refusal: Refusal) -> Outcome
-    ensures { λ r. ⌜ r ≡ refuseOf table refusal ⌝ }
-{
-    Outcome {
-        table: table,
-        reply: Reply::Refused(refusal),
-        commits: false,
     }
 }

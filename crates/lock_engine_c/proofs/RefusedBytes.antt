@@ -9,19 +9,32 @@ use lib.Dec.{eqb, ltb}
 use Rattle.laws.specs.Choice.{pick, either}
 use Rattle.laws.proofs.Choice.{split, by-test, false≢true}
 use Rattle.laws.proofs.Sequence.{tabulate-length, tabulate-every}
-use Rattle.lock_rules.specs.Events.{Event, Begin, Step}
+use Rattle.lock_rules.specs.Numbers.{refusal-number}
+use Rattle.lock_rules.specs.Gate.{gate, event-thread}
+use Rattle.lock_rules.specs.declared.event.Event.{Event}
+use Rattle.lock_rules.specs.declared.event.Event.the-variants.{Begin, Step}
+use Rattle.lock_rules.specs.declared.event.Gate.{Gate}
+use Rattle.lock_rules.specs.declared.event.Gate.the-variants.{Open, Shut}
 use Rattle.lock_rules.specs.declared.Answer.{Answer}
 use Rattle.lock_rules.specs.declared.Answer.the-variants.{GoneOn, Finished, Parked, NotOwner, TooDeep, NoRule}
 use Rattle.lock_table.specs.Limits.{thread-limit, object-limit, depth-limit}
-use Rattle.lock_table.specs.Record.{noThread, noObject}
-use Rattle.lock_table.specs.Access.{objectAt, setThread}
+use Rattle.lock_table.specs.Record.{no-thread, no-object}
+use Rattle.lock_table.specs.Access.{thread-at, object-at, set-thread}
+use Rattle.lock_table.specs.Narrow.{narrow-of}
 use Rattle.lock_table.specs.Whole.{Whole}
 use Rattle.lock_table.specs.declared.record.ObjectRecord.{ObjectRecord}
 use Rattle.lock_table.specs.declared.record.Table.{Table}
-use Rattle.lock_engine.specs.Outcome.{refusalNumberOf, returnedOf, wokenOf}
-use Rattle.lock_engine.specs.Begin.{beginOf}
-use Rattle.lock_engine.specs.declared.outcome.Refusal.{Refusal}
-use Rattle.lock_engine.specs.declared.outcome.Refusal.the-variants.{
+use Rattle.lock_soundness.specs.Sound.{sound-of}
+use Rattle.lock_engine.specs.Outcome.{reply-returned, reply-woken}
+use Rattle.lock_engine.specs.Turn.{gate-turn, open-turn}
+use Rattle.lock_gate.specs.Status.{thread-status}
+use Rattle.lock_engine.specs.Handle.{outcome-of, waiters-of, trusted, handle-trusting, handle, begin}
+use Rattle.lock_engine.proofs.Refused.{refused-stays}
+use Rattle.lock_engine.proofs.Full.{full-thread}
+use Rattle.lock_engine.proofs.Narrow.{narrow-begin, narrow-step}
+use Rattle.lock_perform.specs.Perform.{stays, work-done}
+use Rattle.lock_rules.specs.declared.event.Refusal.{Refusal}
+use Rattle.lock_rules.specs.declared.event.Refusal.the-variants.{
   NotSound,
   NoSuchThread,
   NoSuchObject,
@@ -33,40 +46,55 @@ use Rattle.lock_engine.specs.declared.outcome.Refusal.the-variants.{
 use Rattle.lock_engine.specs.declared.outcome.Reply.{Reply}
 use Rattle.lock_engine.specs.declared.outcome.Reply.the-variants.{Begun, Refused, Answered}
 use Rattle.lock_engine.specs.declared.outcome.Outcome.{Outcome}
-use Rattle.lock_schedule.specs.Schedule.{eventOf}
-use Rattle.lock_refusals.specs.Demand.{returned, left-by, thread-of}
-use Rattle.lock_refusals.proofs.Theorem.{demand-one, begin-leaves}
+use Rattle.lock_refusals.specs.Demand.{returned, left-by}
+use Rattle.lock_refusals.proofs.Theorem.{demand-one}
 use Rattle.table_bytes.specs.Layout.{object-start}
-use Rattle.table_bytes.specs.Reading.{AreBytes, threadFrom, objectFrom, tableOf, isTable}
-use Rattle.table_bytes.specs.Writing.{bytesOf}
+use Rattle.table_bytes.specs.Reading.{AreBytes, thread-from, object-from, table-of, is-table}
+use Rattle.table_bytes.specs.Writing.{bytes-of, write-thread}
 use Rattle.table_bytes.proofs.Written.{kept-is, table-long}
 use Rattle.table_bytes.proofs.SameBytes.{bytes-back}
-use Rattle.table_bytes.proofs.IdledBytes.{idled-bytes}
-use Rattle.lock_engine_c.specs.Calls.{packedOf, returnedIn, outcomeAnswer, eventAnswer, eventBytes, leftBytes, RefusedLeaves, begunOn, steppedOn}
-use Rattle.lock_engine_c.specs.Calls.{answerChanges, replyChanges, storedOver, eventOver}
+use Rattle.table_bytes.proofs.SetRecords.{thread-written, object-written}
+use Rattle.lock_engine_c.proofs.FullTables.{read-full}
+use Rattle.lock_engine_c.specs.Calls.{packed-of, returned-in, outcome-answer, event-answer, event-bytes, left-bytes, RefusedLeaves, begun-on, stepped-on}
+use Rattle.lock_engine_c.specs.Calls.{answer-changes, reply-changes, event-number, event-turn, store-turn, event-over}
+
+-- a begin that is refused leaves the table
+begin-leaves : (table : Table) (thread operation object : ℕ) → let outcome = begin table thread operation object in
+    11 ≤ returned outcome → outcome .table ≡ table
+unfolding handle handle-trusting gate-turn open-turn reply-returned
+begin-leaves table thread operation object =
+    at (gate (trusted table (sound-of table)) (table .threadcount) (table .objectcount) (Begin operation thread object)
+    (thread-status (thread-at table thread .phase)))
+  where
+    at : (gated : Gate)
+        → let home = object-at table object in
+        let outcome = outcome-of table thread object (gate-turn gated (Begin operation thread object) (thread-at table thread) home (waiters-of table home)) in
+        11 ≤ returned outcome → outcome .table ≡ table
+    at Open high = absurd (omega (arith, high))
+    at (Shut refusal) high = ap (λ (outcome : Outcome). outcome .table) (refused-stays table thread object refusal)
 
 abbrev DepthFits : ObjectRecord → Type 0
 DepthFits object = object .monitor .depth ≤ depth-limit
 
 -- bytes say no depth above 16 bits
-read-whole : (bytes : List ℕ) → AreBytes bytes → Whole (tableOf bytes)
-unfolding objectAt
+pub read-whole : (bytes : List ℕ) → AreBytes bytes → Whole (table-of bytes)
+unfolding object-at
 read-whole bytes small =
-    let depth : (place : ℕ) → DepthFits (objectFrom bytes place) = λ place.
+    let depth : (place : ℕ) → DepthFits (object-from bytes place) = λ place.
     let low = small (object-start place + 6) in
-    let high = small (object-start place + 6 + 1) in omega (arith, low, high) in
+    let high = small (object-start place + 7) in omega (arith, low, high) in
     record {
-      threads = tabulate-length thread-limit (threadFrom bytes);
-      objects = tabulate-length object-limit (objectFrom bytes);
+      threads = tabulate-length thread-limit (thread-from bytes);
+      objects = tabulate-length object-limit (object-from bytes);
       depths = λ o.
           by-test DepthFits (eqb o 0) (λ none. omega arith)
           (λ some. by-test DepthFits (ltb object-limit o) (λ past. omega arith)
-          (λ inside. tabulate-every object-limit (objectFrom bytes) DepthFits depth noObject (omega arith) (o - 1)));
+          (λ inside. tabulate-every object-limit (object-from bytes) DepthFits depth no-object (omega arith) (o - 1)));
     }
 
 -- a reply that goes with no change is a refusal, and not 18 or 19; every number fits a byte
-refusal-numbers : (refusal : Refusal) → let number = refusalNumberOf refusal in (11 ≤ number) × (either (eqb number 18) (eqb number 19) ≡ false) × (number < 256)
-unfolding refusalNumberOf
+refusal-numbers : (refusal : Refusal) → let number = refusal-number refusal in (11 ≤ number) × (either (eqb number 18) (eqb number 19) ≡ false) × (number < 256)
+unfolding refusal-number
 refusal-numbers NotSound = (omega arith, refl, omega arith)
 refusal-numbers NoSuchThread = (omega arith, refl, omega arith)
 refusal-numbers NoSuchObject = (omega arith, refl, omega arith)
@@ -75,9 +103,9 @@ refusal-numbers ThreadIdle = (omega arith, refl, omega arith)
 refusal-numbers ThreadParked = (omega arith, refl, omega arith)
 refusal-numbers NoSuchOperation = (omega arith, refl, omega arith)
 
-unchanged-number : (reply : Reply) → replyChanges reply ≡ false
-    → let number = returnedOf reply in (11 ≤ number) × (either (eqb number 18) (eqb number 19) ≡ false)
-unfolding replyChanges answerChanges returnedOf
+unchanged-number : (reply : Reply) → reply-changes reply ≡ false
+    → let number = reply-returned reply in (11 ≤ number) × (either (eqb number 18) (eqb number 19) ≡ false)
+unfolding reply-changes answer-changes reply-returned
 unchanged-number Begun same = false≢true (sym same)
 unchanged-number (Refused refusal) same = let numbers = refusal-numbers refusal in (numbers .0, numbers .1)
 unchanged-number (Answered GoneOn) same = false≢true (sym same)
@@ -87,8 +115,14 @@ unchanged-number (Answered NotOwner) same = false≢true (sym same)
 unchanged-number (Answered TooDeep) same = false≢true (sym same)
 unchanged-number (Answered NoRule) same = (omega arith, refl)
 
-number-small : (reply : Reply) → returnedOf reply < 256
-unfolding returnedOf
+-- so a reply that goes with no change goes with the same table
+pub unchanged-same : (table : Table) → Whole table → (event : Event) → reply-changes (handle table event .reply) ≡ false → handle table event .table ≡ table
+unchanged-same table whole event unchanged =
+    let (refused, ordinary) = unchanged-number (handle table event .reply) unchanged in
+    rw ordinary at (demand-one table whole event .1 refused)
+
+number-small : (reply : Reply) → reply-returned reply < 256
+unfolding reply-returned
 number-small Begun = omega arith
 number-small (Refused refusal) = refusal-numbers refusal .2
 number-small (Answered GoneOn) = omega arith
@@ -98,71 +132,83 @@ number-small (Answered NotOwner) = omega arith
 number-small (Answered TooDeep) = omega arith
 number-small (Answered NoRule) = omega arith
 
-packed-number : (returned woken : ℕ) (commits : Bool) → returned < 256 → packedOf returned woken commits % 256 ≡ returned
-unfolding packedOf
+packed-number : (returned woken : ℕ) (commits : Bool) → returned < 256 → packed-of returned woken commits % 256 ≡ returned
+unfolding packed-of
 packed-number returned woken true small = omega (arith, small)
 packed-number returned woken false small = omega (arith, small)
 
-outcome-number : (outcome : Outcome) → returnedIn (outcomeAnswer outcome) ≡ returned outcome
-outcome-number outcome = packed-number (returned outcome) (wokenOf (outcome .reply)) (outcome .commits) (number-small (outcome .reply))
+outcome-number : (outcome : Outcome) → returned-in (outcome-answer outcome) ≡ returned outcome
+outcome-number outcome = packed-number (returned outcome) (reply-woken (outcome .reply)) (outcome .commits) (number-small (outcome .reply))
 
 module _ (bytes : List ℕ) (small : AreBytes bytes) where
   abbrev table : Table
-  table = tableOf bytes
+  table = table-of bytes
 
-  left : (event : Event) → let outcome = eventOf table event in 11 ≤ returned outcome → outcome .table ≡ left-by (returned outcome) table (thread-of event)
+  left : (event : Event) → let outcome = handle table event in 11 ≤ returned outcome → outcome .table ≡ left-by (returned outcome) table (event-thread event)
   left event refused = demand-one table (read-whole bytes small) event .1 refused
 
   -- what the code writes is what the contract says
-  pub event-stored : (event : Event) → let outcome = eventOf table event in eventOver (isTable bytes) bytes outcome ≡ eventBytes (isTable bytes) bytes outcome
-  unfolding storedOver
-  event-stored event =
-      let outcome = eventOf table event in
-      split (isTable bytes)
-      (λ known. rw known (split (replyChanges (outcome .reply))
-      (λ changed. rw changed (kept-is bytes (outcome .table) (table-long bytes known)))
-      (λ unchanged.
-      let (refused, ordinary) = unchanged-number (outcome .reply) unchanged in
-      let same : outcome .table ≡ table = rw ordinary at (left event refused) in
-      rw unchanged (sym (ap bytesOf same ∙ bytes-back bytes small known)))))
-      (λ unknown. rw unknown refl)
+  turn-stored : is-table bytes ≡ true → (event : Event)
+      → let turn = event-turn table event in
+      store-turn bytes table (event-thread event) (event-number table event) turn (reply-changes (turn .reply)) ≡ bytes-of (handle table event .table)
+  unfolding store-turn handle handle-trusting
+  turn-stored known event =
+      let turn = event-turn table event in
+      let number = event-number table event in
+      let own = thread-written bytes table (sym (bytes-back bytes small known)) (event-thread event) (read-full bytes .threads) (turn .own) in
+      let full = full-thread (event-thread event) (turn .own) (read-full bytes) in
+      split (reply-changes (turn .reply))
+      (λ changed. rw changed (split (stays (turn .work)) (λ stay. rw stay (object-written (write-thread bytes (event-thread event) (turn .own)) (set-thread table (event-thread event) (turn .own)) own number (full .objects) (turn .object)))
+      (λ work. rw work (kept-is bytes (work-done table (event-thread event) number (turn .own) (turn .object) (turn .work)) (table-long bytes known)))))
+      (λ unchanged. rw unchanged (sym (ap bytes-of (unchanged-same table (read-whole bytes small) event unchanged) ∙ bytes-back bytes small known)))
 
-  pub refused-left : (event : Event) → let outcome = eventOf table event in
-      RefusedLeaves bytes (thread-of event) (eventBytes (isTable bytes) bytes outcome) (eventAnswer (isTable bytes) outcome)
-  unfolding refusalNumberOf
+  pub event-stored : (event : Event) → event-over (is-table bytes) bytes table event ≡ event-bytes (is-table bytes) bytes (handle table event)
+  event-stored event = split (is-table bytes) (λ known. rw known (turn-stored known event)) (λ unknown. rw unknown refl)
+
+  pub refused-left : (event : Event) → let outcome = handle table event in
+      RefusedLeaves bytes (event-thread event) (event-bytes (is-table bytes) bytes outcome) (event-answer (is-table bytes) outcome)
+  unfolding refusal-number
   refused-left event =
-      let outcome = eventOf table event in
-      split (isTable bytes) (λ known. rw known (rw (outcome-number outcome) (λ refused. ap bytesOf (left event refused) ∙ kinds known (returned outcome)))) (λ unknown. rw unknown (λ refused. refl))
+      let outcome = handle table event in
+      split (is-table bytes) (λ known. rw known (rw (outcome-number outcome) (λ refused. ap bytes-of (left event refused) ∙ kinds known (returned outcome)))) (λ unknown. rw unknown (λ refused. refl))
     where
-      kinds : isTable bytes ≡ true → (number : ℕ) → bytesOf (left-by number table (thread-of event)) ≡ leftBytes number bytes (thread-of event)
+      kinds : is-table bytes ≡ true → (number : ℕ) → bytes-of (left-by number table (event-thread event)) ≡ left-bytes number bytes (event-thread event)
       kinds known number =
           split (either (eqb number 18) (eqb number 19))
-          (λ idle. rw idle (idled-bytes bytes small known (thread-of event)))
+          (λ idle. rw idle (sym (thread-written bytes table (sym (bytes-back bytes small known)) (event-thread event) (read-full bytes .threads) no-thread)))
           (λ other. rw other (bytes-back bytes small known))
 
   -- a begin is refused with neither 18 nor 19
-  pub begin-left : (thread operation object : ℕ) → let outcome = beginOf table thread operation object in
-      11 ≤ returnedIn (eventAnswer (isTable bytes) outcome) → eventBytes (isTable bytes) bytes outcome ≡ bytes
+  pub begin-left : (thread operation object : ℕ) → let outcome = begin table thread operation object in
+      11 ≤ returned-in (event-answer (is-table bytes) outcome) → event-bytes (is-table bytes) bytes outcome ≡ bytes
   begin-left thread operation object =
-      let outcome = beginOf table thread operation object in
-      split (isTable bytes)
+      let outcome = begin table thread operation object in
+      split (is-table bytes)
       (λ known. rw known (rw (outcome-number outcome)
-      (λ refused. ap bytesOf (begin-leaves table thread operation object refused) ∙ bytes-back bytes small known)))
+      (λ refused. ap bytes-of (begin-leaves table thread operation object refused) ∙ bytes-back bytes small known)))
       (λ unknown. rw unknown (λ refused. refl))
 
-  -- what the calls promise, from what their code answers and writes
-  pub begin-promised : (thread operation object answer : ℕ) (after : List ℕ) → let outcome = begunOn bytes thread operation object in
-      answer ≡ eventAnswer (isTable bytes) outcome → after ≡ eventOver (isTable bytes) bytes outcome
-      → (after ≡ eventBytes (isTable bytes) bytes outcome) × (11 ≤ returnedIn answer → after ≡ bytes)
+  -- what the calls promise, from what their code answers and writes of the numbers made narrow
+  pub begin-promised : (thread operation object answer : ℕ) (after : List ℕ)
+      → let narrowed = Begin (narrow-of operation) (narrow-of thread) (narrow-of object) in
+      let outcome = begun-on bytes thread operation object in
+      answer ≡ event-answer (is-table bytes) (handle table narrowed) → after ≡ event-over (is-table bytes) bytes table narrowed
+      → (after ≡ event-bytes (is-table bytes) bytes outcome) × (11 ≤ returned-in answer → after ≡ bytes)
   begin-promised thread operation object answer after answers stores =
-      let outcome = begunOn bytes thread operation object in
-      let written : after ≡ eventBytes (isTable bytes) bytes outcome = stores ∙ event-stored (Begin operation thread object) in
-      (written, rw (answers, written) (begin-left thread operation object))
+      let outcome = begun-on bytes thread operation object in
+      let same = narrow-begin table thread operation object in
+      let answered : answer ≡ event-answer (is-table bytes) outcome = answers ∙ ap (event-answer (is-table bytes)) same in
+      let written : after ≡ event-bytes (is-table bytes) bytes outcome =
+      stores ∙ event-stored (Begin (narrow-of operation) (narrow-of thread) (narrow-of object)) ∙ ap (event-bytes (is-table bytes) bytes) same in
+      (written, rw (answered, written) (begin-left thread operation object))
 
-  pub step-promised : (thread answer : ℕ) (after : List ℕ) → let outcome = steppedOn bytes thread in
-      answer ≡ eventAnswer (isTable bytes) outcome → after ≡ eventOver (isTable bytes) bytes outcome
-      → (after ≡ eventBytes (isTable bytes) bytes outcome) × RefusedLeaves bytes thread after answer
+  pub step-promised : (thread answer : ℕ) (after : List ℕ) → let outcome = stepped-on bytes thread in
+      answer ≡ event-answer (is-table bytes) (handle table (Step (narrow-of thread))) → after ≡ event-over (is-table bytes) bytes table (Step (narrow-of thread))
+      → (after ≡ event-bytes (is-table bytes) bytes outcome) × RefusedLeaves bytes thread after answer
   step-promised thread answer after answers stores =
-      let outcome = steppedOn bytes thread in
-      let written : after ≡ eventBytes (isTable bytes) bytes outcome = stores ∙ event-stored (Step thread) in
-      (written, rw (answers, written) (refused-left (Step thread)))
+      let outcome = stepped-on bytes thread in
+      let same = narrow-step table thread in
+      let answered : answer ≡ event-answer (is-table bytes) outcome = answers ∙ ap (event-answer (is-table bytes)) same in
+      let written : after ≡ event-bytes (is-table bytes) bytes outcome =
+      stores ∙ event-stored (Step (narrow-of thread)) ∙ ap (event-bytes (is-table bytes) bytes) same in
+      (written, rw (answered, written) (refused-left (Step thread)))

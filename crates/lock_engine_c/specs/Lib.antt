@@ -1,2 +1,3 @@
 -- What each call makes of the bytes of a table.
 pub mod Calls
+pub mod Run

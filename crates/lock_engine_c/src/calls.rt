@@ -1,41 +1,53 @@
 // The calls that change a table: a fresh one, a begin, a step. Each reads the bytes, asks the engine and writes what it gave back.
-use lock_engine::Outcome;
-use lock_engine::Refusal;
 use lock_engine::Reply;
-use lock_engine::begin;
+use lock_engine::Turn;
+use lock_engine::event_object;
+use lock_engine::event_thread;
 use lock_engine::refusal_number;
 use lock_engine::returned;
-use lock_engine::step;
+use lock_engine::take_turn;
 use lock_engine::woken;
+use lock_perform::length_from;
+use lock_perform::stays;
+use lock_perform::work_done;
 use lock_rules::Answer;
+use lock_rules::Event;
+use lock_rules::Refusal;
+use lock_soundness::sound;
 use lock_table::FreshAnswer;
 use lock_table::FreshTable;
+use lock_table::ObjectRecord;
+use lock_table::THREADS;
 use lock_table::Table;
+use lock_table::ThreadRecord;
 use lock_table::fresh;
 use lock_table::fresh_returned;
 use lock_table::narrow;
+use lock_table::object_at;
+use lock_table::thread_at;
 use table_bytes::TABLE_SIZE;
 use table_bytes::is_table;
 use table_bytes::read_table;
+use table_bytes::write_object;
 use table_bytes::write_table;
+use table_bytes::write_thread;
 ghost use mathlib.Core.Path.{_≡_};
 ghost use Prim.Native.Nat.{_≤_};
-ghost use Rattle.lock_engine.specs.Outcome.{first-refusal};
-ghost use Rattle.lock_engine.specs.Begin.{beginOf};
-ghost use Rattle.lock_engine.specs.Step.{stepOf};
+ghost use Rattle.lock_rules.specs.Numbers.{first-refusal};
+ghost use Rattle.lock_engine.specs.Handle.{turn-with, handle};
 ghost use Rattle.table_bytes.specs.Layout.{table-size};
-ghost use Rattle.table_bytes.specs.Reading.{isTable, tableOf};
-ghost use Rattle.table_bytes.specs.Writing.{keptOver};
-ghost use Rattle.lock_engine_c.specs.Calls.{packedOf, returnedIn, outcomeAnswer, eventAnswer, eventBytes, RefusedLeaves};
-ghost use Rattle.lock_engine_c.specs.Calls.{answerChanges, replyChanges, storedOver, eventOver};
-ghost use Rattle.lock_engine_c.specs.Calls.{begunOn, steppedOn, freshOn, has-size, madeOver, freshAnswer, freshBytes, freshOver};
+ghost use Rattle.table_bytes.specs.Reading.{is-table, table-of};
+ghost use Rattle.table_bytes.specs.Writing.{kept-over};
+ghost use Rattle.lock_engine_c.specs.Calls.{packed-of, returned-in, event-answer, event-bytes, RefusedLeaves};
+ghost use Rattle.lock_engine_c.specs.Calls.{answer-changes, reply-changes, stored-over, store-turn, event-over};
+ghost use Rattle.lock_engine_c.specs.Calls.{begun-on, stepped-on, fresh-on, has-size, keep-made, fresh-answer, fresh-bytes, fresh-if-sized};
 
 const WOKEN_UNIT: u32 = 256;
 
 const COMMITS_UNIT: u32 = 65536;
 
-fn packed(returned: u8, woken: u8, commits: bool) -> u32
-    ensures { λ r. ⌜ r ≡ packedOf returned woken commits ⌝ }
+pub(crate) fn packed(returned: u8, woken: u8, commits: bool) -> u32
+    ensures { λ r. ⌜ r ≡ packed-of returned woken commits ⌝ }
 {
     if commits {
         return (returned as u32) + (woken as u32) * WOKEN_UNIT + COMMITS_UNIT;
@@ -44,7 +56,7 @@ fn packed(returned: u8, woken: u8, commits: bool) -> u32
 }
 
 fn answer_changes(answer: Answer) -> bool
-    ensures { λ r. ⌜ r ≡ answerChanges answer ⌝ }
+    ensures { λ r. ⌜ r ≡ answer-changes answer ⌝ }
 {
     match answer {
         Answer::GoneOn => true,
@@ -56,8 +68,8 @@ fn answer_changes(answer: Answer) -> bool
     }
 }
 
-fn reply_changes(reply: Reply) -> bool
-    ensures { λ r. ⌜ r ≡ replyChanges reply ⌝ }
+pub(crate) fn reply_changes(reply: Reply) -> bool
+    ensures { λ r. ⌜ r ≡ reply-changes reply ⌝ }
 {
     match reply {
         Reply::Begun => true,
@@ -66,50 +78,81 @@ fn reply_changes(reply: Reply) -> bool
     }
 }
 
-// Nothing is stored where nothing changed, so that a refused event can be tried on memory that may only be read.
-fn store(bytes: &mut [u8], table: Table, changed: bool)
-    ensures { λ _. ⌜ now (bytes .exit) ≡ storedOver changed (now (bytes .entry)) table ⌝ }
+pub(crate) fn store(bytes: &mut [u8], table: Table, changed: bool)
+    ensures { λ _. ⌜ now (bytes .exit) ≡ stored-over changed (now (bytes .entry)) table ⌝ }
 {
     if changed {
         write_table(bytes, table);
     }
 }
 
-fn settle(bytes: &mut [u8], outcome: Outcome) -> u32
-    ensures { λ r. ⌜ r ≡ outcomeAnswer outcome ⌝ }
-    ensures { λ _. ⌜ now (bytes .exit) ≡ storedOver (replyChanges (outcome .reply)) (now (bytes .entry)) (outcome .table) ⌝ }
+// Nothing is stored where nothing changed, so that a refused event can be tried on memory that may only be read; and no more than the two records where
+// there is no work on the chains.
+fn store_turn(bytes: &mut [u8], table: Table, thread: u8, number: u8, turn: Turn, changed: bool)
+    ensures { λ _. ⌜ now (bytes .exit) ≡ store-turn (now (bytes .entry)) table thread number turn changed ⌝ }
 {
-    let table = outcome.table;
-    let reply = outcome.reply;
-    let changed = reply_changes(reply);
-    store(bytes, table, changed);
-    packed(returned(reply), woken(reply), outcome.commits)
-}
-
-fn begin_if_table(bytes: &mut [u8], thread: u8, operation: u8, object: u8, istable: bool) -> u32
-    ensures { λ r. ⌜ r ≡ eventAnswer istable (beginOf (tableOf (now (bytes .entry))) thread operation object) ⌝ }
-    ensures { λ _. ⌜ now (bytes .exit) ≡ eventOver istable (now (bytes .entry)) (beginOf (tableOf (now (bytes .entry))) thread operation object) ⌝ }
-{
-    if istable {
-        let table = read_table(bytes);
-        return settle(bytes, begin(table, thread, operation, object));
+    if changed {
+        let own = turn.own;
+        let object = turn.object;
+        let work = turn.work;
+        if stays(work) {
+            write_thread(bytes, thread, own);
+            write_object(bytes, number, object);
+            return;
+        }
+        write_table(bytes, work_done(table, thread, number, own, object, work));
     }
-    refusal_number(Refusal::NotSound) as u32
 }
 
-fn step_if_table(bytes: &mut [u8], thread: u8, istable: bool) -> u32
-    ensures { λ r. ⌜ r ≡ eventAnswer istable (stepOf (tableOf (now (bytes .entry))) thread) ⌝ }
-    ensures { λ _. ⌜ now (bytes .exit) ≡ eventOver istable (now (bytes .entry)) (stepOf (tableOf (now (bytes .entry))) thread) ⌝ }
+// What an event makes of the two records, of a table that is sound or not.
+pub(crate) fn turn_with(
+    table: Table,
+    event: Event,
+    issound: bool,
+    own: ThreadRecord,
+    object: ObjectRecord,
+) -> Turn
+    ensures { λ r. ⌜ r ≡ turn-with table event issound own object ⌝ }
+{
+    let mut waiters: u8 = 0;
+    if object.monitor.waiting != 0 {
+        waiters = length_from(table, object.monitor.waiting);
+    }
+    let trusted = issound & (table.threadcount <= THREADS);
+    take_turn(
+        trusted,
+        table.threadcount,
+        table.objectcount,
+        event,
+        own,
+        object,
+        waiters,
+    )
+}
+
+// On bytes that are a table, the event on the table that they say.
+fn handle_if_table(bytes: &mut [u8], event: Event, istable: bool) -> u32
+    ensures { λ r. ⌜ r ≡ event-answer istable (handle (table-of (now (bytes .entry))) event) ⌝ }
+    ensures { λ _. ⌜ now (bytes .exit) ≡ event-over istable (now (bytes .entry)) (table-of (now (bytes .entry))) event ⌝ }
 {
     if istable {
         let table = read_table(bytes);
-        return settle(bytes, step(table, thread));
+        let issound = sound(table);
+        let thread = event_thread(event);
+        let own = thread_at(table, thread);
+        let number = event_object(event, own.object);
+        let object = object_at(table, number);
+        let turn = turn_with(table, event, issound, own, object);
+        let reply = turn.reply;
+        let changed = reply_changes(reply);
+        store_turn(bytes, table, thread, number, turn, changed);
+        return packed(returned(reply), woken(reply), turn.commits);
     }
     refusal_number(Refusal::NotSound) as u32
 }
 
 fn keep_made(bytes: &mut [u8], answer: FreshAnswer, table: Table)
-    ensures { λ _. ⌜ now (bytes .exit) ≡ madeOver (now (bytes .entry)) answer table ⌝ }
+    ensures { λ _. ⌜ now (bytes .exit) ≡ keep-made (now (bytes .entry)) answer table ⌝ }
 {
     match answer {
         FreshAnswer::Made => write_table(bytes, table),
@@ -118,8 +161,8 @@ fn keep_made(bytes: &mut [u8], answer: FreshAnswer, table: Table)
 }
 
 fn fresh_if_sized(bytes: &mut [u8], made: FreshTable, fits: bool) -> u32
-    ensures { λ r. ⌜ r ≡ freshAnswer fits made ⌝ }
-    ensures { λ _. ⌜ now (bytes .exit) ≡ freshOver fits (now (bytes .entry)) made ⌝ }
+    ensures { λ r. ⌜ r ≡ fresh-answer fits made ⌝ }
+    ensures { λ _. ⌜ now (bytes .exit) ≡ fresh-if-sized fits (now (bytes .entry)) made ⌝ }
 {
     if fits {
         let answer = made.answer;
@@ -146,8 +189,8 @@ pub extern "C" fn duskclamp_fresh(
     objects: u32,
     reserved: u32,
 ) -> u32
-    ensures { λ r. ⌜ r ≡ freshAnswer (has-size (now (bytes .entry))) (freshOn threads objects reserved) ⌝ }
-    ensures { λ _. ⌜ now (bytes .exit) ≡ freshBytes (has-size (now (bytes .entry))) (now (bytes .entry)) (freshOn threads objects reserved) ⌝ }
+    ensures { λ r. ⌜ r ≡ fresh-answer (has-size (now (bytes .entry))) (fresh-on threads objects reserved) ⌝ }
+    ensures { λ _. ⌜ now (bytes .exit) ≡ fresh-bytes (has-size (now (bytes .entry))) (now (bytes .entry)) (fresh-on threads objects reserved) ⌝ }
 {
     let fits = bytes.len() == TABLE_SIZE;
     let made = fresh(
@@ -161,27 +204,29 @@ pub extern "C" fn duskclamp_fresh(
 // The thread begins the operation with this number on the object. Refused, it leaves every byte.
 #[no_mangle]
 pub extern "C" fn duskclamp_begin(bytes: &mut [u8], thread: u32, operation: u32, object: u32) -> u32
-    ensures { λ r. ⌜ r ≡ eventAnswer (isTable (now (bytes .entry))) (begunOn (now (bytes .entry)) thread operation object) ⌝ }
-    ensures { λ _. ⌜ now (bytes .exit) ≡ eventBytes (isTable (now (bytes .entry))) (now (bytes .entry)) (begunOn (now (bytes .entry)) thread operation object) ⌝ }
-    ensures { λ r. ⌜ (first-refusal ≤ returnedIn r → now (bytes .exit) ≡ now (bytes .entry)) ⌝ }
+    ensures { λ r. ⌜ r ≡ event-answer (is-table (now (bytes .entry))) (begun-on (now (bytes .entry)) thread operation object) ⌝ }
+    ensures { λ _. ⌜ now (bytes .exit) ≡ event-bytes (is-table (now (bytes .entry))) (now (bytes .entry)) (begun-on (now (bytes .entry)) thread operation object) ⌝ }
+    ensures { λ r. ⌜ (first-refusal ≤ returned-in r → now (bytes .exit) ≡ now (bytes .entry)) ⌝ }
 {
     let istable = is_table(bytes);
-    begin_if_table(
-        bytes,
-        narrow(thread),
-        narrow(operation),
-        narrow(object),
-        istable,
-    )
+    let event = Event::Begin {
+        operation: narrow(operation),
+        thread: narrow(thread),
+        object: narrow(object),
+    };
+    handle_if_table(bytes, event, istable)
 }
 
 // The thread takes one step. Refused, it leaves every byte; with 18 and 19, every byte but those of the thread's record.
 #[no_mangle]
 pub extern "C" fn duskclamp_step(bytes: &mut [u8], thread: u32) -> u32
-    ensures { λ r. ⌜ r ≡ eventAnswer (isTable (now (bytes .entry))) (steppedOn (now (bytes .entry)) thread) ⌝ }
-    ensures { λ _. ⌜ now (bytes .exit) ≡ eventBytes (isTable (now (bytes .entry))) (now (bytes .entry)) (steppedOn (now (bytes .entry)) thread) ⌝ }
+    ensures { λ r. ⌜ r ≡ event-answer (is-table (now (bytes .entry))) (stepped-on (now (bytes .entry)) thread) ⌝ }
+    ensures { λ _. ⌜ now (bytes .exit) ≡ event-bytes (is-table (now (bytes .entry))) (now (bytes .entry)) (stepped-on (now (bytes .entry)) thread) ⌝ }
     ensures { λ r. ⌜ RefusedLeaves (now (bytes .entry)) thread (now (bytes .exit)) r ⌝ }
 {
     let istable = is_table(bytes);
-    step_if_table(bytes, narrow(thread), istable)
+    let event = Event::Step {
+        thread: narrow(thread),
+    };
+    handle_if_table(bytes, event, istable)
 }

@@ -2,6 +2,7 @@
 // call asks anything of them: bytes that are no table are answered 11 and left as they are.
 mod calls;
 mod questions;
+mod running;
 
 pub use calls::duskclamp_begin;
 pub use calls::duskclamp_fresh;
@@ -28,3 +29,4 @@ pub use questions::duskclamp_thread_count;
 pub use questions::duskclamp_version;
 pub use questions::duskclamp_waiting_first;
 pub use questions::duskclamp_word;
+pub use running::duskclamp_run;

@@ -7,14 +7,14 @@ use table_questions::ask_thread;
 use table_questions::object_count;
 use table_questions::thread_count;
 ghost use mathlib.Core.Path.{_≡_};
-ghost use Rattle.table_questions.specs.Questions.{threadCountAnswer, objectCountAnswer, threadAnswer, objectAnswer};
+ghost use Rattle.table_questions.specs.Questions.{thread-count, object-count, ask-thread, ask-object};
 ghost use Rattle.table_bytes.specs.Layout.{layout-version};
 ghost use Rattle.lock_engine_c.specs.Calls.{version};
 ghost use Rattle.table_questions.specs.declared.asking.ThreadQuestion.the-variants.{OperationOf, ObjectOf, PhaseOf, OnwardOf, KeptOf, SavedOf, NextOf, BlockerOf};
 ghost use Rattle.table_questions.specs.declared.asking.ObjectQuestion.the-variants.{WordOf, OwnerOf, DepthOf, FlagOf, HolderOf, MonitorDepthOf};
 ghost use Rattle.table_questions.specs.declared.asking.ObjectQuestion.the-variants.{EntryOf, ContentionOf, WaitingOf};
 
-const VERSION: u32 = 512;
+const VERSION: u32 = 768;
 
 // The library's version: major, minor and patch number in a byte each, the patch number lowest.
 #[no_mangle]
@@ -35,7 +35,7 @@ pub extern "C" fn duskclamp_layout_version() -> u32
 // How many threads the table has.
 #[no_mangle]
 pub extern "C" fn duskclamp_thread_count(bytes: &[u8]) -> u64
-    ensures { λ r. ⌜ r ≡ threadCountAnswer (now (bytes .entry)) ⌝ }
+    ensures { λ r. ⌜ r ≡ thread-count (now (bytes .entry)) ⌝ }
 {
     thread_count(bytes)
 }
@@ -43,7 +43,7 @@ pub extern "C" fn duskclamp_thread_count(bytes: &[u8]) -> u64
 // How many objects the table has.
 #[no_mangle]
 pub extern "C" fn duskclamp_object_count(bytes: &[u8]) -> u64
-    ensures { λ r. ⌜ r ≡ objectCountAnswer (now (bytes .entry)) ⌝ }
+    ensures { λ r. ⌜ r ≡ object-count (now (bytes .entry)) ⌝ }
 {
     object_count(bytes)
 }
@@ -51,7 +51,7 @@ pub extern "C" fn duskclamp_object_count(bytes: &[u8]) -> u64
 // The thread's operation, 0 for idle.
 #[no_mangle]
 pub extern "C" fn duskclamp_operation(bytes: &[u8], thread: u32) -> u64
-    ensures { λ r. ⌜ r ≡ threadAnswer OperationOf (now (bytes .entry)) thread ⌝ }
+    ensures { λ r. ⌜ r ≡ ask-thread OperationOf (now (bytes .entry)) thread ⌝ }
 {
     ask_thread(ThreadQuestion::OperationOf, bytes, thread)
 }
@@ -59,7 +59,7 @@ pub extern "C" fn duskclamp_operation(bytes: &[u8], thread: u32) -> u64
 // The object that the thread is at, 0 for idle.
 #[no_mangle]
 pub extern "C" fn duskclamp_object(bytes: &[u8], thread: u32) -> u64
-    ensures { λ r. ⌜ r ≡ threadAnswer ObjectOf (now (bytes .entry)) thread ⌝ }
+    ensures { λ r. ⌜ r ≡ ask-thread ObjectOf (now (bytes .entry)) thread ⌝ }
 {
     ask_thread(ThreadQuestion::ObjectOf, bytes, thread)
 }
@@ -67,7 +67,7 @@ pub extern "C" fn duskclamp_object(bytes: &[u8], thread: u32) -> u64
 // The thread's phase.
 #[no_mangle]
 pub extern "C" fn duskclamp_phase(bytes: &[u8], thread: u32) -> u64
-    ensures { λ r. ⌜ r ≡ threadAnswer PhaseOf (now (bytes .entry)) thread ⌝ }
+    ensures { λ r. ⌜ r ≡ ask-thread PhaseOf (now (bytes .entry)) thread ⌝ }
 {
     ask_thread(ThreadQuestion::PhaseOf, bytes, thread)
 }
@@ -75,7 +75,7 @@ pub extern "C" fn duskclamp_phase(bytes: &[u8], thread: u32) -> u64
 // The phase that a queued thread goes on with, 0 for any other.
 #[no_mangle]
 pub extern "C" fn duskclamp_onward(bytes: &[u8], thread: u32) -> u64
-    ensures { λ r. ⌜ r ≡ threadAnswer OnwardOf (now (bytes .entry)) thread ⌝ }
+    ensures { λ r. ⌜ r ≡ ask-thread OnwardOf (now (bytes .entry)) thread ⌝ }
 {
     ask_thread(ThreadQuestion::OnwardOf, bytes, thread)
 }
@@ -83,7 +83,7 @@ pub extern "C" fn duskclamp_onward(bytes: &[u8], thread: u32) -> u64
 // The word that a thread in phase 2 is about to store with its count changed, 0 for any other.
 #[no_mangle]
 pub extern "C" fn duskclamp_kept(bytes: &[u8], thread: u32) -> u64
-    ensures { λ r. ⌜ r ≡ threadAnswer KeptOf (now (bytes .entry)) thread ⌝ }
+    ensures { λ r. ⌜ r ≡ ask-thread KeptOf (now (bytes .entry)) thread ⌝ }
 {
     ask_thread(ThreadQuestion::KeptOf, bytes, thread)
 }
@@ -91,7 +91,7 @@ pub extern "C" fn duskclamp_kept(bytes: &[u8], thread: u32) -> u64
 // The depth that a wait gave up, 0 for any other.
 #[no_mangle]
 pub extern "C" fn duskclamp_saved_depth(bytes: &[u8], thread: u32) -> u64
-    ensures { λ r. ⌜ r ≡ threadAnswer SavedOf (now (bytes .entry)) thread ⌝ }
+    ensures { λ r. ⌜ r ≡ ask-thread SavedOf (now (bytes .entry)) thread ⌝ }
 {
     ask_thread(ThreadQuestion::SavedOf, bytes, thread)
 }
@@ -99,7 +99,7 @@ pub extern "C" fn duskclamp_saved_depth(bytes: &[u8], thread: u32) -> u64
 // The thread behind this one in its chain, 0 for none.
 #[no_mangle]
 pub extern "C" fn duskclamp_next(bytes: &[u8], thread: u32) -> u64
-    ensures { λ r. ⌜ r ≡ threadAnswer NextOf (now (bytes .entry)) thread ⌝ }
+    ensures { λ r. ⌜ r ≡ ask-thread NextOf (now (bytes .entry)) thread ⌝ }
 {
     ask_thread(ThreadQuestion::NextOf, bytes, thread)
 }
@@ -107,7 +107,7 @@ pub extern "C" fn duskclamp_next(bytes: &[u8], thread: u32) -> u64
 // Who keeps the thread parked for entry.
 #[no_mangle]
 pub extern "C" fn duskclamp_blocker(bytes: &[u8], thread: u32) -> u64
-    ensures { λ r. ⌜ r ≡ threadAnswer BlockerOf (now (bytes .entry)) thread ⌝ }
+    ensures { λ r. ⌜ r ≡ ask-thread BlockerOf (now (bytes .entry)) thread ⌝ }
 {
     ask_thread(ThreadQuestion::BlockerOf, bytes, thread)
 }
@@ -115,7 +115,7 @@ pub extern "C" fn duskclamp_blocker(bytes: &[u8], thread: u32) -> u64
 // The object's lock word.
 #[no_mangle]
 pub extern "C" fn duskclamp_word(bytes: &[u8], object: u32) -> u64
-    ensures { λ r. ⌜ r ≡ objectAnswer WordOf (now (bytes .entry)) object ⌝ }
+    ensures { λ r. ⌜ r ≡ ask-object WordOf (now (bytes .entry)) object ⌝ }
 {
     ask_object(ObjectQuestion::WordOf, bytes, object)
 }
@@ -123,7 +123,7 @@ pub extern "C" fn duskclamp_word(bytes: &[u8], object: u32) -> u64
 // The thread that owns the object, 0 for nobody.
 #[no_mangle]
 pub extern "C" fn duskclamp_owner(bytes: &[u8], object: u32) -> u64
-    ensures { λ r. ⌜ r ≡ objectAnswer OwnerOf (now (bytes .entry)) object ⌝ }
+    ensures { λ r. ⌜ r ≡ ask-object OwnerOf (now (bytes .entry)) object ⌝ }
 {
     ask_object(ObjectQuestion::OwnerOf, bytes, object)
 }
@@ -131,7 +131,7 @@ pub extern "C" fn duskclamp_owner(bytes: &[u8], object: u32) -> u64
 // How deep the object is owned, 0 if nobody does.
 #[no_mangle]
 pub extern "C" fn duskclamp_depth(bytes: &[u8], object: u32) -> u64
-    ensures { λ r. ⌜ r ≡ objectAnswer DepthOf (now (bytes .entry)) object ⌝ }
+    ensures { λ r. ⌜ r ≡ ask-object DepthOf (now (bytes .entry)) object ⌝ }
 {
     ask_object(ObjectQuestion::DepthOf, bytes, object)
 }
@@ -139,7 +139,7 @@ pub extern "C" fn duskclamp_depth(bytes: &[u8], object: u32) -> u64
 // The object's contention flag.
 #[no_mangle]
 pub extern "C" fn duskclamp_flag(bytes: &[u8], object: u32) -> u64
-    ensures { λ r. ⌜ r ≡ objectAnswer FlagOf (now (bytes .entry)) object ⌝ }
+    ensures { λ r. ⌜ r ≡ ask-object FlagOf (now (bytes .entry)) object ⌝ }
 {
     ask_object(ObjectQuestion::FlagOf, bytes, object)
 }
@@ -147,7 +147,7 @@ pub extern "C" fn duskclamp_flag(bytes: &[u8], object: u32) -> u64
 // The holder of the object's monitor, 0 for nobody.
 #[no_mangle]
 pub extern "C" fn duskclamp_holder(bytes: &[u8], object: u32) -> u64
-    ensures { λ r. ⌜ r ≡ objectAnswer HolderOf (now (bytes .entry)) object ⌝ }
+    ensures { λ r. ⌜ r ≡ ask-object HolderOf (now (bytes .entry)) object ⌝ }
 {
     ask_object(ObjectQuestion::HolderOf, bytes, object)
 }
@@ -155,7 +155,7 @@ pub extern "C" fn duskclamp_holder(bytes: &[u8], object: u32) -> u64
 // The monitor's depth. It is the object's only where the word is fat.
 #[no_mangle]
 pub extern "C" fn duskclamp_monitor_depth(bytes: &[u8], object: u32) -> u64
-    ensures { λ r. ⌜ r ≡ objectAnswer MonitorDepthOf (now (bytes .entry)) object ⌝ }
+    ensures { λ r. ⌜ r ≡ ask-object MonitorDepthOf (now (bytes .entry)) object ⌝ }
 {
     ask_object(ObjectQuestion::MonitorDepthOf, bytes, object)
 }
@@ -163,7 +163,7 @@ pub extern "C" fn duskclamp_monitor_depth(bytes: &[u8], object: u32) -> u64
 // The first thread of the entry chain, 0 for none.
 #[no_mangle]
 pub extern "C" fn duskclamp_entry_first(bytes: &[u8], object: u32) -> u64
-    ensures { λ r. ⌜ r ≡ objectAnswer EntryOf (now (bytes .entry)) object ⌝ }
+    ensures { λ r. ⌜ r ≡ ask-object EntryOf (now (bytes .entry)) object ⌝ }
 {
     ask_object(ObjectQuestion::EntryOf, bytes, object)
 }
@@ -171,7 +171,7 @@ pub extern "C" fn duskclamp_entry_first(bytes: &[u8], object: u32) -> u64
 // The first thread of the contention chain, 0 for none.
 #[no_mangle]
 pub extern "C" fn duskclamp_contention_first(bytes: &[u8], object: u32) -> u64
-    ensures { λ r. ⌜ r ≡ objectAnswer ContentionOf (now (bytes .entry)) object ⌝ }
+    ensures { λ r. ⌜ r ≡ ask-object ContentionOf (now (bytes .entry)) object ⌝ }
 {
     ask_object(ObjectQuestion::ContentionOf, bytes, object)
 }
@@ -179,7 +179,7 @@ pub extern "C" fn duskclamp_contention_first(bytes: &[u8], object: u32) -> u64
 // The first thread of the waiting chain, 0 for none.
 #[no_mangle]
 pub extern "C" fn duskclamp_waiting_first(bytes: &[u8], object: u32) -> u64
-    ensures { λ r. ⌜ r ≡ objectAnswer WaitingOf (now (bytes .entry)) object ⌝ }
+    ensures { λ r. ⌜ r ≡ ask-object WaitingOf (now (bytes .entry)) object ⌝ }
 {
     ask_object(ObjectQuestion::WaitingOf, bytes, object)
 }

@@ -1,3 +1,5 @@
 -- The laws of performing.
 pub mod Lengths
-pub mod SentBack
+pub mod InPlace
+pub mod Staying
+pub mod Performed

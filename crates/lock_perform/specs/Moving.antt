@@ -1,107 +1,146 @@
--- What the chain actions of the rules do to the table's threads and to the monitor of the step's object (document 01, "Steps").
+-- What the work of a rule on chains does to the table's threads and to the monitor of the step's object (document 01, "Steps").
 use Prim.Native.Nat.{ℕ}
-use lib.Dec.{eqb}
+use lib.Dec.{eqb, ltb}
 use Rattle.laws.specs.Choice.{pick}
-use Rattle.lock_rules.specs.declared.ChainAction.{ChainAction}
-use Rattle.lock_rules.specs.declared.ChainAction.the-variants.{Stay, JoinEntry, Contend, GiveUp, HandOver, AdmitContenders, TellFirst}
-use Rattle.lock_rules.specs.declared.ChainAction.the-variants.{WakeFirst, WakeAll, SendBack}
+use Rattle.chains.specs.declared.named.Chain.{Chain}
+use Rattle.lock_rules.specs.declared.Taken.{Taken}
+use Rattle.lock_rules.specs.declared.Taken.the-variants.{First, All}
+use Rattle.lock_rules.specs.declared.ChainWork.{ChainWork}
+use Rattle.lock_rules.specs.declared.ChainWork.the-variants.{Stay, Join, JoinAndHand, Hand, Move, SendBack}
 use Rattle.lock_table.specs.Limits.{thread-limit}
-use Rattle.lock_table.specs.Access.{threadAt, setThread, nextOf}
-use Rattle.lock_table.specs.Monitor.{handOf, joinEntry, joinContention, joinWaiting, admitContenders, tellFirst, wakeFirst, wakeAll}
-use Rattle.lock_table.specs.Chain.{hangOf, handFirstOf, queueFirstOf, queueAllOf}
-use Rattle.lock_table.specs.declared.phase.Onward.the-variants.{ToCheck, ToResume}
+use Rattle.lock_table.specs.Record.{with-next}
+use Rattle.lock_table.specs.Access.{thread-at, set-thread}
+use Rattle.lock_table.specs.Monitor.{hand-of, first-in, with-first, join, move-to-entry}
+use Rattle.lock_table.specs.Chain.{hang, handed-of, moved, move-all}
+use Rattle.lock_table.specs.Narrow.{narrow-of}
 use Rattle.lock_table.specs.declared.phase.Phase.{Phase}
 use Rattle.lock_table.specs.declared.phase.Phase.the-variants.{Idle, Look, Store, Cancel, GoIn, Queued, Check, Try, Contending, Test, Tell, Leave, Inflate}
-use Rattle.lock_table.specs.declared.phase.Phase.the-variants.{GiveUp as GiveUpPhase, Waiting, Resume}
+use Rattle.lock_table.specs.declared.phase.Phase.the-variants.{GiveUp, Waiting, Resume}
 use Rattle.lock_table.specs.declared.record.ThreadRecord.{ThreadRecord}
-use Rattle.lock_perform.specs.declared.moving.Moved.{Moved}
-
--- hand: the first of the entry chain leaves it, becomes holder at depth 0 and takes its carried phase
-abbrev pub handOver : Moved → Moved
-handOver moved =
-    let handed = handOf (moved .monitor) (nextOf (moved .table) (moved .monitor .entry)) in
-    record { table = handFirstOf (moved .table) (handed .thread); monitor = handed .monitor }
-
--- a thread joins a chain at the end
-abbrev pub joinEntryOf : Moved → ℕ → Moved
-joinEntryOf moved thread = record { table = hangOf (moved .table) (moved .monitor .entry) thread; monitor = joinEntry (moved .monitor) thread }
-
-abbrev pub joinContentionOf : Moved → ℕ → Moved
-joinContentionOf moved thread = record { table = hangOf (moved .table) (moved .monitor .contention) thread; monitor = joinContention (moved .monitor) thread }
-
-abbrev pub joinWaitingOf : Moved → ℕ → Moved
-joinWaitingOf moved thread = record { table = hangOf (moved .table) (moved .monitor .waiting) thread; monitor = joinWaiting (moved .monitor) thread }
-
--- all contenders move in order to the entry chain, carrying 6; notify all: all waiters, carrying 15
-abbrev pub admitOf : Moved → Moved
-admitOf moved =
-    let first = moved .monitor .contention in
-    record {
-      table = hangOf (queueAllOf thread-limit (moved .table) first ToCheck) (moved .monitor .entry) first;
-      monitor = admitContenders (moved .monitor);
-    }
-
-abbrev pub wakeAllOf : Moved → Moved
-wakeAllOf moved =
-    let first = moved .monitor .waiting in
-    record { table = hangOf (queueAllOf thread-limit (moved .table) first ToResume) (moved .monitor .entry) first; monitor = wakeAll (moved .monitor) }
-
--- tell: the first contender goes to entry carrying 6; notify: the first waiter, carrying 15
-abbrev pub tellOf : Moved → Moved
-tellOf moved =
-    let told = tellFirst (moved .monitor) (nextOf (moved .table) (moved .monitor .contention)) in
-    record {
-      table = hangOf (queueFirstOf (moved .table) (told .thread) ToCheck) (moved .monitor .entry) (told .thread);
-      monitor = told .monitor;
-    }
-
-abbrev pub wakeFirstOf : Moved → Moved
-wakeFirstOf moved =
-    let woken = wakeFirst (moved .monitor) (nextOf (moved .table) (moved .monitor .waiting)) in
-    record {
-      table = hangOf (queueFirstOf (moved .table) (woken .thread) ToResume) (moved .monitor .entry) (woken .thread);
-      monitor = woken .monitor;
-    }
+use Rattle.lock_table.specs.declared.record.Monitor.{Monitor}
+use Rattle.lock_table.specs.declared.record.Table.{Table}
+use Rattle.lock_perform.specs.declared.moving.ChainPlan.{ChainPlan}
+use Rattle.lock_perform.specs.declared.moving.CarriedOut.{CarriedOut}
 
 -- cancel: the word's thread, if in phase 2 on this object, goes back to 1; its kept word falls out of use
-abbrev pub lookAgainOf : ThreadRecord → ThreadRecord
-lookAgainOf thread =
+abbrev pub look-again : ThreadRecord → ThreadRecord
+look-again thread =
     record { kept = 0; saved = thread .saved; object = thread .object; next = thread .next; operation = thread .operation; phase = Look }
 
-unfoldable pub backFrom : ThreadRecord → Phase → ThreadRecord
-backFrom thread Idle = thread
-backFrom thread Look = thread
-backFrom thread Store = lookAgainOf thread
-backFrom thread Cancel = thread
-backFrom thread GoIn = thread
-backFrom thread (Queued onward) = thread
-backFrom thread Check = thread
-backFrom thread Try = thread
-backFrom thread Contending = thread
-backFrom thread Test = thread
-backFrom thread Tell = thread
-backFrom thread Leave = thread
-backFrom thread Inflate = thread
-backFrom thread GiveUpPhase = thread
-backFrom thread Waiting = thread
-backFrom thread Resume = thread
+unfoldable pub back-from : ThreadRecord → Phase → ThreadRecord
+back-from thread Idle = thread
+back-from thread Look = thread
+back-from thread Store = look-again thread
+back-from thread Cancel = thread
+back-from thread GoIn = thread
+back-from thread (Queued onward) = thread
+back-from thread Check = thread
+back-from thread Try = thread
+back-from thread Contending = thread
+back-from thread Test = thread
+back-from thread Tell = thread
+back-from thread Leave = thread
+back-from thread Inflate = thread
+back-from thread GiveUp = thread
+back-from thread Waiting = thread
+back-from thread Resume = thread
 
-unfoldable pub sentBackOf : ℕ → ThreadRecord → ThreadRecord
-sentBackOf object thread = pick (eqb (thread .object) object) (backFrom thread (thread .phase)) thread
+unfoldable pub sent-back-of : ℕ → ThreadRecord → ThreadRecord
+sent-back-of object thread = pick (eqb (thread .object) object) (back-from thread (thread .phase)) thread
 
-abbrev pub sendBackOf : Moved → ℕ → ℕ → Moved
-sendBackOf moved object number =
-    record { table = setThread (moved .table) number (sentBackOf object (threadAt (moved .table) number)); monitor = moved .monitor }
+-- whose record the work changes, 0 for nobody's: who is handed the monitor, moves alone, or is sent back
+abbrev pub touched-by-move : Monitor → Chain → Taken → ℕ
+touched-by-move monitor from First = first-in monitor from
+touched-by-move monitor from All = 0
 
--- each chain action of the rules, by `thread` at `object`
-unfoldable pub actionOf : ChainAction → ℕ → ℕ → Moved → Moved
-actionOf Stay thread object moved = moved
-actionOf JoinEntry thread object moved = joinEntryOf moved thread
-actionOf Contend thread object moved = handOver (joinContentionOf moved thread)
-actionOf GiveUp thread object moved = handOver (joinWaitingOf moved thread)
-actionOf HandOver thread object moved = handOver moved
-actionOf AdmitContenders thread object moved = admitOf moved
-actionOf TellFirst thread object moved = tellOf moved
-actionOf WakeFirst thread object moved = wakeFirstOf moved
-actionOf WakeAll thread object moved = wakeAllOf moved
-actionOf (SendBack number) thread object moved = sendBackOf moved object number
+abbrev pub touched : ChainWork → Monitor → ℕ
+touched Stay monitor = 0
+touched (Join chain) monitor = 0
+touched (JoinAndHand chain) monitor = monitor .entry
+touched Hand monitor = monitor .entry
+touched (Move from which) monitor = touched-by-move monitor from which
+touched (SendBack owner) monitor = narrow-of owner
+
+-- the record changes, and nobody joins a chain
+abbrev pub unlinked : ThreadRecord → Monitor → ℕ → ChainPlan
+unlinked changed monitor handed = record { changed = changed; monitor = monitor; handed = handed; front = 0; back = 0 }
+
+-- `thread` joins a chain at the end
+abbrev pub joining : ThreadRecord → Monitor → ℕ → Chain → ℕ → ChainPlan
+joining changed monitor handed chain thread =
+    record {
+      changed = changed;
+      monitor = join monitor chain thread;
+      handed = handed;
+      front = first-in monitor chain;
+      back = thread;
+    }
+
+-- the first of a chain, or the whole of it, moves to the end of the entry chain; `left` is who its chain begins with then
+abbrev pub moving : ThreadRecord → Monitor → Chain → ℕ → ChainPlan
+moving changed monitor from left =
+    record {
+      changed = changed;
+      monitor = move-to-entry monitor from left;
+      handed = 0;
+      front = with-first monitor from left .entry;
+      back = first-in monitor from;
+    }
+
+-- What each work does, by `thread` at `object`; `before` is the record that it changes.
+-- hand: the first of the entry chain leaves it, becomes holder at depth 0 and takes its carried phase
+abbrev pub plan-hand : Monitor → ThreadRecord → ChainPlan
+plan-hand monitor before = let handed = hand-of monitor (before .next) in unlinked (handed-of before) (handed .monitor) (handed .thread)
+
+abbrev pub plan-join-and-hand : Monitor → ThreadRecord → Chain → ℕ → ChainPlan
+plan-join-and-hand monitor before chain thread =
+    let handed = hand-of monitor (before .next) in joining (handed-of before) (handed .monitor) (handed .thread) chain thread
+
+abbrev pub plan-move : Monitor → ThreadRecord → Chain → Taken → ChainPlan
+plan-move monitor before from First = moving (with-next (moved before) 0) monitor from (before .next)
+plan-move monitor before from All = moving before monitor from 0
+
+abbrev pub plan : ChainWork → Monitor → ℕ → ℕ → ThreadRecord → ChainPlan
+plan Stay monitor thread object before = unlinked before monitor 0
+plan (Join chain) monitor thread object before = joining before monitor 0 chain thread
+plan (JoinAndHand chain) monitor thread object before = plan-join-and-hand monitor before chain thread
+plan Hand monitor thread object before = plan-hand monitor before
+plan (Move from which) monitor thread object before = plan-move monitor before from which
+plan (SendBack owner) monitor thread object before = unlinked (sent-back-of object before) monitor 0
+
+-- what is read and written for a number: number 0 and numbers past the end have no record
+unfoldable pub if-record : ℕ → ThreadRecord → ThreadRecord → ThreadRecord
+if-record number there other = pick (eqb number 0) other (pick (ltb thread-limit number) other there)
+
+-- a table, and what of the plan goes with it
+abbrev pub carried-out : Table → ChainPlan → CarriedOut
+carried-out table planned = record { table = table; monitor = planned .monitor; handed = planned .handed }
+
+-- one record changed, and one chain hung behind another
+abbrev pub relink : Table → Monitor → ChainWork → ℕ → ℕ → CarriedOut
+relink table monitor work thread object =
+    let number = touched work monitor in
+    let planned = plan work monitor thread object (thread-at table number) in
+    carried-out (hang thread-limit (set-thread table number (planned .changed)) (planned .front) (planned .back)) planned
+
+-- the first of a chain that moves whole, 0 for none
+abbrev pub whole-move : Monitor → Chain → Taken → ℕ
+whole-move monitor from First = 0
+whole-move monitor from All = first-in monitor from
+
+abbrev pub moved-whole : ChainWork → Monitor → ℕ
+moved-whole Stay monitor = 0
+moved-whole (Join chain) monitor = 0
+moved-whole (JoinAndHand chain) monitor = 0
+moved-whole Hand monitor = 0
+moved-whole (Move from which) monitor = whole-move monitor from which
+moved-whole (SendBack owner) monitor = 0
+
+-- the threads of that chain changed first
+unfoldable pub after-whole : Table → ℕ → Monitor → ChainWork → ℕ → ℕ → CarriedOut
+after-whole table whole monitor work thread object =
+    pick (eqb whole 0) (relink table monitor work thread object) (relink (move-all thread-limit table whole) monitor work thread object)
+
+-- the work of `thread` at `object` carried out
+abbrev pub carry-out : Table → Monitor → ChainWork → ℕ → ℕ → CarriedOut
+carry-out table monitor work thread object = after-whole table (moved-whole work monitor) monitor work thread object

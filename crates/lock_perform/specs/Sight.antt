@@ -4,15 +4,15 @@ use lib.Dec.{eqb}
 use Rattle.chains.specs.Chain.{chain-length}
 use Rattle.lock_word.specs.declared.reading.LockWord.{LockWord}
 use Rattle.lock_word.specs.declared.meaning.WordSeen.{WordSeen}
-use Rattle.lock_word.specs.Meaning.{seenOf}
+use Rattle.lock_word.specs.Meaning.{seen-word}
 use Rattle.lock_rules.specs.declared.Sight.{Sight}
 use Rattle.lock_table.specs.Limits.{thread-limit}
-use Rattle.lock_table.specs.Access.{nextOf}
+use Rattle.lock_table.specs.Access.{next-of}
 use Rattle.lock_table.specs.declared.record.ObjectRecord.{ObjectRecord}
 use Rattle.lock_table.specs.declared.record.Table.{Table}
 
-abbrev pub sightWith : ObjectRecord → WordSeen → ℕ → Sight
-sightWith object word waiters =
+abbrev pub sight-with : ObjectRecord → WordSeen → ℕ → Sight
+sight-with object word waiters =
     record {
       word = word;
       flag = object .flag;
@@ -23,5 +23,5 @@ sightWith object word waiters =
       waiters = waiters;
     }
 
-abbrev pub sightOf : Table → ObjectRecord → LockWord → Sight
-sightOf table object word = sightWith object (seenOf word) (chain-length thread-limit (nextOf table) (object .monitor .waiting))
+abbrev pub sight-at : Table → ObjectRecord → LockWord → Sight
+sight-at table object word = sight-with object (seen-word word) (chain-length thread-limit (next-of table) (object .monitor .waiting))

@@ -1,8 +1,8 @@
 -- A thread's record read as what the thread is doing, and written: "fields of a thread that its phase does not use are 0".
 use Prim.Native.Nat.{ℕ}
-use Rattle.lock_word.specs.Read.{decodeOf}
-use Rattle.lock_word.specs.Meaning.{keptCountOf}
-use Rattle.lock_word.specs.Write.{reservedWord}
+use Rattle.lock_word.specs.Read.{read-word}
+use Rattle.lock_word.specs.Meaning.{kept-count}
+use Rattle.lock_word.specs.Write.{reserved-word}
 use Rattle.lock_rules.specs.declared.Suspension.{Suspension}
 use Rattle.lock_rules.specs.declared.Carried.{Carried}
 use Rattle.lock_rules.specs.declared.Carried.the-variants.{ToCheck, ToTell, ToInflate, ToResume}
@@ -22,102 +22,102 @@ use Rattle.lock_table.specs.declared.phase.Phase.the-variants.{Contending as Co
 use Rattle.lock_table.specs.declared.record.ThreadRecord.{ThreadRecord}
 
 -- the phases that several operations use; a phase that its operation does not use, which no sound table has, is read as idle
-unfoldable pub lookOf : Operation → ThreadState
-lookOf NoOperation = Idle
-lookOf Enter = Running EnterLook
-lookOf Exit = Running ExitLook
-lookOf Wait = Running WaitLook
-lookOf Notify = Running NotifyLook
-lookOf NotifyAll = Running NotifyAllLook
+unfoldable pub look-of : Operation → ThreadState
+look-of NoOperation = Idle
+look-of Enter = Running EnterLook
+look-of Exit = Running ExitLook
+look-of Wait = Running WaitLook
+look-of Notify = Running NotifyLook
+look-of NotifyAll = Running NotifyAllLook
 
-unfoldable pub storeOf : Operation → ℕ → ThreadState
-storeOf NoOperation count = Idle
-storeOf Enter count = Running (EnterStore count)
-storeOf Exit count = Running (ExitStore count)
-storeOf Wait count = Idle
-storeOf Notify count = Idle
-storeOf NotifyAll count = Idle
+unfoldable pub store-of : Operation → ℕ → ThreadState
+store-of NoOperation count = Idle
+store-of Enter count = Running (EnterStore count)
+store-of Exit count = Running (ExitStore count)
+store-of Wait count = Idle
+store-of Notify count = Idle
+store-of NotifyAll count = Idle
 
-unfoldable pub cancelOf : Operation → ThreadState
-cancelOf NoOperation = Idle
-cancelOf Enter = Running EnterCancel
-cancelOf Exit = Idle
-cancelOf Wait = Running WaitCancel
-cancelOf Notify = Idle
-cancelOf NotifyAll = Idle
+unfoldable pub cancel-of : Operation → ThreadState
+cancel-of NoOperation = Idle
+cancel-of Enter = Running EnterCancel
+cancel-of Exit = Idle
+cancel-of Wait = Running WaitCancel
+cancel-of Notify = Idle
+cancel-of NotifyAll = Idle
 
-unfoldable pub goInOf : Operation → ThreadState
-goInOf NoOperation = Idle
-goInOf Enter = Running EnterGoIn
-goInOf Exit = Running ExitGoIn
-goInOf Wait = Running WaitGoIn
-goInOf Notify = Idle
-goInOf NotifyAll = Idle
+unfoldable pub go-in-of : Operation → ThreadState
+go-in-of NoOperation = Idle
+go-in-of Enter = Running EnterGoIn
+go-in-of Exit = Running ExitGoIn
+go-in-of Wait = Running WaitGoIn
+go-in-of Notify = Idle
+go-in-of NotifyAll = Idle
 
 -- a queued thread carries the phase it goes on with, and for 15 what it saved
-unfoldable pub carriedOf : Onward → Suspension → Carried
-carriedOf OnToCheck suspension = ToCheck
-carriedOf OnToTell suspension = ToTell
-carriedOf OnToInflate suspension = ToInflate
-carriedOf OnToResume suspension = ToResume suspension
+unfoldable pub carried-of : Onward → Suspension → Carried
+carried-of OnToCheck suspension = ToCheck
+carried-of OnToTell suspension = ToTell
+carried-of OnToInflate suspension = ToInflate
+carried-of OnToResume suspension = ToResume suspension
 
-unfoldable pub stateBy : Phase → Operation → ℕ → Suspension → ThreadState
-stateBy IdlePhase operation count suspension = Idle
-stateBy Look operation count suspension = lookOf operation
-stateBy Store operation count suspension = storeOf operation count
-stateBy Cancel operation count suspension = cancelOf operation
-stateBy GoIn operation count suspension = goInOf operation
-stateBy (QueuedPhase onward) operation count suspension = Queued (carriedOf onward suspension)
-stateBy Check operation count suspension = Running EnterCheck
-stateBy Try operation count suspension = Running EnterTry
-stateBy ContendingPhase operation count suspension = Contending
-stateBy Test operation count suspension = Running ExitTest
-stateBy Tell operation count suspension = Running ExitTell
-stateBy Leave operation count suspension = Running ExitLeave
-stateBy Inflate operation count suspension = Running WaitInflate
-stateBy GiveUp operation count suspension = Running WaitGiveUp
-stateBy WaitingPhase operation count suspension = Waiting suspension
-stateBy Resume operation count suspension = Running (WaitResume suspension)
+unfoldable pub state-by : Phase → Operation → ℕ → Suspension → ThreadState
+state-by IdlePhase operation count suspension = Idle
+state-by Look operation count suspension = look-of operation
+state-by Store operation count suspension = store-of operation count
+state-by Cancel operation count suspension = cancel-of operation
+state-by GoIn operation count suspension = go-in-of operation
+state-by (QueuedPhase onward) operation count suspension = Queued (carried-of onward suspension)
+state-by Check operation count suspension = Running EnterCheck
+state-by Try operation count suspension = Running EnterTry
+state-by ContendingPhase operation count suspension = Contending
+state-by Test operation count suspension = Running ExitTest
+state-by Tell operation count suspension = Running ExitTell
+state-by Leave operation count suspension = Running ExitLeave
+state-by Inflate operation count suspension = Running WaitInflate
+state-by GiveUp operation count suspension = Running WaitGiveUp
+state-by WaitingPhase operation count suspension = Waiting suspension
+state-by Resume operation count suspension = Running (WaitResume suspension)
 
-abbrev pub stateOf : ThreadRecord → ThreadState
-stateOf thread = stateBy (thread .phase) (thread .operation) (keptCountOf (decodeOf (thread .kept))) (record { depth = thread .saved })
+abbrev pub read-thread : ThreadRecord → ThreadState
+read-thread thread = state-by (thread .phase) (thread .operation) (kept-count (read-word (thread .kept))) (record { depth = thread .saved })
 
-abbrev pub threadWith : Operation → ℕ → Phase → ℕ → ℕ → ℕ → ThreadRecord
-threadWith operation object phase kept saved next =
+abbrev pub with-fields : Operation → ℕ → Phase → ℕ → ℕ → ℕ → ThreadRecord
+with-fields operation object phase kept saved next =
     record { kept = kept; saved = saved; object = object; next = next; operation = operation; phase = phase }
 
 -- a thread that is doing this at an object: the kept word is its own reserved word with the count it read
-unfoldable pub doingRecordOf : ℕ → ℕ → Doing → ℕ → ThreadRecord
-doingRecordOf number object EnterLook next = threadWith Enter object Look 0 0 next
-doingRecordOf number object (EnterStore count) next = threadWith Enter object Store (reservedWord number count) 0 next
-doingRecordOf number object EnterCancel next = threadWith Enter object Cancel 0 0 next
-doingRecordOf number object EnterGoIn next = threadWith Enter object GoIn 0 0 next
-doingRecordOf number object EnterCheck next = threadWith Enter object Check 0 0 next
-doingRecordOf number object EnterTry next = threadWith Enter object Try 0 0 next
-doingRecordOf number object ExitLook next = threadWith Exit object Look 0 0 next
-doingRecordOf number object (ExitStore count) next = threadWith Exit object Store (reservedWord number count) 0 next
-doingRecordOf number object ExitGoIn next = threadWith Exit object GoIn 0 0 next
-doingRecordOf number object ExitTest next = threadWith Exit object Test 0 0 next
-doingRecordOf number object ExitTell next = threadWith Exit object Tell 0 0 next
-doingRecordOf number object ExitLeave next = threadWith Exit object Leave 0 0 next
-doingRecordOf number object WaitLook next = threadWith Wait object Look 0 0 next
-doingRecordOf number object WaitCancel next = threadWith Wait object Cancel 0 0 next
-doingRecordOf number object WaitGoIn next = threadWith Wait object GoIn 0 0 next
-doingRecordOf number object WaitInflate next = threadWith Wait object Inflate 0 0 next
-doingRecordOf number object WaitGiveUp next = threadWith Wait object GiveUp 0 0 next
-doingRecordOf number object (WaitResume suspension) next = threadWith Wait object Resume 0 (suspension .depth) next
-doingRecordOf number object NotifyLook next = threadWith Notify object Look 0 0 next
-doingRecordOf number object NotifyAllLook next = threadWith NotifyAll object Look 0 0 next
+unfoldable pub doing-record : ℕ → ℕ → Doing → ℕ → ThreadRecord
+doing-record number object EnterLook next = with-fields Enter object Look 0 0 next
+doing-record number object (EnterStore count) next = with-fields Enter object Store (reserved-word number count) 0 next
+doing-record number object EnterCancel next = with-fields Enter object Cancel 0 0 next
+doing-record number object EnterGoIn next = with-fields Enter object GoIn 0 0 next
+doing-record number object EnterCheck next = with-fields Enter object Check 0 0 next
+doing-record number object EnterTry next = with-fields Enter object Try 0 0 next
+doing-record number object ExitLook next = with-fields Exit object Look 0 0 next
+doing-record number object (ExitStore count) next = with-fields Exit object Store (reserved-word number count) 0 next
+doing-record number object ExitGoIn next = with-fields Exit object GoIn 0 0 next
+doing-record number object ExitTest next = with-fields Exit object Test 0 0 next
+doing-record number object ExitTell next = with-fields Exit object Tell 0 0 next
+doing-record number object ExitLeave next = with-fields Exit object Leave 0 0 next
+doing-record number object WaitLook next = with-fields Wait object Look 0 0 next
+doing-record number object WaitCancel next = with-fields Wait object Cancel 0 0 next
+doing-record number object WaitGoIn next = with-fields Wait object GoIn 0 0 next
+doing-record number object WaitInflate next = with-fields Wait object Inflate 0 0 next
+doing-record number object WaitGiveUp next = with-fields Wait object GiveUp 0 0 next
+doing-record number object (WaitResume suspension) next = with-fields Wait object Resume 0 (suspension .depth) next
+doing-record number object NotifyLook next = with-fields Notify object Look 0 0 next
+doing-record number object NotifyAllLook next = with-fields NotifyAll object Look 0 0 next
 
-unfoldable pub carriedRecordOf : ℕ → Carried → ℕ → ThreadRecord
-carriedRecordOf object ToCheck next = threadWith Enter object (QueuedPhase OnToCheck) 0 0 next
-carriedRecordOf object ToTell next = threadWith Exit object (QueuedPhase OnToTell) 0 0 next
-carriedRecordOf object ToInflate next = threadWith Wait object (QueuedPhase OnToInflate) 0 0 next
-carriedRecordOf object (ToResume suspension) next = threadWith Wait object (QueuedPhase OnToResume) 0 (suspension .depth) next
+unfoldable pub carried-record : ℕ → Carried → ℕ → ThreadRecord
+carried-record object ToCheck next = with-fields Enter object (QueuedPhase OnToCheck) 0 0 next
+carried-record object ToTell next = with-fields Exit object (QueuedPhase OnToTell) 0 0 next
+carried-record object ToInflate next = with-fields Wait object (QueuedPhase OnToInflate) 0 0 next
+carried-record object (ToResume suspension) next = with-fields Wait object (QueuedPhase OnToResume) 0 (suspension .depth) next
 
-unfoldable pub recordOf : ℕ → ℕ → ThreadState → ℕ → ThreadRecord
-recordOf number object Idle next = threadWith NoOperation 0 IdlePhase 0 0 next
-recordOf number object (Running doing) next = doingRecordOf number object doing next
-recordOf number object (Queued carried) next = carriedRecordOf object carried next
-recordOf number object Contending next = threadWith Enter object ContendingPhase 0 0 next
-recordOf number object (Waiting suspension) next = threadWith Wait object WaitingPhase 0 (suspension .depth) next
+unfoldable pub write-thread : ℕ → ℕ → ThreadState → ℕ → ThreadRecord
+write-thread number object Idle next = with-fields NoOperation 0 IdlePhase 0 0 next
+write-thread number object (Running doing) next = doing-record number object doing next
+write-thread number object (Queued carried) next = carried-record object carried next
+write-thread number object Contending next = with-fields Enter object ContendingPhase 0 0 next
+write-thread number object (Waiting suspension) next = with-fields Wait object WaitingPhase 0 (suspension .depth) next

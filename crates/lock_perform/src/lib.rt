@@ -5,8 +5,13 @@ mod performing;
 mod sighting;
 mod state;
 
-pub use moving::Moved;
-pub use performing::perform;
-pub use sighting::sight;
+pub use moving::CarriedOut;
+pub use moving::ChainPlan;
+pub use moving::carry_out;
+pub use performing::object_after;
+pub use performing::stays;
+pub use performing::work_done;
+pub use sighting::length_from;
+pub use sighting::sight_with;
 pub use state::read_thread;
 pub use state::write_thread;

@@ -1,22 +1,21 @@
-// An effect carried out: the chains, the thread's record, and the object's word, flag and monitor.
-use crate::moving::Moved;
-use crate::moving::act_on_chains;
-use crate::state::write_thread;
+// What an effect does to the two records that it is about, and how they and its work on the chains go into the table.
+use crate::moving::carry_out;
+use lock_rules::ChainWork;
 use lock_rules::Effect;
-use lock_rules::ThreadState;
 use lock_rules::WordChange;
 use lock_table::Monitor;
 use lock_table::ObjectRecord;
 use lock_table::Table;
+use lock_table::ThreadRecord;
 use lock_table::set_object;
 use lock_table::set_thread;
 use lock_table::thread_at;
 use lock_word::Depth;
 ghost use mathlib.Core.Path.{_≡_};
-ghost use Rattle.lock_perform.specs.Perform.{wordAfter, begunMonitor, writeBack, performOf};
+ghost use Rattle.lock_perform.specs.Perform.{word-after, begun-monitor, object-after, stays, work-done};
 
 fn word_after(thread: u8, object: u8, word: u32, change: WordChange) -> u32
-    ensures { λ r. ⌜ r ≡ wordAfter thread object word change ⌝ }
+    ensures { λ r. ⌜ r ≡ word-after thread object word change ⌝ }
 {
     match change {
         WordChange::Unchanged => word,
@@ -30,52 +29,53 @@ fn word_after(thread: u8, object: u8, word: u32, change: WordChange) -> u32
 
 // The monitor that the chain action begins with.
 fn begun_monitor(monitor: Monitor, holder: u8, depth: Depth) -> Monitor
-    ensures { λ r. ⌜ r ≡ begunMonitor monitor holder depth ⌝ }
+    ensures { λ r. ⌜ r ≡ begun-monitor monitor holder depth ⌝ }
 {
     monitor.held_by(holder).with_depth(depth)
 }
 
-fn write_back(
-    moved: Moved,
-    thread: u8,
-    object: u8,
-    state: ThreadState,
-    word: u32,
-    flag: bool,
-) -> Table
-    ensures { λ r. ⌜ r ≡ writeBack moved thread object state word flag ⌝ }
+// The object's record after an effect, its chains as they were.
+pub fn object_after(thread: u8, number: u8, object: ObjectRecord, effect: Effect) -> ObjectRecord
+    ensures { λ r. ⌜ r ≡ object-after thread number object effect ⌝ }
 {
-    let table = moved.table;
-    let monitor = moved.monitor;
-    let before = thread_at(table, thread);
-    let after = ObjectRecord {
-        word: word,
-        monitor: monitor,
-        flag: flag,
-    };
-    let own = write_thread(thread, object, state, before.next);
-    let written = set_thread(table, thread, own);
-    set_object(written, object, after)
+    let change = effect.word;
+    ObjectRecord {
+        word: word_after(thread, number, object.word, change),
+        monitor: begun_monitor(object.monitor, effect.holder, effect.depth),
+        flag: effect.flag,
+    }
 }
 
-// The table after an effect of `thread` at the object with this number and record.
-pub fn perform(table: Table, thread: u8, number: u8, object: ObjectRecord, effect: Effect) -> Table
-    ensures { λ r. ⌜ r ≡ performOf table thread number object effect ⌝ }
+// Whether an effect leaves the chains alone.
+pub fn stays(work: ChainWork) -> bool
+    ensures { λ r. ⌜ r ≡ stays work ⌝ }
 {
-    let chains = effect.chains;
-    let state = effect.state;
-    let change = effect.word;
-    let begun = Moved {
-        table: table,
-        monitor: begun_monitor(object.monitor, effect.holder, effect.depth),
-    };
-    let moved = act_on_chains(chains, thread, number, begun);
-    write_back(
-        moved,
-        thread,
-        number,
-        state,
-        word_after(thread, number, object.word, change),
-        effect.flag,
-    )
+    match work {
+        ChainWork::Stay => true,
+        ChainWork::Join(_) => false,
+        ChainWork::JoinAndHand(_) => false,
+        ChainWork::Hand => false,
+        ChainWork::Move(_, _) => false,
+        ChainWork::SendBack(_) => false,
+    }
+}
+
+// The work on the chains done, then both records written: the thread's with the next index and the object's with the chains that the work gave.
+pub fn work_done(
+    table: Table,
+    thread: u8,
+    number: u8,
+    own: ThreadRecord,
+    object: ObjectRecord,
+    work: ChainWork,
+) -> Table
+    ensures { λ r. ⌜ r ≡ work-done table thread number own object work ⌝ }
+{
+    let start = object.monitor;
+    let carried = carry_out(table, start, work, thread, number);
+    let changed = carried.table;
+    let monitor = carried.monitor;
+    let before = thread_at(changed, thread);
+    let written = set_thread(changed, thread, own.with_next(before.next));
+    set_object(written, number, object.with_monitor(monitor))
 }

@@ -3,17 +3,15 @@ use lock_rules::Sight;
 use lock_table::ObjectRecord;
 use lock_table::THREADS;
 use lock_table::Table;
-use lock_word::LockWord;
 use lock_word::WordSeen;
-use lock_word::seen_word;
 ghost use mathlib.Core.Path.{_≡_};
 ghost use Rattle.chains.specs.Chain.{chain-length};
-ghost use Rattle.lock_table.specs.Access.{nextOf};
-ghost use Rattle.lock_perform.specs.Sight.{sightWith, sightOf};
+ghost use Rattle.lock_table.specs.Access.{next-of};
+ghost use Rattle.lock_perform.specs.Sight.{sight-with};
 
 // How many threads are in the chain from `first` on.
-fn length_from(table: Table, first: u8) -> u8
-    ensures { λ r. ⌜ r ≡ chain-length 32 (nextOf table) first ⌝ }
+pub fn length_from(table: Table, first: u8) -> u8
+    ensures { λ r. ⌜ r ≡ chain-length 32 (next-of table) first ⌝ }
 {
     let mut at = first;
     let mut passed: u8 = 0;
@@ -34,8 +32,8 @@ fn length_from(table: Table, first: u8) -> u8
     passed
 }
 
-fn sight_with(object: ObjectRecord, word: WordSeen, waiters: u8) -> Sight
-    ensures { λ r. ⌜ r ≡ sightWith object word waiters ⌝ }
+pub fn sight_with(object: ObjectRecord, word: WordSeen, waiters: u8) -> Sight
+    ensures { λ r. ⌜ r ≡ sight-with object word waiters ⌝ }
 {
     Sight {
         word: word,
@@ -46,14 +44,4 @@ fn sight_with(object: ObjectRecord, word: WordSeen, waiters: u8) -> Sight
         contentionempty: object.monitor.contention == 0,
         waiters: waiters,
     }
-}
-
-pub fn sight(table: Table, object: ObjectRecord, word: LockWord) -> Sight
-    ensures { λ r. ⌜ r ≡ sightOf table object word ⌝ }
-{
-    sight_with(
-        object,
-        seen_word(word),
-        length_from(table, object.monitor.waiting),
-    )
 }

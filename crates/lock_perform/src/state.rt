@@ -9,10 +9,10 @@ use lock_table::Phase;
 use lock_table::ThreadRecord;
 use lock_word::Depth;
 ghost use mathlib.Core.Path.{_≡_};
-ghost use Rattle.lock_perform.specs.State.{lookOf, storeOf, cancelOf, goInOf, carriedOf, stateBy, stateOf, threadWith, doingRecordOf, carriedRecordOf, recordOf};
+ghost use Rattle.lock_perform.specs.State.{look-of, store-of, cancel-of, go-in-of, carried-of, state-by, read-thread, with-fields, doing-record, carried-record, write-thread};
 
 fn look(operation: Operation) -> ThreadState
-    ensures { λ r. ⌜ r ≡ lookOf operation ⌝ }
+    ensures { λ r. ⌜ r ≡ look-of operation ⌝ }
 {
     match operation {
         Operation::Idle => ThreadState::Idle,
@@ -25,7 +25,7 @@ fn look(operation: Operation) -> ThreadState
 }
 
 fn store(operation: Operation, count: u8) -> ThreadState
-    ensures { λ r. ⌜ r ≡ storeOf operation count ⌝ }
+    ensures { λ r. ⌜ r ≡ store-of operation count ⌝ }
 {
     match operation {
         Operation::Idle => ThreadState::Idle,
@@ -38,7 +38,7 @@ fn store(operation: Operation, count: u8) -> ThreadState
 }
 
 fn cancel(operation: Operation) -> ThreadState
-    ensures { λ r. ⌜ r ≡ cancelOf operation ⌝ }
+    ensures { λ r. ⌜ r ≡ cancel-of operation ⌝ }
 {
     match operation {
         Operation::Idle => ThreadState::Idle,
@@ -51,7 +51,7 @@ fn cancel(operation: Operation) -> ThreadState
 }
 
 fn go_in(operation: Operation) -> ThreadState
-    ensures { λ r. ⌜ r ≡ goInOf operation ⌝ }
+    ensures { λ r. ⌜ r ≡ go-in-of operation ⌝ }
 {
     match operation {
         Operation::Idle => ThreadState::Idle,
@@ -64,7 +64,7 @@ fn go_in(operation: Operation) -> ThreadState
 }
 
 fn carried(onward: Onward, suspension: Suspension) -> Carried
-    ensures { λ r. ⌜ r ≡ carriedOf onward suspension ⌝ }
+    ensures { λ r. ⌜ r ≡ carried-of onward suspension ⌝ }
 {
     match onward {
         Onward::ToCheck => Carried::ToCheck,
@@ -75,7 +75,7 @@ fn carried(onward: Onward, suspension: Suspension) -> Carried
 }
 
 fn state(phase: Phase, operation: Operation, count: u8, suspension: Suspension) -> ThreadState
-    ensures { λ r. ⌜ r ≡ stateBy phase operation count suspension ⌝ }
+    ensures { λ r. ⌜ r ≡ state-by phase operation count suspension ⌝ }
 {
     match phase {
         Phase::Idle => ThreadState::Idle,
@@ -99,7 +99,7 @@ fn state(phase: Phase, operation: Operation, count: u8, suspension: Suspension) 
 
 // What a thread is doing, by its record.
 pub fn read_thread(thread: ThreadRecord) -> ThreadState
-    ensures { λ r. ⌜ r ≡ stateOf thread ⌝ }
+    ensures { λ r. ⌜ r ≡ read-thread thread ⌝ }
 {
     let phase = thread.phase;
     let operation = thread.operation;
@@ -122,7 +122,7 @@ fn with_fields(
     saved: Depth,
     next: u8,
 ) -> ThreadRecord
-    ensures { λ r. ⌜ r ≡ threadWith operation object phase kept saved next ⌝ }
+    ensures { λ r. ⌜ r ≡ with-fields operation object phase kept saved next ⌝ }
 {
     ThreadRecord {
         kept: kept,
@@ -135,7 +135,7 @@ fn with_fields(
 }
 
 fn doing_record(number: u8, object: u8, doing: Doing, next: u8) -> ThreadRecord
-    ensures { λ r. ⌜ r ≡ doingRecordOf number object doing next ⌝ }
+    ensures { λ r. ⌜ r ≡ doing-record number object doing next ⌝ }
 {
     match doing {
         Doing::EnterLook => with_fields(Operation::Enter, object, Phase::Look, 0, 0, next),
@@ -187,7 +187,7 @@ fn doing_record(number: u8, object: u8, doing: Doing, next: u8) -> ThreadRecord
 }
 
 fn carried_record(object: u8, carried: Carried, next: u8) -> ThreadRecord
-    ensures { λ r. ⌜ r ≡ carriedRecordOf object carried next ⌝ }
+    ensures { λ r. ⌜ r ≡ carried-record object carried next ⌝ }
 {
     match carried {
         Carried::ToCheck => with_fields(
@@ -229,7 +229,7 @@ fn carried_record(object: u8, carried: Carried, next: u8) -> ThreadRecord
 
 // The record of thread `number`, which is at `object` in this state.
 pub fn write_thread(number: u8, object: u8, state: ThreadState, next: u8) -> ThreadRecord
-    ensures { λ r. ⌜ r ≡ recordOf number object state next ⌝ }
+    ensures { λ r. ⌜ r ≡ write-thread number object state next ⌝ }
 {
     match state {
         ThreadState::Idle => with_fields(Operation::Idle, 0, Phase::Idle, 0, 0, next),

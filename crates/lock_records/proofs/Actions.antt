@@ -1,123 +1,108 @@
--- The ten chain actions on records: the threads that they write are those of the table with lists, and their links stand for its lists.
-use Prim.Native.Nat.{ℕ, zero, suc, _-_, _≤_, _<_}
-use mathlib.Core.Path.{_≡_, refl, sym, ap, _∙_, fun-ext}
+-- The work on chains, on records: the threads that it writes are those of the table with lists, and its links stand for the lists.
+use Prim.Native.Nat.{ℕ, _≤_, _<_}
+use mathlib.Core.Path.{_≡_, refl, sym, ap, _∙_, subst}
 use mathlib.Core.Logic.{_≢_, _⊎_, inl, inr}
-use mathlib.Core.Bool.{false}
+use mathlib.Core.Bool.{Bool, true, false}
 use mathlib.Core.List.{List, [], _∷_}
 use native.Mathlib.Omega.{arith}
 use lib.Dec.{eqb}
 use lib.ListN.{length}
+use borrow.Author.Tests.{eq-eqb}
 use Rattle.laws.specs.Choice.{pick}
 use Rattle.laws.specs.Update.{update}
 use Rattle.laws.specs.Count.{count}
-use Rattle.laws.proofs.Count.{count-same}
-use Rattle.chains.specs.Chain.{linked}
+use Rattle.laws.proofs.Choice.{Equal, equal}
+use Rattle.laws.proofs.Count.{count-none, count-same}
+use Rattle.chains.specs.Chain.{first-with, linked}
+use Rattle.chains.specs.declared.named.Chain.{Chain}
 use Rattle.chains.proofs.Chain.{Chain as ChainOf, head}
 use Rattle.chains.proofs.Walk.{walk}
-use Rattle.chains.proofs.Links.{Links, Stands, leave-links, leave-lists, join-links, shift-links, stands-leave}
-use Rattle.lock_rules.specs.Changes.{handed, notified}
-use Rattle.lock_rules.specs.PlainMonitor.{above-zero}
-use Rattle.lock_rules.specs.declared.Suspension.{Suspension}
-use Rattle.lock_rules.specs.declared.Carried.the-variants.{ToCheck}
+use Rattle.chains.proofs.Links.{Links, leave-links, leave-lists, join-links, leave-within, leave-short, stands-leave}
+use Rattle.lock_rules.specs.Changes.{handed, moved}
 use Rattle.lock_rules.specs.declared.ThreadState.{ThreadState}
-use Rattle.lock_rules.specs.declared.ThreadState.the-variants.{Idle, Running, Queued, Contending, Waiting}
-use Rattle.lock_rules.specs.declared.ChainAction.{ChainAction}
-use Rattle.lock_rules.specs.declared.ChainAction.the-variants.{Stay, JoinEntry, Contend, GiveUp, HandOver, AdmitContenders, TellFirst, WakeFirst}
-use Rattle.lock_rules.specs.declared.ChainAction.the-variants.{WakeAll, SendBack}
+use Rattle.lock_rules.specs.declared.ThreadState.the-variants.{Idle}
+use Rattle.lock_rules.specs.declared.Taken.{Taken}
+use Rattle.lock_rules.specs.declared.Taken.the-variants.{First, All}
+use Rattle.lock_rules.specs.declared.ChainWork.{ChainWork}
+use Rattle.lock_rules.specs.declared.ChainWork.the-variants.{Stay, Join, JoinAndHand, Hand, Move, SendBack}
 use Rattle.lock_rules.specs.declared.Effect.{Effect}
-use Rattle.lock_rules.proofs.Objects.{ListObject}
-use Rattle.lock_rules.proofs.Perform.{first-of, handed-states, told-object, told-states, admitted-states, notified-object, notified-states}
-use Rattle.lock_rules.proofs.Perform.{states-after, object-after, effected}
-use Rattle.lock_rules.proofs.Tables.{ListTable, seen-here}
+use Rattle.lock_rules.proofs.Objects.{ListObject, chain-of, with-chain}
+use Rattle.lock_rules.proofs.Perform.{taken, left as left-list, first-of, changed-states, handed-object, states-after, object-after, effected}
+use Rattle.lock_rules.proofs.Tables.{ListThread, ListTable}
 use Rattle.lock_rules.proofs.ListSound.{SoundTable}
-use Rattle.lock_rules.proofs.ListChains.{Chain, entry-chain, contention-chain, waiting-chain, chain-of, member-at, member-in, short}
-use Rattle.lock_rules.proofs.Reliances.{is-contending, is-waiting}
+use Rattle.lock_rules.proofs.ListChains.{member-at, member-in, short}
 use Rattle.lock_table.specs.Limits.{thread-limit}
-use Rattle.lock_table.specs.Record.{withNext}
-use Rattle.lock_table.specs.Access.{nextOf}
-use Rattle.lock_table.specs.Chain.{hangOf, handedOf, queuedOf, queueFirstOf, queueAllOf}
-use Rattle.lock_table.specs.declared.phase.Onward.{Onward}
-use Rattle.lock_table.specs.declared.phase.Onward.the-variants.{ToCheck as OnToCheck, ToResume as OnToResume}
+use Rattle.lock_table.specs.Record.{with-next}
+use Rattle.lock_table.specs.Access.{thread-at, set-thread, next-of}
+use Rattle.lock_table.specs.Monitor.{hand-of, first-in, with-first, join}
+use Rattle.lock_table.specs.Chain.{hang, handed-of, moved as moved-record, move-all}
+use Rattle.lock_table.specs.Narrow.{narrow-of}
 use Rattle.lock_table.specs.declared.record.ThreadRecord.{ThreadRecord}
 use Rattle.lock_table.specs.declared.record.Monitor.{Monitor}
 use Rattle.lock_table.specs.declared.record.Table.{Table}
-use Rattle.lock_perform.specs.Moving.{handOver, joinContentionOf, joinWaitingOf, actionOf}
-use Rattle.lock_perform.specs.declared.moving.Moved.{Moved}
-use Rattle.lock_records.proofs.Numbering.{number, place-of, lists-of, list-at, update-number, action-links, first-is-head}
-use Rattle.lock_records.proofs.Written.{relinked-written, handed-written, told-written, notified-written}
-use Rattle.lock_records.proofs.Represents.{thread-record, monitor-record, Represents, next-is}
+use Rattle.lock_table.proofs.Records.{set-thread-out}
+use Rattle.lock_table.proofs.Narrowed.{narrowed}
+use Rattle.lock_table.proofs.Walks.{move-none, hang-none}
+use Rattle.lock_perform.specs.State.{write-thread}
+use Rattle.lock_perform.specs.Moving.{sent-back-of, relink, after-whole, carry-out}
+use Rattle.lock_perform.specs.declared.moving.CarriedOut.{CarriedOut}
+use Rattle.lock_records.proofs.Numbering.{number, place-of, lists-of, list-at, update-number, work-links, first-is-head}
+use Rattle.lock_records.proofs.Written.{relinked-written, handed-written, moved-written}
+use Rattle.lock_records.proofs.Represents.{monitor-record, Represents, next-is}
 use Rattle.lock_records.proofs.Readings.{nobody, past-idle, first-is}
 use Rattle.lock_records.proofs.Moves.{change, Moves, Inside, moves-hang, moves-first, moves-send, moves-all}
-use Rattle.lock_records.proofs.Placing.{first-states, all-states, sees, placed, placed-none, placed-first, placed-all, placed-sent}
+use Rattle.lock_records.proofs.Placing.{sees, placed, placed-none, placed-first, placed-all, placed-sent}
 
--- a contender that is told or moved: queued, carrying 6
-abbrev told : ThreadState → ThreadState
-told Idle = Idle
-told (Running doing) = Running doing
-told (Queued carried) = Queued carried
-told Contending = Queued ToCheck
-told (Waiting suspension) = Waiting suspension
-
--- The states after an action, as they are put back one thread at a time.
-handed-first : (states : ℕ → ThreadState) (queue : List ℕ) → first-states handed states queue ≡ handed-states states queue
-handed-first states [] = refl
-handed-first states (first ∷ rest) = refl
-
-notified-first : (states : ℕ → ThreadState) (queue : List ℕ) → first-states notified states queue ≡ notified-states states queue
-notified-first states [] = refl
-notified-first states (first ∷ rest) = refl
-
-told-first : (states : ℕ → ThreadState) (queue : List ℕ) → ((n : ℕ) → 0 < count n queue → states n ≡ Contending)
-    → first-states told states queue ≡ told-states states queue
-told-first states [] contending = refl
-told-first states (first ∷ rest) contending = ap (λ (s : ThreadState). update states first (told s)) (contending first (omega (arith, count-same first rest)))
-
-told-all : (states : ℕ → ThreadState) (queue : List ℕ) → ((n : ℕ) → 0 < count n queue → states n ≡ Contending)
-    → all-states told states queue ≡ admitted-states states queue
-told-all states queue contending = fun-ext (λ n. at n (count n queue) refl)
-  where
-    at : (n k : ℕ) → count n queue ≡ k → pick (above-zero k) (told (states n)) (states n) ≡ pick (above-zero k) (Queued ToCheck) (states n)
-    at n zero e = refl
-    at n (suc k) e = ap told (contending n (omega (arith, e)))
-
--- what a telling or a notify leaves of the object
+-- what a work leaves of the object
 pub record SameScalars (old new : ListObject) : Type 0 where
   pub word : new .word ≡ old .word
   pub flag : new .flag ≡ old .flag
   pub holder : new .holder ≡ old .holder
   pub depth : new .depth ≡ old .depth
 
-told-scalars : (o : ListObject) (queue : List ℕ) → SameScalars o (told-object o queue)
-told-scalars o [] = record { word = refl; flag = refl; holder = refl; depth = refl }
-told-scalars o (first ∷ rest) = record { word = refl; flag = refl; holder = refl; depth = refl }
+scalars-with : (chain : Chain) (o : ListObject) (list : List ℕ) → SameScalars o (with-chain chain o list)
+scalars-with Chain.Entry o list = record { word = refl; flag = refl; holder = refl; depth = refl }
+scalars-with Chain.Contention o list = record { word = refl; flag = refl; holder = refl; depth = refl }
+scalars-with Chain.Waiting o list = record { word = refl; flag = refl; holder = refl; depth = refl }
 
-notified-scalars : (o : ListObject) (queue : List ℕ) → SameScalars o (notified-object o queue)
-notified-scalars o [] = record { word = refl; flag = refl; holder = refl; depth = refl }
-notified-scalars o (first ∷ rest) = record { word = refl; flag = refl; holder = refl; depth = refl }
-
--- no action changes word or flag
-pub word-kept : (action : ChainAction) (thread : ℕ) (o : ListObject)
-    → (object-after action thread o .word ≡ o .word) × (object-after action thread o .flag ≡ o .flag)
+-- no work changes word or flag
+pub word-kept : (work : ChainWork) (thread : ℕ) (o : ListObject)
+    → (object-after work thread o .word ≡ o .word) × (object-after work thread o .flag ≡ o .flag)
 word-kept Stay thread o = (refl, refl)
-word-kept JoinEntry thread o = (refl, refl)
-word-kept Contend thread o = (refl, refl)
-word-kept GiveUp thread o = (refl, refl)
-word-kept HandOver thread o = (refl, refl)
-word-kept AdmitContenders thread o = (refl, refl)
-word-kept TellFirst thread o = let same = told-scalars o (o .contention) in (same .word, same .flag)
-word-kept WakeFirst thread o = let same = notified-scalars o (o .waiting) in (same .word, same .flag)
-word-kept WakeAll thread o = (refl, refl)
+word-kept (Join chain) thread o = let same = scalars-with chain o _ in (same .word, same .flag)
+word-kept (JoinAndHand chain) thread o = let same = scalars-with chain _ _ in (same .word, same .flag)
+word-kept Hand thread o = (refl, refl)
+word-kept (Move from which) thread o = let same = scalars-with from o _ in (same .word, same .flag)
 word-kept (SendBack owner) thread o = (refl, refl)
 
--- the first thread of a chain that has one is a member
-first-member : (list : List ℕ) (first : ℕ) → first ≡ head list → first ≢ 0 → 0 < count first list
-first-member [] first e real = absurd (real e)
-first-member (x ∷ rest) first e real = rw e (omega (arith, count-same x rest))
+-- after a work at object o on table t: its threads are in these states, written with these links, and its monitor has these chains, holder and depth
+pub record Acted (t : Table) (lists : ListTable) (o : ℕ) (links : Links) (after : CarriedOut) (states : ℕ → ThreadState) (holder depth : ℕ) : Type 0 where
+  pub moves : Moves t (after .table) (placed o (lists .threads) states) (links .next)
+  pub monitor : after .monitor ≡ monitor-record o links holder depth
 
--- after an action at object o on table t: its threads are in these states, written with these links, and its monitor has these chains, holder and depth
-pub record Acted (t : Table) (lists : ListTable) (o : ℕ) (links : Links) (moved : Moved) (states : ℕ → ThreadState) (holder depth : ℕ) : Type 0 where
-  pub moves : Moves t (moved .table) (placed o (lists .threads) states) (links .next)
-  pub monitor : moved .monitor ≡ monitor-record o links holder depth
+-- the monitor of object o with other links
+module _ (o : ℕ) (links : Links) (holder depth : ℕ) where
+  first-recorded : (chain : Chain) → first-in (monitor-record o links holder depth) chain ≡ links .first (number o chain)
+  first-recorded Chain.Entry = refl
+  first-recorded Chain.Contention = refl
+  first-recorded Chain.Waiting = refl
+
+  left-recorded : (chain : Chain) (first : ℕ)
+      → with-first (monitor-record o links holder depth) chain first
+      ≡ monitor-record o (record { next = links .next; first = update (links .first) (number o chain) first }) holder depth
+  left-recorded Chain.Entry first = simp update-number
+  left-recorded Chain.Contention first = simp update-number
+  left-recorded Chain.Waiting first = simp update-number
+
+  joined-recorded : (chain : Chain) (n : ℕ)
+      → join (monitor-record o links holder depth) chain n
+      ≡ monitor-record o (record { next = links .next; first = update (links .first) (number o chain) (first-with (links .first (number o chain)) n) }) holder depth
+  joined-recorded chain n = rw (first-recorded chain) (left-recorded chain (first-with (links .first (number o chain)) n))
+
+  handed-recorded : (next : ℕ)
+      → hand-of (monitor-record o links holder depth) next .monitor
+      ≡ monitor-record o (record { next = links .next; first = update (links .first) (number o Chain.Entry) next }) (links .first (number o Chain.Entry)) 0
+  handed-recorded next = simp update-number
 
 module _ (threads objects : ℕ) (t : Table) (lists : ListTable) (represents : Represents threads objects t lists) (sound : SoundTable threads objects lists)
   where
@@ -132,8 +117,12 @@ module _ (threads objects : ℕ) (t : Table) (lists : ListTable) (represents : R
     begun =
         record { written = represents .written; beside = record { threadcount = refl; objectcount = refl; objects = refl; length-kept = refl } }
 
-    next-at : (n : ℕ) → nextOf t n ≡ represents .links .next n
+    next-at : (n : ℕ) → thread-at t n .next ≡ represents .links .next n
     next-at n = ap (λ (next : ℕ → ℕ). next n) (next-is t (lists .threads) (represents .links .next) (represents .written))
+
+    -- nobody's record is written
+    unwritten : (table : Table) (thread : ThreadRecord) → set-thread table 0 thread ≡ table
+    unwritten table thread = set-thread-out table 0 thread (inl refl)
 
     module _ (o : ℕ) where
       abbrev first : Chain → ℕ
@@ -158,169 +147,183 @@ module _ (threads objects : ℕ) (t : Table) (lists : ListTable) (represents : R
       headed : (chain : Chain) → first chain ≡ head (list chain)
       headed = first-is threads objects t lists represents sound o
 
-      first-in : (chain : Chain) → first chain ≤ thread-limit
-      first-in chain = at (list chain) (headed chain) (inside chain)
+      first-low : (chain : Chain) → first chain ≤ thread-limit
+      first-low chain = at (list chain) (headed chain) (inside chain)
         where
           at : (members : List ℕ) → first chain ≡ head members → Inside members → first chain ≤ thread-limit
           at [] e within = omega (arith, e)
           at (x ∷ rest) e within = rw e (within x (omega (arith, count-same x rest)) .1)
 
-      -- thread n hung behind it
-      joined : (chain : Chain) (n : ℕ) → Moves t (hangOf t (first chain) n) (lists .threads) (linked thread-limit (represents .links .next) (first chain) n)
-      joined chain n =
-          moves-hang t t (lists .threads) (represents .links .next) begun (list chain) (first chain) n (chained chain) (brief chain) (inside chain)
+      -- the first of a chain, if there is one, leaves it, changed
+      leaves : (from : Chain) (F : ThreadRecord → ThreadRecord) (f : ThreadState → ThreadState) → f Idle ≡ Idle
+          → ((n home : ℕ) (state : ThreadState) (next : ℕ) → F (write-thread n home state next) ≡ write-thread n home (f state) 0)
+          → Moves t (set-thread t (first from) (F (thread-at t (first from))))
+          (placed o (lists .threads) (changed-states f (sees o (lists .threads)) (taken First (list from))))
+          (leave-links (number o from) (represents .links) .next)
+      leaves from F f fixed law =
+          rw (← (placed-first o (lists .threads) f (list from) (first from) (headed from) none fixed (home from)))
+          (moves-first t t (lists .threads) (represents .links .next) begun F f (first from) (first-low from) none fixed
+          (λ real. law (first from) (lists .threads (first from) .object) (lists .threads (first from) .state) (represents .links .next (first from))))
 
-      -- Its members moved to the entry chain, all or the first: queued, each goes through f.
-      abbrev Queues : Chain → Onward → (ThreadState → ThreadState) → Type 0
-      Queues chain onward f =
-          (n : ℕ) → 0 < count n (list chain) → (link : ℕ)
-          → queuedOf (thread-record n (lists .threads n) link) onward ≡ thread-record n (change f (lists .threads n)) link
+      -- and a chain is hung behind one of those that it leaves
+      hung-left : (from to : Chain) (back : ℕ) (table : Table) (after : ℕ → ListThread)
+          → let left = leave-links (number o from) (represents .links) in
+          Moves t table after (left .next)
+          → Moves t (hang thread-limit table (left .first (number o to)) back) after (linked thread-limit (left .next) (left .first (number o to)) back)
+      hung-left from to back table after moves =
+          let left = leave-links (number o from) (represents .links) in
+          let all = lists-of (lists .objects) in
+          let same : all (number o to) ≡ list to = list-at (lists .objects) o to in
+          moves-hang t table after (left .next) moves (leave-lists (number o from) all (number o to)) (left .first (number o to)) back
+          (stands-leave (represents .links) all (represents .chains) (number o from) .chain (number o to))
+          (omega (arith, leave-short all (number o from) (number o to), ap length same, brief to))
+          (λ n h. inside to n (omega (arith, h, leave-within all (number o from) (number o to) n, ap (count n) same)))
 
-      all-moved : (chain : Chain) (onward : Onward) (f : ThreadState → ThreadState) → Queues chain onward f
-          → Moves t (hangOf (queueAllOf thread-limit t (first chain) onward) (first entry-chain) (first chain))
-          (placed o (lists .threads) (all-states f (sees o (lists .threads)) (list chain)))
-          (linked thread-limit (represents .links .next) (first entry-chain) (first chain))
-      all-moved chain onward f queues =
-          rw (← (placed-all o (lists .threads) f (represents .links .next) (list chain) thread-limit (first chain) (chained chain) (brief chain) (home chain)))
-          (moves-hang t (queueAllOf thread-limit t (first chain) onward)
-          (walk thread-limit (represents .links .next) (change f) (lists .threads) (first chain)) (represents .links .next)
-          (moves-all t onward f (represents .links .next) (list chain) thread-limit (first chain) t (lists .threads) begun (chained chain) (brief chain)
-          (inside chain) queues)
-          (list entry-chain) (first entry-chain) (first chain) (chained entry-chain) (brief entry-chain) (inside entry-chain))
-
-      first-moved : (chain : Chain) (onward : Onward) (f : ThreadState → ThreadState) → eqb (place-of entry-chain) (place-of chain) ≡ false → f Idle ≡ Idle
-          → Queues chain onward f
-          → Moves t (hangOf (queueFirstOf t (first chain) onward) (first entry-chain) (first chain))
-          (placed o (lists .threads) (first-states f (sees o (lists .threads)) (list chain)))
-          (shift-links thread-limit (number o chain) (number o entry-chain) (represents .links) .next)
-      first-moved chain onward f apart fixed queues =
-          let left : Stands (leave-links (number o chain) (represents .links)) (leave-lists (number o chain) (lists-of (lists .objects))) =
-          stands-leave (represents .links) (lists-of (lists .objects)) (represents .chains) (number o chain) in
-          let same-list : leave-lists (number o chain) (lists-of (lists .objects)) (number o entry-chain) ≡ list entry-chain =
-          update-number (lists-of (lists .objects)) o chain entry-chain _ ∙ rw apart (list-at (lists .objects) o entry-chain) in
-          let same-first : leave-links (number o chain) (represents .links) .first (number o entry-chain) ≡ first entry-chain =
-          update-number (represents .links .first) o chain entry-chain _ ∙ rw apart in
-          let entry : ChainOf (update (represents .links .next) (first chain) 0) (first entry-chain) (list entry-chain) =
-          rw (same-list, same-first) at (left .chain (number o entry-chain)) in
-          rw (same-first, ← (placed-first o (lists .threads) f (list chain) (first chain) (headed chain) none fixed (home chain)))
-          (moves-hang t (queueFirstOf t (first chain) onward) (update (lists .threads) (first chain) (change f (lists .threads (first chain))))
-          (update (represents .links .next) (first chain) 0)
-          (moves-first t t (lists .threads) (represents .links .next) begun (λ (thread : ThreadRecord). withNext (queuedOf thread onward) 0) f (first chain)
-          (first-in chain) none fixed leaves)
-          (list entry-chain) (first entry-chain) (first chain) entry (brief entry-chain) (inside entry-chain))
+      -- all of a chain move to the end of the entry chain
+      all-moved : (from : Chain)
+          → let front = update (represents .links .first) (number o from) 0 (number o Chain.Entry) in
+          Moves t (hang thread-limit (move-all thread-limit t (first from)) front (first from))
+          (placed o (lists .threads) (changed-states moved (sees o (lists .threads)) (list from)))
+          (linked thread-limit (represents .links .next) front (first from))
+      all-moved from =
+          rw (
+            ← (placed-all o (lists .threads) moved (represents .links .next) (list from) thread-limit (first from) (chained from) (brief from) (home from)),
+            update-number (represents .links .first) o from Chain.Entry 0,
+          ) (at (eqb (place-of Chain.Entry) (place-of from)))
         where
-          leaves : first chain ≢ 0
-              → withNext (queuedOf (thread-record (first chain) (lists .threads (first chain)) (represents .links .next (first chain))) onward) 0
-              ≡ thread-record (first chain) (change f (lists .threads (first chain))) 0
-          leaves real =
-              ap (λ (thread : ThreadRecord). withNext thread 0)
-              (queues (first chain) (first-member (list chain) (first chain) (headed chain) real) (represents .links .next (first chain)))
-              ∙ relinked-written (first chain) (lists .threads (first chain) .object) (f (lists .threads (first chain) .state))
-              (represents .links .next (first chain)) 0
+          moves : Moves t (move-all thread-limit t (first from)) (walk thread-limit (represents .links .next) (change moved) (lists .threads) (first from))
+              (represents .links .next)
+          moves =
+              moves-all t (represents .links .next) (list from) thread-limit (first from) t (lists .threads) begun (chained from) (brief from) (inside from)
 
-      -- who is in the contention chain contends, and who is in the waiting chain waits
-      contends : (n : ℕ) → 0 < count n (list contention-chain) → sees o (lists .threads) n ≡ Contending
-      contends n h = is-contending (sees o (lists .threads) n) (count n (list contention-chain) - 1) (omega (arith, h, sound .sound o .placed n .contention)) .0
+          at : (own : Bool)
+              → Moves t (hang thread-limit (move-all thread-limit t (first from)) (pick own 0 (first Chain.Entry)) (first from))
+              (walk thread-limit (represents .links .next) (change moved) (lists .threads) (first from))
+              (linked thread-limit (represents .links .next) (pick own 0 (first Chain.Entry)) (first from))
+          at true = moves-hang t _ _ (represents .links .next) moves [] 0 (first from) refl (omega arith) (λ n h. absurd (omega (arith, h, count-none n)))
+          at false =
+              moves-hang t _ _ (represents .links .next) moves (list Chain.Entry) (first Chain.Entry) (first from) (chained Chain.Entry) (brief Chain.Entry)
+              (inside Chain.Entry)
 
-      waits : (n : ℕ) → 0 < count n (list waiting-chain) → (suspension : Suspension) × (sees o (lists .threads) n ≡ Waiting suspension)
-      waits n h =
-          let others : ℕ = count n (list waiting-chain) - 1 in
-          let (suspension, e, once) = is-waiting (sees o (lists .threads) n) others (omega (arith, h, sound .sound o .placed n .waiting)) in
-          (suspension, e)
-
-      contenders-queue : Queues contention-chain OnToCheck told
-      contenders-queue n h link =
-          let state : lists .threads n .state ≡ Contending = sym (seen-here o (lists .threads n) (home contention-chain n h)) ∙ contends n h in
-          rw state (told-written n (lists .threads n .object) link)
-
-      waiters-queue : Queues waiting-chain OnToResume notified
-      waiters-queue n h link =
-          let (suspension, e) = waits n h in
-          let state : lists .threads n .state ≡ Waiting suspension = sym (seen-here o (lists .threads n) (home waiting-chain n h)) ∙ e in
-          rw state (notified-written n (lists .threads n .object) suspension link)
-
-      -- the monitor handed over, with links of which the entry chain is still that of the table
-      hands : (links : Links) (moved : Moved) (holder depth : ℕ) → links .first (number o entry-chain) ≡ first entry-chain
-          → Moves t (moved .table) (lists .threads) (links .next) → moved .monitor ≡ monitor-record o links holder depth
-          → Acted t lists o (leave-links (number o entry-chain) links) (handOver moved) (handed-states (sees o (lists .threads)) (list entry-chain))
-          (first-of (list entry-chain)) 0
-      hands links moved holder depth same moves monitor =
-          record {
-            moves = rw (
-              ← (handed-first (sees o (lists .threads)) (list entry-chain)),
-              ap (λ (m : Monitor). m .entry) monitor,
-              ← (placed-first o (lists .threads) handed (list entry-chain) entry is-head none refl (home entry-chain)),
-            )
-                (moves-first t (moved .table) (lists .threads) (links .next) moves handedOf handed entry (rw same (first-in entry-chain)) none refl
-                (λ real. handed-written entry (lists .threads entry .object) (lists .threads entry .state) (links .next entry)));
-            monitor = λ j.
-                record {
-                  depth = 0;
-                  holder = (ap (λ (m : Monitor). m .entry) monitor ∙ (is-head ∙ sym (first-is-head (list entry-chain)))) j;
-                  entry = (behind ∙ sym (left entry-chain)) j;
-                  contention = (ap (λ (m : Monitor). m .contention) monitor ∙ sym (left contention-chain)) j;
-                  waiting = (ap (λ (m : Monitor). m .waiting) monitor ∙ sym (left waiting-chain)) j;
-                };
-          }
-        where
-          entry : ℕ
-          entry = links .first (number o entry-chain)
-
-          is-head : entry ≡ head (list entry-chain)
-          is-head = same ∙ headed entry-chain
-
-          left : (chain : Chain) → leave-links (number o entry-chain) links .first (number o chain)
-              ≡ pick (eqb (place-of chain) (place-of entry-chain)) (links .next entry) (links .first (number o chain))
-          left chain = update-number (links .first) o entry-chain chain (links .next entry)
-
-          behind : nextOf (moved .table) (moved .monitor .entry) ≡ links .next entry
-          behind =
-              ap (nextOf (moved .table)) (ap (λ (m : Monitor). m .entry) monitor)
-              ∙ ap (λ (next : ℕ → ℕ). next entry) (next-is (moved .table) (lists .threads) (links .next) (moves .written))
-
-      -- an effect of thread i with any chain action
+      -- an effect of thread i with any work
       module _ (i : ℕ) (effect : Effect) where
         abbrev now : ListObject
         now = effected i effect (lists .objects o)
 
-        abbrev start : Moved
-        start = record { table = t; monitor = monitor-record o (represents .links) (effect .holder) (effect .depth) }
+        abbrev monitor : Monitor
+        monitor = monitor-record o (represents .links) (effect .holder) (effect .depth)
 
-        pub acted : (action : ChainAction)
-            → Acted t lists o (action-links i o action (represents .links)) (actionOf action i o start) (states-after action (sees o (lists .threads)) now)
-            (object-after action i now .holder) (object-after action i now .depth)
-        unfolding actionOf
-        acted Stay = record { moves = rw (← (placed-none o (lists .threads))) begun; monitor = refl }
-        acted JoinEntry = record { moves = rw (← (placed-none o (lists .threads))) (joined entry-chain i); monitor = simp update-number }
-        acted Contend =
-            hands (join-links thread-limit (number o contention-chain) i (represents .links)) (joinContentionOf start i) (effect .holder) (effect .depth)
-            (simp update-number) (joined contention-chain i) (simp update-number)
-        acted GiveUp =
-            hands (join-links thread-limit (number o waiting-chain) i (represents .links)) (joinWaitingOf start i) (effect .holder) (effect .depth)
-            (simp update-number) (joined waiting-chain i) (simp update-number)
-        acted HandOver = hands (represents .links) start (effect .holder) (effect .depth) refl begun refl
-        acted AdmitContenders =
+        same-list : (chain : Chain) → chain-of chain now ≡ list chain
+        same-list Chain.Entry = refl
+        same-list Chain.Contention = refl
+        same-list Chain.Waiting = refl
+
+        holds : first Chain.Entry ≡ first-of (list Chain.Entry)
+        holds = headed Chain.Entry ∙ sym (first-is-head (list Chain.Entry))
+
+        after-hand : hand-of monitor (thread-at t (first Chain.Entry) .next) .monitor
+            ≡ monitor-record o (leave-links (number o Chain.Entry) (represents .links)) (first Chain.Entry) 0
+        after-hand =
+            rw (next-at (first Chain.Entry))
+            (handed-recorded o (represents .links) (effect .holder) (effect .depth) (represents .links .next (first Chain.Entry)))
+
+        moved-alone : (n home : ℕ) (state : ThreadState) (next : ℕ)
+            → with-next (moved-record (write-thread n home state next)) 0 ≡ write-thread n home (moved state) 0
+        moved-alone n home state next =
+            ap (λ (thread : ThreadRecord). with-next thread 0) (moved-written n home state next) ∙ relinked-written n home (moved state) next 0
+
+        -- of an empty chain nobody moves
+        whole-moved : (whole : ℕ) (work : ChainWork)
+            → after-whole t whole monitor work i o ≡ relink (move-all thread-limit t whole) monitor work i o
+        unfolding after-whole
+        whole-moved whole work = at (eqb whole 0) (equal whole 0)
+          where
+            after : Table → CarriedOut
+            after table = relink table monitor work i o
+
+            at : (b : Bool) → Equal b whole 0 → pick b (after t) (after (move-all thread-limit t whole)) ≡ after (move-all thread-limit t whole)
+            at true e = ap after (sym (ap (move-all thread-limit t) e ∙ move-none thread-limit t))
+            at false e = refl
+
+        moved-first : (from : Chain) → carry-out t monitor (Move from All) i o ≡ relink (move-all thread-limit t (first from)) monitor (Move from All) i o
+        moved-first from =
+            whole-moved (first-in monitor from) (Move from All)
+            ∙ ap (λ (n : ℕ). relink (move-all thread-limit t n) monitor (Move from All) i o)
+            (first-recorded o (represents .links) (effect .holder) (effect .depth) from)
+
+        -- a number that is taken as 255 where it is larger sends the same thread back: past the records there is nobody
+        narrow-sent : (owner : ℕ)
+            → set-thread t (narrow-of owner) (sent-back-of o (thread-at t (narrow-of owner))) ≡ set-thread t owner (sent-back-of o (thread-at t owner))
+        narrow-sent owner = narrowed sent (λ n past. out 255 (omega arith) ∙ sym (out n (omega (arith, past)))) owner
+          where
+            sent : ℕ → Table
+            sent n = set-thread t n (sent-back-of o (thread-at t n))
+
+            out : (n : ℕ) → thread-limit < n → sent n ≡ t
+            out n past = set-thread-out t n (sent-back-of o (thread-at t n)) (inr past)
+
+        pub acted : (work : ChainWork)
+            → Acted t lists o (work-links i o work (represents .links)) (carry-out t monitor work i o) (states-after work (sees o (lists .threads)) now)
+            (object-after work i now .holder) (object-after work i now .depth)
+        unfolding after-whole
+        acted Stay =
+            record { moves = rw (unwritten t (thread-at t 0), hang-none thread-limit t 0, ← (placed-none o (lists .threads))) begun; monitor = refl }
+        acted (Join chain) =
+            let same : SameScalars now (object-after (Join chain) i now) = scalars-with chain now _ in
             record {
-              moves = rw (← (told-all (sees o (lists .threads)) (list contention-chain) contends)) (all-moved contention-chain OnToCheck told contenders-queue);
-              monitor = simp update-number;
+              moves = rw (unwritten t (thread-at t 0), first-recorded o (represents .links) (effect .holder) (effect .depth) chain, ← (placed-none o (lists .threads)))
+                  (moves-hang t t (lists .threads) (represents .links .next) begun (list chain) (first chain) i (chained chain) (brief chain) (inside chain));
+              monitor = rw (same .holder, same .depth) (joined-recorded o (represents .links) (effect .holder) (effect .depth) chain i);
             }
-        acted TellFirst =
-            let same = told-scalars now (list contention-chain) in
+        acted (JoinAndHand chain) =
+            let same : SameScalars (handed-object now) (object-after (JoinAndHand chain) i now) = scalars-with chain (handed-object now) _ in
             record {
-              moves = rw (← (told-first (sees o (lists .threads)) (list contention-chain) contends))
-                  (first-moved contention-chain OnToCheck told refl refl contenders-queue);
-              monitor = rw (same .holder, same .depth) (simp (update-number, next-at));
+              moves = rw (after-hand, first-recorded o (leave-links (number o Chain.Entry) (represents .links)) (first Chain.Entry) 0 chain)
+                  (hung-left Chain.Entry chain i _ _ (leaves Chain.Entry handed-of handed refl handed-written));
+              monitor = rw (same .holder, same .depth, ← holds, after-hand)
+                  (joined-recorded o (leave-links (number o Chain.Entry) (represents .links)) (first Chain.Entry) 0 chain i);
             }
-        acted WakeFirst =
-            let same = notified-scalars now (list waiting-chain) in
+        acted Hand =
             record {
-              moves = rw (← (notified-first (sees o (lists .threads)) (list waiting-chain)))
-                  (first-moved waiting-chain OnToResume notified refl refl waiters-queue);
-              monitor = rw (same .holder, same .depth) (simp (update-number, next-at));
+              moves = rw (hang-none thread-limit (set-thread t (first Chain.Entry) (handed-of (thread-at t (first Chain.Entry)))) 0)
+                  (leaves Chain.Entry handed-of handed refl handed-written);
+              monitor = rw (← holds) after-hand;
             }
-        acted WakeAll = record { moves = all-moved waiting-chain OnToResume notified waiters-queue; monitor = simp update-number }
+        acted (Move from First) =
+            let same : SameScalars now (with-chain from now (left-list First (chain-of from now))) = scalars-with from now _ in
+            let recorded = first-recorded o (represents .links) (effect .holder) (effect .depth) from in
+            let left = leave-links (number o from) (represents .links) in
+            let rest : with-first monitor from (thread-at t (first from) .next) ≡ monitor-record o left (effect .holder) (effect .depth) =
+            rw (next-at (first from))
+            (left-recorded o (represents .links) (effect .holder) (effect .depth) from (represents .links .next (first from))) in
+            record {
+              moves = rw (recorded, rest, same-list from)
+                  (hung-left from Chain.Entry (first from) _ _
+                  (leaves from (λ (thread : ThreadRecord). with-next (moved-record thread) 0) moved refl moved-alone));
+              monitor = rw (same .holder, same .depth, recorded, rest)
+                  (joined-recorded o left (effect .holder) (effect .depth) Chain.Entry (first from));
+            }
+        acted (Move from All) =
+            let same : SameScalars now (with-chain from now []) = scalars-with from now _ in
+            let recorded = first-recorded o (represents .links) (effect .holder) (effect .depth) from in
+            let left : Links = record { next = represents .links .next; first = update (represents .links .first) (number o from) 0 } in
+            let rest : with-first monitor from 0 ≡ monitor-record o left (effect .holder) (effect .depth) =
+            left-recorded o (represents .links) (effect .holder) (effect .depth) from 0 in
+            let queued = move-all thread-limit t (first from) in
+            subst
+            (λ (after : CarriedOut). Acted t lists o (work-links i o (Move from All) (represents .links)) after
+            (states-after (Move from All) (sees o (lists .threads)) now) (object-after (Move from All) i now .holder)
+            (object-after (Move from All) i now .depth)) (sym (moved-first from))
+            (record {
+              moves = rw (recorded, unwritten queued (thread-at queued 0), rest, same-list from) (all-moved from);
+              monitor = rw (same .holder, same .depth, recorded, rest) (joined-recorded o left (effect .holder) (effect .depth) Chain.Entry (first from));
+            })
         acted (SendBack owner) =
             record {
-              moves = rw (← (placed-sent o (lists .threads) owner)) (moves-send t t (lists .threads) (represents .links .next) begun o owner outside);
+              moves = rw (
+                narrow-sent owner,
+                hang-none thread-limit (set-thread t owner (sent-back-of o (thread-at t owner))) 0,
+                ← (placed-sent o (lists .threads) owner),
+              ) (moves-send t t (lists .threads) (represents .links .next) begun o owner outside);
               monitor = refl;
             }

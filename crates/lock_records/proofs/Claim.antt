@@ -12,11 +12,11 @@ use Rattle.chains.specs.Chain.{members}
 use Rattle.chains.proofs.Links.{Links}
 use Rattle.lock_word.specs.declared.reading.Decoded.the-variants.{Valid}
 use Rattle.lock_rules.specs.Numbers.{phase-of-doing, phase-of}
-use Rattle.lock_word.specs.Meaning.{owner-of, depth-of, ownershipOf}
+use Rattle.lock_word.specs.Meaning.{owner-of, depth-of, ownership-of}
 use Rattle.lock_word.proofs.Ownership.{owned-both}
 use Rattle.lock_word.specs.declared.meaning.Ownership.{Ownership}
 use Rattle.lock_rules.specs.Status.{is-woken, parked-for-entry, unparked, unfinished}
-use Rattle.lock_rules.specs.Events.{Event}
+use Rattle.lock_rules.specs.declared.event.Event.{Event}
 use Rattle.lock_rules.specs.Feed.{Plain, feed-all, blank}
 use Rattle.lock_rules.specs.declared.Doing.{Doing}
 use Rattle.lock_rules.specs.declared.Doing.the-variants.{EnterLook, EnterStore, EnterCancel, EnterGoIn, EnterCheck, EnterTry, ExitLook}
@@ -32,17 +32,17 @@ use Rattle.lock_rules.proofs.Turns.{final-on, shown-on}
 use Rattle.lock_rules.proofs.Lift.{World, world-fresh, world-run}
 use Rattle.lock_rules.proofs.Claim.{Claim, world-claim, OwnedByOther as ListOwned, BusyOther as ListBusy}
 use Rattle.lock_rules.proofs.ListSound.{WordFine, SoundTable}
-use Rattle.lock_rules.proofs.ListChains.{waiting-chain}
+use Rattle.chains.specs.declared.named.Chain.{Chain}
 use Rattle.lock_rules.proofs.SoundKept.{sound-fresh}
 use Rattle.lock_rules.proofs.Standing.{stands-run}
 use Rattle.lock_table.specs.Limits.{thread-limit, object-limit}
-use Rattle.lock_table.specs.Phase.{phaseNumberOf, carriedNumberOf}
-use Rattle.lock_table.specs.Access.{threadAt, objectAt, nextOf, phaseAt}
-use Rattle.lock_table.specs.Fresh.{freshOf}
+use Rattle.lock_table.specs.Phase.{phase-number, carried-number}
+use Rattle.lock_table.specs.Access.{thread-at, object-at, next-of, phase-number-at}
+use Rattle.lock_table.specs.Fresh.{fresh-of}
 use Rattle.lock_table.specs.declared.record.ThreadRecord.{ThreadRecord}
 use Rattle.lock_table.specs.declared.record.ObjectRecord.{ObjectRecord}
 use Rattle.lock_table.specs.declared.record.Table.{Table}
-use Rattle.lock_perform.specs.State.{recordOf}
+use Rattle.lock_perform.specs.State.{write-thread}
 use Rattle.lock_records.proofs.Written.{lock-word, seen-written, written-doing, written-carried, idle-or-written, phase-written}
 use Rattle.lock_records.proofs.Represents.{monitor-record, Represents}
 use Rattle.lock_records.proofs.Readings.{busy-in, thread-is, home-is, members-are, word-is}
@@ -75,7 +75,7 @@ ownership-seen : (threads o : ℕ) (links : Links) (seen : WordSeen) (holder dep
     ≡ record { thread = owner-of seen holder depth; depth = depth-of seen depth }
 unfolding ownership-in
 ownership-seen threads o links seen holder depth fine shallow =
-    ap (λ (word : WordSeen). ownershipOf word holder depth) (seen-written o seen)
+    ap (λ (word : WordSeen). ownership-of word holder depth) (seen-written o seen)
     ∙ owned-both (owner-of seen holder depth) (depth-of seen depth) (unowned-shallow threads seen holder depth fine shallow)
 
 -- an owner is a thread of the table
@@ -156,8 +156,8 @@ steps-unparked (Waiting suspension) free busy = absurd free
 
 -- woken by the numbers in a record
 woken-written : (n o : ℕ) (state : ThreadState) (next : ℕ)
-    → let phase = recordOf n o state next .phase in either (eqb (phaseNumberOf phase) 15) (eqb (carriedNumberOf phase) 15) ≡ is-woken state
-unfolding recordOf phaseNumberOf carriedNumberOf
+    → let phase = write-thread n o state next .phase in either (eqb (phase-number phase) 15) (eqb (carried-number phase) 15) ≡ is-woken state
+unfolding write-thread phase-number carried-number
 woken-written n o Idle next = refl
 woken-written n o (Running doing) next =
     rw (written-doing n o doing next .phase, written-doing n o doing next .carried) (at (eqb (phase-of-doing doing) 15))
@@ -171,19 +171,19 @@ woken-written n o (Waiting suspension) next = refl
 
 -- and by its object, as the object sees it
 woken-seen : (n home o : ℕ) (state : ThreadState) (next : ℕ)
-    → let thread = recordOf n home state next in
-    both (eqb (thread .object) o) (either (eqb (phaseNumberOf (thread .phase)) 15) (eqb (carriedNumberOf (thread .phase)) 15))
+    → let thread = write-thread n home state next in
+    both (eqb (thread .object) o) (either (eqb (phase-number (thread .phase)) 15) (eqb (carried-number (thread .phase)) 15))
     ≡ is-woken (pick (eqb home o) state Idle)
 woken-seen n home o state next =
-    ap (both (eqb (recordOf n home state next .object) o)) (woken-written n home state next) ∙ at (idle-or-written n home state next)
+    ap (both (eqb (write-thread n home state next .object) o)) (woken-written n home state next) ∙ at (idle-or-written n home state next)
   where
     here : (there : Bool) → both there (is-woken state) ≡ is-woken (pick there state Idle)
     here true = refl
     here false = refl
 
-    at : (state ≡ Idle) ⊎ (recordOf n home state next .object ≡ home)
-        → both (eqb (recordOf n home state next .object) o) (is-woken state) ≡ is-woken (pick (eqb home o) state Idle)
-    at (inl idle) = rw idle (both-no (eqb (recordOf n home Idle next .object) o) ∙ sym (ap is-woken (pick-same (eqb home o) Idle)))
+    at : (state ≡ Idle) ⊎ (write-thread n home state next .object ≡ home)
+        → both (eqb (write-thread n home state next .object) o) (is-woken state) ≡ is-woken (pick (eqb home o) state Idle)
+    at (inl idle) = rw idle (both-no (eqb (write-thread n home Idle next .object) o) ∙ sym (ap is-woken (pick-same (eqb home o) Idle)))
     at (inr same) = ap (λ (b : ℕ). both (eqb b o) (is-woken state)) same ∙ here (eqb home o)
 
 module _ (threads objects : ℕ) (t : Table) (lists : ListTable) (represents : Represents threads objects t lists) (sound : SoundTable threads objects lists)
@@ -191,31 +191,31 @@ module _ (threads objects : ℕ) (t : Table) (lists : ListTable) (represents : R
     ownership-is : (o : ℕ) → 1 ≤ o → o ≤ objects
         → ownership-at t o ≡ record { thread = object-owner (lists .objects o); depth = owned-depth (lists .objects o) }
     ownership-is o real small =
-        (λ j. ownership-in (word-is threads objects t lists represents sound o real small j) (represents .object-at o real small j .monitor))
+        (λ j. ownership-in (word-is threads objects t lists represents sound o real small j) (represents .object-is o real small j .monitor))
         ∙ ownership-seen threads o (represents .links) (lists .objects o .word) (lists .objects o .holder) (lists .objects o .depth)
         (sound .sound o .word) (sound .sound o .shallow)
 
-    phase-is : (n : ℕ) → phaseAt t n ≡ phase-of (lists .threads n .state)
+    phase-is : (n : ℕ) → phase-number-at t n ≡ phase-of (lists .threads n .state)
     phase-is n =
-        ap (λ (thread : ThreadRecord). phaseNumberOf (thread .phase)) (thread-is threads objects t lists represents sound n)
+        ap (λ (thread : ThreadRecord). phase-number (thread .phase)) (thread-is threads objects t lists represents sound n)
         ∙ phase-written n (lists .threads n .object) (lists .threads n .state) (represents .links .next n)
 
     woken-is : (o n : ℕ) → woken-at t o n ≡ is-woken (seen-from o (lists .threads n))
     woken-is o n =
         ap
         (λ (thread : ThreadRecord). both (eqb (thread .object) o)
-        (either (eqb (phaseNumberOf (thread .phase)) 15) (eqb (carriedNumberOf (thread .phase)) 15)))
+        (either (eqb (phase-number (thread .phase)) 15) (eqb (carried-number (thread .phase)) 15)))
         (thread-is threads objects t lists represents sound n)
         ∙ woken-seen n (lists .threads n .object) o (lists .threads n .state) (represents .links .next n)
 
-    waiting-is : (o : ℕ) → 1 ≤ o → o ≤ objects → members thread-limit (nextOf t) (objectAt t o .monitor .waiting) ≡ lists .objects o .waiting
+    waiting-is : (o : ℕ) → 1 ≤ o → o ≤ objects → members thread-limit (next-of t) (object-at t o .monitor .waiting) ≡ lists .objects o .waiting
     waiting-is o real small =
-        ap (λ (object : ObjectRecord). members thread-limit (nextOf t) (object .monitor .waiting)) (represents .object-at o real small)
-        ∙ members-are threads objects t lists represents sound o waiting-chain
+        ap (λ (object : ObjectRecord). members thread-limit (next-of t) (object .monitor .waiting)) (represents .object-is o real small)
+        ∙ members-are threads objects t lists represents sound o Chain.Waiting
 
     stranded : (n : ℕ) → T (parked-for-entry (lists .threads n .state))
         → ListOwned (lists .objects (lists .threads n .object)) n ⊎ ListBusy lists n
-        → OwnedByOther t (threadAt t n .object) n ⊎ BusyOther t (threadAt t n .object) n
+        → OwnedByOther t (thread-at t n .object) n ⊎ BusyOther t (thread-at t n .object) n
     stranded n parked found =
         let busy : T (unfinished (lists .threads n .state)) = busy-parked (lists .threads n .state) parked in
         let (thread, real, small) = busy-in threads objects lists sound n busy in
@@ -237,7 +237,7 @@ module _ (threads objects : ℕ) (t : Table) (lists : ListTable) (represents : R
               other,
             ))
         at real small (inr (other, away, free, busy, same)) =
-            let steps : Steps (phaseAt t other) =
+            let steps : Steps (phase-number-at t other) =
             rw (phase-is other) (steps-unparked (lists .threads other .state) free busy) in
             inr (
               other,
@@ -267,7 +267,7 @@ module _ (threads objects : ℕ) (t : Table) (lists : ListTable) (represents : R
 module _ (threads objects : ℕ) (some-threads : 1 ≤ threads) (thread-room : threads ≤ thread-limit) (some-objects : 1 ≤ objects)
     (object-room : objects ≤ object-limit) (reserved : Bool) (events : List Event) where
   abbrev fresh-records : Table
-  fresh-records = freshOf threads objects reserved .table
+  fresh-records = fresh-of threads objects reserved .table
 
   -- a schedule on records goes on representing the same schedule on lists, which stays sound, and the same is shown
   pub schedule-represents :

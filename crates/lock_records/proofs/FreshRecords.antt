@@ -13,17 +13,18 @@ use Rattle.laws.specs.Count.{count}
 use Rattle.laws.proofs.Choice.{Equal, equal, Below, below}
 use Rattle.laws.proofs.Count.{count-none}
 use Rattle.chains.proofs.Links.{Links, Stands}
-use Rattle.lock_word.specs.Write.{encodeOf}
+use Rattle.lock_word.specs.Write.{write-word}
 use Rattle.lock_rules.specs.declared.ThreadState.the-variants.{Idle}
 use Rattle.lock_rules.proofs.Tables.{fresh-word, fresh}
-use Rattle.lock_rules.proofs.ListChains.{Chain, entry-chain, contention-chain, waiting-chain, chain-of}
+use Rattle.chains.specs.declared.named.Chain.{Chain}
+use Rattle.lock_rules.proofs.Objects.{chain-of}
 use Rattle.lock_table.specs.Limits.{thread-limit, object-limit}
-use Rattle.lock_table.specs.Record.{noThread, noMonitor, noObject, withWord}
-use Rattle.lock_table.specs.Access.{threadAt, objectAt}
-use Rattle.lock_table.specs.Fresh.{firstWordOf, freshObjectsOf, tableOf, madeOf, freshOf}
+use Rattle.lock_table.specs.Record.{no-thread, no-monitor, no-object, with-word}
+use Rattle.lock_table.specs.Access.{thread-at, object-at}
+use Rattle.lock_table.specs.Fresh.{first-word, fresh-objects, table-of, made-of, fresh-of}
 use Rattle.lock_table.specs.declared.record.ObjectRecord.{ObjectRecord}
 use Rattle.lock_table.specs.declared.record.Table.{Table}
-use Rattle.lock_perform.specs.State.{recordOf}
+use Rattle.lock_perform.specs.State.{write-thread}
 use Rattle.lock_records.proofs.Numbering.{lists-of, list-at, by-number}
 use Rattle.lock_records.proofs.Written.{word-written}
 use Rattle.lock_records.proofs.Represents.{Represents}
@@ -37,23 +38,23 @@ fresh-stands reserved =
     record { chain = λ c. rw (none c); apart = λ c d n h k. absurd (omega (arith, h, ap (count n) (none c), count-none n)); loose = λ n h. refl }
   where
     empty : (o : ℕ) (chain : Chain) → chain-of chain (fresh reserved .objects o) ≡ []
-    empty o entry-chain = refl
-    empty o contention-chain = refl
-    empty o waiting-chain = refl
+    empty o Chain.Entry = refl
+    empty o Chain.Contention = refl
+    empty o Chain.Waiting = refl
 
     none : (c : ℕ) → lists-of (fresh reserved .objects) c ≡ []
     none = by-number (λ c. lists-of (fresh reserved .objects) c ≡ []) (λ o chain. list-at (fresh reserved .objects) o chain ∙ empty o chain)
 
 -- the first word is that of the kind
-first-word-written : (o : ℕ) (reserved : Bool) → firstWordOf reserved ≡ word-written o (fresh-word reserved)
-unfolding firstWordOf encodeOf
+first-word-written : (o : ℕ) (reserved : Bool) → first-word reserved ≡ word-written o (fresh-word reserved)
+unfolding first-word write-word
 first-word-written o true = refl
 first-word-written o false = refl
 
 module _ (threads objects : ℕ) (reserved : Bool) (some-threads : 1 ≤ threads) (thread-room : threads ≤ thread-limit) (some-objects : 1 ≤ objects)
     (object-room : objects ≤ object-limit) where
-  pub fresh-made : freshOf threads objects reserved ≡ madeOf threads objects (firstWordOf reserved)
-  unfolding freshOf
+  pub fresh-made : fresh-of threads objects reserved ≡ made-of threads objects (first-word reserved)
+  unfolding fresh-of
   fresh-made =
       simp (
         ne-eqb threads 0 (λ e. omega (arith, e, some-threads)),
@@ -64,45 +65,45 @@ module _ (threads objects : ℕ) (reserved : Bool) (some-threads : 1 ≤ threads
 
   -- an object in use
   abbrev used : ObjectRecord
-  used = withWord noObject (firstWordOf reserved)
+  used = with-word no-object (first-word reserved)
 
   abbrev table : Table
-  table = tableOf threads objects (firstWordOf reserved)
+  table = table-of threads objects (first-word reserved)
 
-  fresh-thread : (n : ℕ) → threadAt table n ≡ recordOf n 0 Idle 0
-  unfolding threadAt recordOf
+  fresh-thread : (n : ℕ) → thread-at table n ≡ write-thread n 0 Idle 0
+  unfolding thread-at write-thread
   fresh-thread n = at (eqb n 0) (ltb thread-limit n) (equal n 0) (below thread-limit n)
     where
       at : (none past : Bool) → Equal none n 0 → Below past thread-limit n
-          → pick none noThread (pick past noThread (getD (replicate thread-limit noThread) (n - 1) noThread)) ≡ noThread
+          → pick none no-thread (pick past no-thread (getD (replicate thread-limit no-thread) (n - 1) no-thread)) ≡ no-thread
       at true past x y = refl
       at false true x y = refl
-      at false false x y = getD-replicate thread-limit (n - 1) noThread noThread (omega (arith, x, y))
+      at false false x y = getD-replicate thread-limit (n - 1) no-thread no-thread (omega (arith, x, y))
 
-  fresh-object : (o : ℕ) → 1 ≤ o → o ≤ objects → objectAt table o ≡ used
-  unfolding objectAt
+  fresh-object : (o : ℕ) → 1 ≤ o → o ≤ objects → object-at table o ≡ used
+  unfolding object-at
   fresh-object o real small =
       rw (ne-eqb o 0 (λ e. omega (arith, e, real)), le-ltb object-limit o (omega (arith, small, object-room)))
-      (List·getD-append (replicate objects used) (replicate (object-limit - objects) noObject) noObject (o - 1)
+      (List·getD-append (replicate objects used) (replicate (object-limit - objects) no-object) no-object (o - 1)
       (omega (arith, length-replicate objects used, real, small))
-      ∙ getD-replicate objects (o - 1) used noObject (omega (arith, real, small)))
+      ∙ getD-replicate objects (o - 1) used no-object (omega (arith, real, small)))
 
-  fresh-past : (o : ℕ) → objects < o → objectAt table o ≡ noObject
-  unfolding objectAt
+  fresh-past : (o : ℕ) → objects < o → object-at table o ≡ no-object
+  unfolding object-at
   fresh-past o past = at (eqb o 0) (ltb object-limit o) (below object-limit o)
     where
       at : (none far : Bool) → Below far object-limit o
-          → pick none noObject (pick far noObject (getD (freshObjectsOf objects (firstWordOf reserved)) (o - 1) noObject)) ≡ noObject
+          → pick none no-object (pick far no-object (getD (fresh-objects objects (first-word reserved)) (o - 1) no-object)) ≡ no-object
       at true far x = refl
       at false true x = refl
       at false false x =
           let place : o - 1 ≡ length (replicate objects used) + (o - 1 - objects) =
           omega (arith, length-replicate objects used, past) in
           rw place
-          (getD-append-add (replicate objects used) (replicate (object-limit - objects) noObject) (o - 1 - objects) noObject
-          ∙ getD-replicate (object-limit - objects) (o - 1 - objects) noObject noObject (omega (arith, x, past)))
+          (getD-append-add (replicate objects used) (replicate (object-limit - objects) no-object) (o - 1 - objects) no-object
+          ∙ getD-replicate (object-limit - objects) (o - 1 - objects) no-object no-object (omega (arith, x, past)))
 
-  pub fresh-represents : Represents threads objects (freshOf threads objects reserved .table) (fresh reserved)
+  pub fresh-represents : Represents threads objects (fresh-of threads objects reserved .table) (fresh reserved)
   fresh-represents =
       rw fresh-made
       (record {
@@ -112,16 +113,16 @@ module _ (threads objects : ℕ) (reserved : Bool) (some-threads : 1 ≤ threads
         object-room = object-room;
         links = no-links;
         chains = fresh-stands reserved;
-        written = record { records = fun-ext fresh-thread; full = length-replicate thread-limit noThread };
+        written = record { records = fun-ext fresh-thread; full = length-replicate thread-limit no-thread };
         objects-full =
-            length-append (replicate objects used) (replicate (object-limit - objects) noObject)
+            length-append (replicate objects used) (replicate (object-limit - objects) no-object)
             ∙ omega (
               arith,
               object-room,
               length-replicate objects used,
-              length-replicate (object-limit - objects) noObject,
+              length-replicate (object-limit - objects) no-object,
             );
-        object-at = λ o real small. fresh-object o real small
-            ∙ (λ j. record { word = first-word-written o reserved j; monitor = noMonitor; flag = false });
+        object-is = λ o real small. fresh-object o real small
+            ∙ (λ j. record { word = first-word-written o reserved j; monitor = no-monitor; flag = false });
         object-past = fresh-past;
       })

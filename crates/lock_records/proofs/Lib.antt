@@ -1,6 +1,7 @@
--- Tables of records stand for tables with lists, event by event, and demand 3 holds of them.
+-- Tables of records stand for tables with lists, event by event, and demand 3 holds of them; and each is sound where the other is.
 pub mod Numbering
 pub mod Written
+pub mod Settled
 pub mod Represents
 pub mod Readings
 pub mod Moves
@@ -12,3 +13,11 @@ pub mod RecordKind
 pub mod FreshRecords
 pub mod Claim
 pub mod Ruled
+pub mod Naming
+pub mod Fits
+pub mod ReadBack
+pub mod Words
+pub mod Depths
+pub mod RepresentedSound
+pub mod EveryNumber
+pub mod SoundRepresents

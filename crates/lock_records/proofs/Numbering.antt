@@ -1,4 +1,4 @@
--- The chains of all objects under one numbering, three to an object; the lists that these chains have in a table with lists; and what each chain action
+-- The chains of all objects under one numbering, three to an object; the lists that these chains have in a table with lists; and what each work on chains
 -- does to the lists and to the links that stand for them.
 use Prim.Native.Nat.{ℕ, zero, suc, _+_, _*_, _/_, _%_, _≤_, _<_}
 use mathlib.Core.Path.{_≡_, refl, sym, _∙_, subst, fun-ext}
@@ -15,26 +15,27 @@ use Rattle.laws.proofs.Choice.{equal?, Equal, equal}
 use Rattle.laws.proofs.Update.{update-same, update-other}
 use Rattle.chains.proofs.Chain.{head}
 use Rattle.chains.proofs.Links.{Links, Stands, leave-links, leave-lists, join-links, join-lists, move-links, move-lists, shift-links, shift-lists}
-use Rattle.chains.proofs.Links.{stands-leave, stands-join, stands-move, stands-shift}
-use Rattle.lock_rules.specs.declared.ChainAction.{ChainAction}
-use Rattle.lock_rules.specs.declared.ChainAction.the-variants.{Stay, JoinEntry, Contend, GiveUp, HandOver, AdmitContenders, TellFirst, WakeFirst}
-use Rattle.lock_rules.specs.declared.ChainAction.the-variants.{WakeAll, SendBack}
+use Rattle.chains.proofs.Links.{leave-within, leave-short, stands-leave, stands-join, stands-move, stands-shift}
+use Rattle.chains.specs.declared.named.Chain.{Chain}
+use Rattle.lock_rules.specs.declared.Taken.{Taken}
+use Rattle.lock_rules.specs.declared.Taken.the-variants.{First, All}
+use Rattle.lock_rules.specs.declared.ChainWork.{ChainWork}
+use Rattle.lock_rules.specs.declared.ChainWork.the-variants.{Stay, Join, JoinAndHand, Hand, Move, SendBack}
 use Rattle.lock_rules.specs.declared.Effect.{Effect}
-use Rattle.lock_rules.proofs.Objects.{ListObject}
-use Rattle.lock_rules.proofs.Perform.{enter-queue, enter-queue-all, first-of, rest-of, told-object, notified-object, object-after, effected}
-use Rattle.lock_rules.proofs.ListChains.{Chain, entry-chain, contention-chain, waiting-chain, chain-of}
+use Rattle.lock_rules.proofs.Objects.{ListObject, chain-of, with-chain}
+use Rattle.lock_rules.proofs.Perform.{enter-queue-all, join, taken, left, first-of, handed-object, moved-object, object-after, effected}
 use Rattle.lock_table.specs.Limits.{thread-limit}
 
 -- a chain's place among the three of its object
 abbrev pub place-of : Chain → ℕ
-place-of entry-chain = 0
-place-of contention-chain = 1
-place-of waiting-chain = 2
+place-of Chain.Entry = 0
+place-of Chain.Contention = 1
+place-of Chain.Waiting = 2
 
 abbrev chain-at : ℕ → Chain
-chain-at zero = entry-chain
-chain-at (suc zero) = contention-chain
-chain-at (suc (suc n)) = waiting-chain
+chain-at zero = Chain.Entry
+chain-at (suc zero) = Chain.Contention
+chain-at (suc (suc n)) = Chain.Waiting
 
 -- the number of a chain of object o
 unfoldable pub number : ℕ → Chain → ℕ
@@ -45,14 +46,14 @@ unfoldable pub lists-of : (ℕ → ListObject) → ℕ → List ℕ
 lists-of objects c = chain-of (chain-at (c % 3)) (objects (c / 3))
 
 place-small : (chain : Chain) → place-of chain < 3
-place-small entry-chain = omega arith
-place-small contention-chain = omega arith
-place-small waiting-chain = omega arith
+place-small Chain.Entry = omega arith
+place-small Chain.Contention = omega arith
+place-small Chain.Waiting = omega arith
 
 chain-back : (chain : Chain) → chain-at (place-of chain) ≡ chain
-chain-back entry-chain = refl
-chain-back contention-chain = refl
-chain-back waiting-chain = refl
+chain-back Chain.Entry = refl
+chain-back Chain.Contention = refl
+chain-back Chain.Waiting = refl
 
 place-back : (k : ℕ) → k < 3 → place-of (chain-at k) ≡ k
 place-back zero small = refl
@@ -106,30 +107,24 @@ lists-replaced objects o new list own others =
         others (number p chain) (λ chain′. objects-apart o p chain chain′ away)
         ∙ rw (list-at (update objects o new) p chain, list-at objects p chain, update-other objects o new p away)
 
--- What a chain action of `thread` at object o does to the lists, and to the links.
-abbrev pub action-lists : ℕ → ℕ → ChainAction → (ℕ → List ℕ) → ℕ → List ℕ
-action-lists thread o Stay list = list
-action-lists thread o JoinEntry list = join-lists (number o entry-chain) thread list
-action-lists thread o Contend list = leave-lists (number o entry-chain) (join-lists (number o contention-chain) thread list)
-action-lists thread o GiveUp list = leave-lists (number o entry-chain) (join-lists (number o waiting-chain) thread list)
-action-lists thread o HandOver list = leave-lists (number o entry-chain) list
-action-lists thread o AdmitContenders list = move-lists (number o contention-chain) (number o entry-chain) list
-action-lists thread o TellFirst list = shift-lists (number o contention-chain) (number o entry-chain) list
-action-lists thread o WakeFirst list = shift-lists (number o waiting-chain) (number o entry-chain) list
-action-lists thread o WakeAll list = move-lists (number o waiting-chain) (number o entry-chain) list
-action-lists thread o (SendBack owner) list = list
+-- What the work of `thread` at object o on chains does to the lists, and to the links.
+abbrev pub work-lists : ℕ → ℕ → ChainWork → (ℕ → List ℕ) → ℕ → List ℕ
+work-lists thread o Stay list = list
+work-lists thread o (Join chain) list = join-lists (number o chain) thread list
+work-lists thread o (JoinAndHand chain) list = join-lists (number o chain) thread (leave-lists (number o Chain.Entry) list)
+work-lists thread o Hand list = leave-lists (number o Chain.Entry) list
+work-lists thread o (Move from First) list = shift-lists (number o from) (number o Chain.Entry) list
+work-lists thread o (Move from All) list = move-lists (number o from) (number o Chain.Entry) list
+work-lists thread o (SendBack owner) list = list
 
-abbrev pub action-links : ℕ → ℕ → ChainAction → Links → Links
-action-links thread o Stay links = links
-action-links thread o JoinEntry links = join-links thread-limit (number o entry-chain) thread links
-action-links thread o Contend links = leave-links (number o entry-chain) (join-links thread-limit (number o contention-chain) thread links)
-action-links thread o GiveUp links = leave-links (number o entry-chain) (join-links thread-limit (number o waiting-chain) thread links)
-action-links thread o HandOver links = leave-links (number o entry-chain) links
-action-links thread o AdmitContenders links = move-links thread-limit (number o contention-chain) (number o entry-chain) links
-action-links thread o TellFirst links = shift-links thread-limit (number o contention-chain) (number o entry-chain) links
-action-links thread o WakeFirst links = shift-links thread-limit (number o waiting-chain) (number o entry-chain) links
-action-links thread o WakeAll links = move-links thread-limit (number o waiting-chain) (number o entry-chain) links
-action-links thread o (SendBack owner) links = links
+abbrev pub work-links : ℕ → ℕ → ChainWork → Links → Links
+work-links thread o Stay links = links
+work-links thread o (Join chain) links = join-links thread-limit (number o chain) thread links
+work-links thread o (JoinAndHand chain) links = join-links thread-limit (number o chain) thread (leave-links (number o Chain.Entry) links)
+work-links thread o Hand links = leave-links (number o Chain.Entry) links
+work-links thread o (Move from First) links = shift-links thread-limit (number o from) (number o Chain.Entry) links
+work-links thread o (Move from All) links = move-links thread-limit (number o from) (number o Chain.Entry) links
+work-links thread o (SendBack owner) links = links
 
 -- thread n can join a chain: it is one, it is in none, and the chains are short enough to walk to their ends
 pub record Room (n : ℕ) (list : ℕ → List ℕ) : Type 0 where
@@ -137,113 +132,108 @@ pub record Room (n : ℕ) (list : ℕ → List ℕ) : Type 0 where
   pub out : (c : ℕ) → count n (list c) ≡ 0
   pub short : (c : ℕ) → length (list c) ≤ thread-limit
 
--- after every action the links stand for the lists
-pub stands-action : (thread o : ℕ) (links : Links) (list : ℕ → List ℕ) → Stands links list → Room thread list → (action : ChainAction)
-    → Stands (action-links thread o action links) (action-lists thread o action list)
-stands-action thread o links list stands room Stay = stands
-stands-action thread o links list stands room JoinEntry =
-    stands-join links list stands thread-limit (number o entry-chain) thread (room .short _) (room .real) (room .out)
-stands-action thread o links list stands room Contend =
-    stands-leave _ _ (stands-join links list stands thread-limit (number o contention-chain) thread (room .short _) (room .real) (room .out)) _
-stands-action thread o links list stands room GiveUp =
-    stands-leave _ _ (stands-join links list stands thread-limit (number o waiting-chain) thread (room .short _) (room .real) (room .out)) _
-stands-action thread o links list stands room HandOver = stands-leave links list stands (number o entry-chain)
-stands-action thread o links list stands room AdmitContenders =
-    stands-move links list stands thread-limit _ _ (chains-apart o contention-chain entry-chain (omega arith)) (room .short _)
-stands-action thread o links list stands room TellFirst =
-    stands-shift links list stands thread-limit _ _ (chains-apart o contention-chain entry-chain (omega arith)) (room .short _)
-stands-action thread o links list stands room WakeFirst =
-    stands-shift links list stands thread-limit _ _ (chains-apart o waiting-chain entry-chain (omega arith)) (room .short _)
-stands-action thread o links list stands room WakeAll =
-    stands-move links list stands thread-limit _ _ (chains-apart o waiting-chain entry-chain (omega arith)) (room .short _)
-stands-action thread o links list stands room (SendBack owner) = stands
+-- after every work the links stand for the lists
+pub stands-work : (thread o : ℕ) (links : Links) (list : ℕ → List ℕ) → Stands links list → Room thread list → (work : ChainWork)
+    → Stands (work-links thread o work links) (work-lists thread o work list)
+stands-work thread o links list stands room Stay = stands
+stands-work thread o links list stands room (Join chain) =
+    stands-join links list stands thread-limit (number o chain) thread (room .short _) (room .real) (room .out)
+stands-work thread o links list stands room (JoinAndHand chain) =
+    stands-join _ _ (stands-leave links list stands (number o Chain.Entry)) thread-limit (number o chain) thread
+    (omega (arith, leave-short list (number o Chain.Entry) (number o chain), room .short (number o chain))) (room .real)
+    (λ c. omega (arith, leave-within list (number o Chain.Entry) c thread, room .out c))
+stands-work thread o links list stands room Hand = stands-leave links list stands (number o Chain.Entry)
+stands-work thread o links list stands room (Move from First) = stands-shift links list stands thread-limit _ _ (room .short _)
+stands-work thread o links list stands room (Move from All) = stands-move links list stands thread-limit _ _ (room .short _)
+stands-work thread o links list stands room (SendBack owner) = stands
 
--- The lists of the object after an action, as the four primitives give them. Joining the entry chain is joining at its end: only here is `enter-queue` opened.
+-- The lists of the object after a work, as the four primitives give them. Joining any chain is joining at its end: only here is `enter-queue-all` opened.
 pub first-is-head : (queue : List ℕ) → first-of queue ≡ head queue
 first-is-head [] = refl
 first-is-head (first ∷ rest) = refl
 
-rest-is-tail : (queue : List ℕ) → rest-of queue ≡ tail queue
+rest-is-tail : (queue : List ℕ) → left First queue ≡ tail queue
 rest-is-tail [] = refl
 rest-is-tail (first ∷ rest) = refl
 
-entered : (entry : List ℕ) (thread : ℕ) → enter-queue entry thread ≡ entry ++ (thread ∷ [])
-unfolding enter-queue
-entered entry thread = refl
+first-is-one : (queue : List ℕ) → taken First queue ≡ take 1 queue
+first-is-one [] = refl
+first-is-one (first ∷ rest) = refl
 
 entered-all : (entry threads : List ℕ) → enter-queue-all entry threads ≡ entry ++ threads
 unfolding enter-queue-all
 entered-all entry threads = refl
 
-told-lists : (o : ListObject) (queue : List ℕ) → o .contention ≡ queue
-    → (told-object o queue .entry ≡ o .entry ++ take 1 queue) × (told-object o queue .contention ≡ tail queue) × (told-object o queue .waiting ≡ o .waiting)
-told-lists o [] e = (sym (append-nil (o .entry)), e, refl)
-told-lists o (first ∷ rest) e = (entered (o .entry) first, refl, refl)
+joined-end : (chain : Chain) (list : List ℕ) (thread : ℕ) → join chain list thread ≡ list ++ (thread ∷ [])
+joined-end Chain.Entry list thread = entered-all list (thread ∷ [])
+joined-end Chain.Contention list thread = refl
+joined-end Chain.Waiting list thread = refl
 
-notified-lists : (o : ListObject) (queue : List ℕ) → o .waiting ≡ queue
-    → (notified-object o queue .entry ≡ o .entry ++ take 1 queue) × (notified-object o queue .contention ≡ o .contention)
-    × (notified-object o queue .waiting ≡ tail queue)
-notified-lists o [] e = (sym (append-nil (o .entry)), refl, e)
-notified-lists o (first ∷ rest) e = (entered (o .entry) first, refl, refl)
+-- another list for one chain leaves the others
+chain-with : (chain other : Chain) (o : ListObject) (list : List ℕ)
+    → chain-of other (with-chain chain o list) ≡ pick (eqb (place-of other) (place-of chain)) list (chain-of other o)
+chain-with Chain.Entry Chain.Entry o list = refl
+chain-with Chain.Entry Chain.Contention o list = refl
+chain-with Chain.Entry Chain.Waiting o list = refl
+chain-with Chain.Contention Chain.Entry o list = refl
+chain-with Chain.Contention Chain.Contention o list = refl
+chain-with Chain.Contention Chain.Waiting o list = refl
+chain-with Chain.Waiting Chain.Entry o list = refl
+chain-with Chain.Waiting Chain.Contention o list = refl
+chain-with Chain.Waiting Chain.Waiting o list = refl
 
--- the actions on lists are those on the object, of which the effect changes word, flag, holder and depth
+chain-handed : (chain : Chain) (o : ListObject)
+    → chain-of chain (handed-object o) ≡ pick (eqb (place-of chain) (place-of Chain.Entry)) (tail (o .entry)) (chain-of chain o)
+chain-handed Chain.Entry o = rest-is-tail (o .entry)
+chain-handed Chain.Contention o = refl
+chain-handed Chain.Waiting o = refl
+
+-- the works on lists are those on the object, of which the effect changes word, flag, holder and depth
 module _ (objects : ℕ → ListObject) (thread o : ℕ) (effect : Effect) where
   abbrev now : ListObject
   now = effected thread effect (objects o)
 
   unmoved : (chain : Chain) → lists-of objects (number o chain) ≡ chain-of chain now
-  unmoved entry-chain = list-at objects o entry-chain
-  unmoved contention-chain = list-at objects o contention-chain
-  unmoved waiting-chain = list-at objects o waiting-chain
+  unmoved Chain.Entry = list-at objects o Chain.Entry
+  unmoved Chain.Contention = list-at objects o Chain.Contention
+  unmoved Chain.Waiting = list-at objects o Chain.Waiting
 
-  own-lists : (action : ChainAction) (chain : Chain)
-      → action-lists thread o action (lists-of objects) (number o chain) ≡ chain-of chain (object-after action thread now)
+  moved-chain : (from : Chain) (which : Taken) (chain : Chain)
+      → let threads = chain-of from now in
+      chain-of chain (moved-object from which now)
+      ≡ pick (eqb (place-of chain) (place-of Chain.Entry))
+      (pick (eqb (place-of Chain.Entry) (place-of from)) (left which threads) (now .entry) ++ taken which threads)
+      (pick (eqb (place-of chain) (place-of from)) (left which threads) (chain-of chain now))
+  moved-chain from which chain =
+      let threads = chain-of from now in
+      let rest = with-chain from now (left which threads) in
+      chain-with Chain.Entry chain rest (enter-queue-all (rest .entry) (taken which threads))
+      ∙ rw (chain-with from chain now (left which threads), entered-all (rest .entry) (taken which threads), chain-with from Chain.Entry now (left which threads))
+
+  own-lists : (work : ChainWork) (chain : Chain)
+      → work-lists thread o work (lists-of objects) (number o chain) ≡ chain-of chain (object-after work thread now)
   own-lists Stay chain = unmoved chain
-  own-lists JoinEntry entry-chain = simp (update-number, list-at, entered)
-  own-lists JoinEntry contention-chain = simp (update-number, list-at)
-  own-lists JoinEntry waiting-chain = simp (update-number, list-at)
-  own-lists Contend entry-chain = simp (update-number, list-at, rest-is-tail)
-  own-lists Contend contention-chain = simp (update-number, list-at)
-  own-lists Contend waiting-chain = simp (update-number, list-at)
-  own-lists GiveUp entry-chain = simp (update-number, list-at, rest-is-tail)
-  own-lists GiveUp contention-chain = simp (update-number, list-at)
-  own-lists GiveUp waiting-chain = simp (update-number, list-at)
-  own-lists HandOver entry-chain = simp (update-number, list-at, rest-is-tail)
-  own-lists HandOver contention-chain = simp (update-number, list-at)
-  own-lists HandOver waiting-chain = simp (update-number, list-at)
-  own-lists AdmitContenders entry-chain = simp (update-number, list-at, entered-all)
-  own-lists AdmitContenders contention-chain = simp (update-number, list-at)
-  own-lists AdmitContenders waiting-chain = simp (update-number, list-at)
-  own-lists TellFirst entry-chain = simp (update-number, list-at) (sym (told-lists now (now .contention) refl .0))
-  own-lists TellFirst contention-chain = simp (update-number, list-at) (sym (told-lists now (now .contention) refl .1))
-  own-lists TellFirst waiting-chain = simp (update-number, list-at) (sym (told-lists now (now .contention) refl .2))
-  own-lists WakeFirst entry-chain = simp (update-number, list-at) (sym (notified-lists now (now .waiting) refl .0))
-  own-lists WakeFirst contention-chain = simp (update-number, list-at) (sym (notified-lists now (now .waiting) refl .1))
-  own-lists WakeFirst waiting-chain = simp (update-number, list-at) (sym (notified-lists now (now .waiting) refl .2))
-  own-lists WakeAll entry-chain = simp (update-number, list-at, entered-all)
-  own-lists WakeAll contention-chain = simp (update-number, list-at)
-  own-lists WakeAll waiting-chain = simp (update-number, list-at)
+  own-lists (Join into) chain = simp (update-number, unmoved, chain-with, joined-end)
+  own-lists (JoinAndHand into) chain = simp (update-number, unmoved, chain-with, joined-end, chain-handed)
+  own-lists Hand chain = simp (update-number, unmoved, chain-handed)
+  own-lists (Move from First) chain = simp (update-number, unmoved) (simp (rest-is-tail, first-is-one) at (sym (moved-chain from First chain)))
+  own-lists (Move from All) chain = simp (update-number, unmoved) (sym (moved-chain from All chain))
   own-lists (SendBack owner) chain = unmoved chain
 
-  -- no action touches another object's chains
-  other-lists : (action : ChainAction) (c : ℕ) → ((chain : Chain) → c ≢ number o chain)
-      → action-lists thread o action (lists-of objects) c ≡ lists-of objects c
-  other-lists action c away = at action (away entry-chain) (away contention-chain) (away waiting-chain)
+  -- no work touches another object's chains
+  other-lists : (work : ChainWork) (c : ℕ) → ((chain : Chain) → c ≢ number o chain) → work-lists thread o work (lists-of objects) c ≡ lists-of objects c
+  other-lists work c away = at work (λ chain list value. update-other list (number o chain) value c (away chain))
     where
-      at : (action : ChainAction) → c ≢ number o entry-chain → c ≢ number o contention-chain → c ≢ number o waiting-chain
-          → action-lists thread o action (lists-of objects) c ≡ lists-of objects c
-      at Stay a b d = refl
-      at JoinEntry a b d = simp update-other
-      at Contend a b d = simp update-other
-      at GiveUp a b d = simp update-other
-      at HandOver a b d = simp update-other
-      at AdmitContenders a b d = simp update-other
-      at TellFirst a b d = simp update-other
-      at WakeFirst a b d = simp update-other
-      at WakeAll a b d = simp update-other
-      at (SendBack owner) a b d = refl
+      at : (work : ChainWork) → ((chain : Chain) (list : ℕ → List ℕ) (value : List ℕ) → update list (number o chain) value c ≡ list c)
+          → work-lists thread o work (lists-of objects) c ≡ lists-of objects c
+      at Stay same = refl
+      at (Join chain) same = simp same
+      at (JoinAndHand chain) same = simp same
+      at Hand same = simp same
+      at (Move from First) same = simp same
+      at (Move from All) same = simp same
+      at (SendBack owner) same = refl
 
-  pub lists-action : (action : ChainAction)
-      → action-lists thread o action (lists-of objects) ≡ lists-of (update objects o (object-after action thread now))
-  lists-action action =
-      lists-replaced objects o (object-after action thread now) (action-lists thread o action (lists-of objects)) (own-lists action) (other-lists action)
+  pub lists-work : (work : ChainWork) → work-lists thread o work (lists-of objects) ≡ lists-of (update objects o (object-after work thread now))
+  lists-work work =
+      lists-replaced objects o (object-after work thread now) (work-lists thread o work (lists-of objects)) (own-lists work) (other-lists work)

@@ -10,11 +10,11 @@ use Rattle.lock_rules.specs.Operations.{Operation as AskedOperation}
 use Rattle.lock_rules.specs.Operations.{Enter as AskEnter, Exit as AskExit, Wait as AskWait, Notify as AskNotify, NotifyAll as AskNotifyAll}
 use Rattle.lock_rules.specs.Operations.{Asked, Unknown, Known}
 use Rattle.lock_rules.specs.declared.ThreadState.the-variants.{Running}
-use Rattle.lock_table.specs.Operation.{operationFromOf}
+use Rattle.lock_table.specs.Operation.{operation-from}
 use Rattle.lock_table.specs.declared.operation.Operation.{Operation}
 use Rattle.lock_table.specs.declared.operation.Operation.the-variants.{Idle, Enter, Exit, Wait, Notify, NotifyAll}
 use Rattle.lock_table.specs.declared.phase.Phase.the-variants.{Look}
-use Rattle.lock_perform.specs.State.{threadWith, doingRecordOf, recordOf}
+use Rattle.lock_perform.specs.State.{with-fields, doing-record, write-thread}
 
 abbrev pub operation-of : AskedOperation → Operation
 operation-of AskEnter = Enter
@@ -32,8 +32,8 @@ asked-of Notify = Known AskNotify
 asked-of NotifyAll = Known AskNotifyAll
 
 -- both read a number alike
-pub asked-from : (number : ℕ) → asked-for number ≡ asked-of (operationFromOf number)
-unfolding asked-for operationFromOf
+pub asked-from : (number : ℕ) → asked-for number ≡ asked-of (operation-from number)
+unfolding asked-for operation-from
 asked-from number = at (eqb number 1) (eqb number 2) (eqb number 3) (eqb number 4) (eqb number 5)
   where
     at : (a b c d e : Bool)
@@ -47,8 +47,8 @@ asked-from number = at (eqb number 1) (eqb number 2) (eqb number 3) (eqb number 
     at false false false false false = refl
 
 -- so a number that asks for an operation is the engine's number of it
-pub operation-asked : (number : ℕ) (operation : AskedOperation) → asked-for number ≡ Known operation → operationFromOf number ≡ operation-of operation
-operation-asked number operation asked = at (operationFromOf number) (sym (asked-from number) ∙ asked)
+pub operation-asked : (number : ℕ) (operation : AskedOperation) → asked-for number ≡ Known operation → operation-from number ≡ operation-of operation
+operation-asked number operation asked = at (operation-from number) (sym (asked-from number) ∙ asked)
   where
     at : (found : Operation) → asked-of found ≡ Known operation → found ≡ operation-of operation
     at Idle e = cc
@@ -59,8 +59,8 @@ operation-asked number operation asked = at (operationFromOf number) (sym (asked
     at NotifyAll e = let same : AskNotifyAll ≡ operation = cc in rw (← same)
 
 -- begin sets phase 1
-pub begun-written : (n o : ℕ) (operation : AskedOperation) → recordOf n o (Running (begun operation)) 0 ≡ threadWith (operation-of operation) o Look 0 0 0
-unfolding recordOf doingRecordOf
+pub begun-written : (n o : ℕ) (operation : AskedOperation) → write-thread n o (Running (begun operation)) 0 ≡ with-fields (operation-of operation) o Look 0 0 0
+unfolding write-thread doing-record
 begun-written n o AskEnter = refl
 begun-written n o AskExit = refl
 begun-written n o AskWait = refl

@@ -11,7 +11,7 @@ use Rattle.laws.proofs.Choice.{equal?}
 use Rattle.laws.proofs.Update.{update-same, update-other, update-id}
 use Rattle.chains.proofs.Chain.{head}
 use Rattle.chains.proofs.Links.{Links, Stands, first-head}
-use Rattle.lock_rules.specs.Changes.{word-after}
+use Rattle.lock_rules.specs.Changes.{seen-after}
 use Rattle.lock_rules.specs.declared.Doing.{Doing}
 use Rattle.lock_rules.specs.declared.ThreadState.{ThreadState}
 use Rattle.lock_rules.specs.declared.ThreadState.the-variants.{Idle, Running}
@@ -21,19 +21,21 @@ use Rattle.lock_rules.proofs.Objects.{ListObject}
 use Rattle.lock_rules.proofs.Perform.{perform, states-after, object-after, effected}
 use Rattle.lock_rules.proofs.Tables.{ListThread, ListTable, states-at, put-back}
 use Rattle.lock_rules.proofs.ListSound.{SoundTable}
-use Rattle.lock_rules.proofs.ListChains.{Chain, entry-chain, contention-chain, waiting-chain, chain-of, times-in, short, out-of-chain}
+use Rattle.chains.specs.declared.named.Chain.{Chain}
+use Rattle.lock_rules.proofs.Objects.{chain-of}
+use Rattle.lock_rules.proofs.ListChains.{times-in, short, out-of-chain}
 use Rattle.lock_table.specs.Limits.{thread-limit, object-limit}
-use Rattle.lock_table.specs.Record.{noThread, noObject}
-use Rattle.lock_table.specs.Access.{threadAt, setThread, objectAt, setObject, nextOf}
+use Rattle.lock_table.specs.Record.{no-thread, no-object}
+use Rattle.lock_table.specs.Access.{thread-at, set-thread, object-at, set-object, next-of}
 use Rattle.lock_table.proofs.Records.{read-at, BesideObjects, object-set, object-beside}
 use Rattle.lock_table.specs.declared.record.ThreadRecord.{ThreadRecord}
 use Rattle.lock_table.specs.declared.record.ObjectRecord.{ObjectRecord}
 use Rattle.lock_table.specs.declared.record.Table.{Table}
-use Rattle.lock_perform.specs.State.{recordOf}
-use Rattle.lock_perform.specs.Moving.{actionOf}
-use Rattle.lock_perform.specs.Perform.{performOf}
-use Rattle.lock_perform.specs.declared.moving.Moved.{Moved}
-use Rattle.lock_records.proofs.Numbering.{number, lists-of, list-at, by-number, action-links, Room, stands-action, lists-action}
+use Rattle.lock_perform.specs.State.{write-thread}
+use Rattle.lock_perform.specs.Moving.{carry-out}
+use Rattle.lock_perform.proofs.Performed.{perform-of}
+use Rattle.lock_perform.specs.declared.moving.CarriedOut.{CarriedOut}
+use Rattle.lock_records.proofs.Numbering.{number, lists-of, list-at, by-number, work-links, Room, stands-work, lists-work}
 use Rattle.lock_records.proofs.Written.{word-written, word-changed}
 use Rattle.lock_records.proofs.Represents.{thread-record, monitor-record, object-record, Represents, next-is}
 use Rattle.lock_records.proofs.Moves.{Moves, moves-set}
@@ -41,27 +43,27 @@ use Rattle.lock_records.proofs.Placing.{placed, placed-none, placed-own
 use Rattle.lock_records.proofs.Actions.{Acted, acted, word-kept}
 
 -- a table with the same list of records has the same records
-threads-of : (t u : Table) → u .threads ≡ t .threads → threadAt u ≡ threadAt t
-unfolding threadAt
-threads-of t u same = fun-ext (λ n. ap (λ (records : List ThreadRecord). read-at ThreadRecord noThread thread-limit records n) same)
+threads-of : (t u : Table) → u .threads ≡ t .threads → thread-at u ≡ thread-at t
+unfolding thread-at
+threads-of t u same = fun-ext (λ n. ap (λ (records : List ThreadRecord). read-at ThreadRecord no-thread thread-limit records n) same)
 
-objects-of : (t u : Table) → u .objects ≡ t .objects → objectAt u ≡ objectAt t
-unfolding objectAt
-objects-of t u same = fun-ext (λ n. ap (λ (records : List ObjectRecord). read-at ObjectRecord noObject object-limit records n) same)
+objects-of : (t u : Table) → u .objects ≡ t .objects → object-at u ≡ object-at t
+unfolding object-at
+objects-of t u same = fun-ext (λ n. ap (λ (records : List ObjectRecord). read-at ObjectRecord no-object object-limit records n) same)
 
 -- a thread in no chain names none
 abbrev Unchained : ThreadState → Type 0
 Unchained state = (chain : Chain) → times-in chain state ≡ 0
 
 pub running-unchained : (doing : Doing) → Unchained (Running doing)
-running-unchained doing entry-chain = refl
-running-unchained doing contention-chain = refl
-running-unchained doing waiting-chain = refl
+running-unchained doing Chain.Entry = refl
+running-unchained doing Chain.Contention = refl
+running-unchained doing Chain.Waiting = refl
 
 pub idle-unchained : Unchained Idle
-idle-unchained entry-chain = refl
-idle-unchained contention-chain = refl
-idle-unchained waiting-chain = refl
+idle-unchained Chain.Entry = refl
+idle-unchained Chain.Contention = refl
+idle-unchained Chain.Waiting = refl
 
 module _ (threads objects : ℕ) (t : Table) (lists : ListTable) (represents : Represents threads objects t lists) (sound : SoundTable threads objects lists)
     (i : ℕ) (low : 1 ≤ i) (high : i ≤ threads) where
@@ -78,7 +80,7 @@ module _ (threads objects : ℕ) (t : Table) (lists : ListTable) (represents : R
 
   -- a begin writes one thread's record
   pub begin-represents : (thread : ListThread) → lists .threads i .state ≡ Idle
-      → Represents threads objects (setThread t i (thread-record i thread 0))
+      → Represents threads objects (set-thread t i (thread-record i thread 0))
       (record { threads = update (lists .threads) i thread; objects = lists .objects })
   begin-represents thread idle =
       record {
@@ -90,22 +92,22 @@ module _ (threads objects : ℕ) (t : Table) (lists : ListTable) (represents : R
         chains = represents .chains;
         written = moves .written;
         objects-full = ap length (moves .beside .objects) ∙ represents .objects-full;
-        object-at = λ o real small. ap (λ (f : ℕ → ObjectRecord). f o) same ∙ represents .object-at o real small;
+        object-is = λ o real small. ap (λ (f : ℕ → ObjectRecord). f o) same ∙ represents .object-is o real small;
         object-past = λ o past. ap (λ (f : ℕ → ObjectRecord). f o) same ∙ represents .object-past o past;
       }
     where
       unlinked : represents .links .next i ≡ 0
       unlinked = represents .chains .loose i (room (subst Unchained (sym idle) idle-unchained) .out)
 
-      moves : Moves t (setThread t i (thread-record i thread 0)) (update (lists .threads) i thread) (represents .links .next)
+      moves : Moves t (set-thread t i (thread-record i thread 0)) (update (lists .threads) i thread) (represents .links .next)
       moves =
           rw (update-id (represents .links .next) i 0 unlinked) at
           (moves-set t t (lists .threads) (represents .links .next)
           (record { written = represents .written; beside = record { threadcount = refl; objectcount = refl; objects = refl; length-kept = refl } })
           i low (omega (arith, represents .thread-room)) thread 0)
 
-      same : objectAt (setThread t i (thread-record i thread 0)) ≡ objectAt t
-      same = objects-of t (setThread t i (thread-record i thread 0)) (moves .beside .objects)
+      same : object-at (set-thread t i (thread-record i thread 0)) ≡ object-at t
+      same = objects-of t (set-thread t i (thread-record i thread 0)) (moves .beside .objects)
 
   -- a step at object o
   module _ (o : ℕ) (home : lists .threads i .object ≡ o) (real : 1 ≤ o) (small : o ≤ objects) (unchained : Unchained (lists .threads i .state)) where
@@ -120,51 +122,51 @@ module _ (threads objects : ℕ) (t : Table) (lists : ListTable) (represents : R
       now = effected i effect (lists .objects o)
 
       abbrev new : ListObject
-      new = object-after (effect .chains) i now
+      new = object-after (effect .work) i now
 
       abbrev links : Links
-      links = action-links i o (effect .chains) (represents .links)
+      links = work-links i o (effect .work) (represents .links)
 
-      abbrev moved : Moved
-      moved = actionOf (effect .chains) i o (record { table = t; monitor = monitor-record o (represents .links) (effect .holder) (effect .depth) })
+      abbrev moved : CarriedOut
+      moved = carry-out t (monitor-record o (represents .links) (effect .holder) (effect .depth)) (effect .work) i o
 
       abbrev written-word : ℕ
-      written-word = word-written o (word-after i (effect .word) (lists .objects o .word))
+      written-word = word-written o (seen-after i (effect .word) (lists .objects o .word))
 
       abbrev states : ℕ → ThreadState
-      states = update (states-after (effect .chains) (states-at lists o) now) i (effect .state)
+      states = update (states-after (effect .work) (states-at lists o) now) i (effect .state)
 
       abbrev own-written : Table
-      own-written = setThread (moved .table) i (recordOf i o (effect .state) (nextOf (moved .table) i))
+      own-written = set-thread (moved .table) i (write-thread i o (effect .state) (next-of (moved .table) i))
 
       abbrev object-written : ObjectRecord
       object-written = record { word = written-word; monitor = moved .monitor; flag = effect .flag }
 
       stands : Stands links (lists-of (update (lists .objects) o new))
       stands =
-          subst (Stands links) (lists-action (lists .objects) i o effect (effect .chains))
-          (stands-action i o (represents .links) (lists-of (lists .objects)) (represents .chains) (room unchained) (effect .chains))
+          subst (Stands links) (lists-work (lists .objects) i o effect (effect .work))
+          (stands-work i o (represents .links) (lists-of (lists .objects)) (represents .chains) (room unchained) (effect .work))
 
-      action : Acted t lists o links moved (states-after (effect .chains) (states-at lists o) now) (new .holder) (new .depth)
-      action = acted threads objects t lists represents sound o i effect (effect .chains)
+      action : Acted t lists o links moved (states-after (effect .work) (states-at lists o) now) (new .holder) (new .depth)
+      action = acted threads objects t lists represents sound o i effect (effect .work)
 
       threads-after : Moves t own-written (placed o (lists .threads) states) (links .next)
       threads-after =
-          let link : nextOf (moved .table) i ≡ links .next i =
+          let link : next-of (moved .table) i ≡ links .next i =
           ap (λ (next : ℕ → ℕ). next i) (next-is (moved .table) _ (links .next) (action .moves .written)) in
           subst
-          (λ (n : ℕ). Moves t (setThread (moved .table) i (recordOf i o (effect .state) n)) (placed o (lists .threads) states) (links .next)) (sym link)
-          (rw (← (placed-own o (lists .threads) (states-after (effect .chains) (states-at lists o) now) i (effect .state) home))
+          (λ (n : ℕ). Moves t (set-thread (moved .table) i (write-thread i o (effect .state) n)) (placed o (lists .threads) states) (links .next)) (sym link)
+          (rw (← (placed-own o (lists .threads) (states-after (effect .work) (states-at lists o) now) i (effect .state) home))
           (rw (update-id (links .next) i (links .next i) refl) at
-          (moves-set t (moved .table) (placed o (lists .threads) (states-after (effect .chains) (states-at lists o) now)) (links .next) (action .moves) i low
+          (moves-set t (moved .table) (placed o (lists .threads) (states-after (effect .work) (states-at lists o) now)) (links .next) (action .moves) i low
           (omega (arith, high, represents .thread-room)) (record { object = o; state = effect .state }) (links .next i))))
 
       written-is : object-written ≡ object-record o new links
       written-is =
-          let (same-word, same-flag) = word-kept (effect .chains) i now in
+          let (same-word, same-flag) = word-kept (effect .work) i now in
           λ j. record { word = word-written o (sym same-word j); monitor = action .monitor j; flag = sym same-flag j }
 
-      objects-after : objectAt (setObject own-written o object-written) ≡ update (objectAt t) o object-written
+      objects-after : object-at (set-object own-written o object-written) ≡ update (object-at t) o object-written
       objects-after =
           let same : own-written .objects ≡ t .objects = threads-after .beside .objects in
           object-set own-written o object-written (ap length same ∙ represents .objects-full) real (omega (arith, small, represents .object-room))
@@ -180,18 +182,18 @@ module _ (threads objects : ℕ) (t : Table) (lists : ListTable) (represents : R
           ∙ sym (first-head (represents .links) (lists-of (lists .objects)) (represents .chains) (number p chain)))
 
       object-after-at : (p : ℕ) → 1 ≤ p → p ≤ objects → (p ≡ o) ⊎ (p ≢ o)
-          → update (objectAt t) o object-written p ≡ object-record p (update (lists .objects) o new p) links
-      object-after-at p first last (inl e) = rw (e, update-same (objectAt t) o object-written, update-same (lists .objects) o new) written-is
+          → update (object-at t) o object-written p ≡ object-record p (update (lists .objects) o new p) links
+      object-after-at p first last (inl e) = rw (e, update-same (object-at t) o object-written, update-same (lists .objects) o new) written-is
       object-after-at p first last (inr away) =
           rw (
-            update-other (objectAt t) o object-written p away,
+            update-other (object-at t) o object-written p away,
             update-other (lists .objects) o new p away,
-            other-first p away entry-chain,
-            other-first p away contention-chain,
-            other-first p away waiting-chain,
-          ) (represents .object-at p first last)
+            other-first p away Chain.Entry,
+            other-first p away Chain.Contention,
+            other-first p away Chain.Waiting,
+          ) (represents .object-is p first last)
 
-      effect-represents : Represents threads objects (setObject own-written o object-written)
+      effect-represents : Represents threads objects (set-object own-written o object-written)
           (put-back lists o (perform i (states-at lists o) (lists .objects o) (Do effect)) .table)
       effect-represents =
           record {
@@ -202,24 +204,24 @@ module _ (threads objects : ℕ) (t : Table) (lists : ListTable) (represents : R
             links = links;
             chains = stands;
             written = record {
-              records = threads-of own-written (setObject own-written o object-written) (beside .threads) ∙ threads-after .written .records;
+              records = threads-of own-written (set-object own-written o object-written) (beside .threads) ∙ threads-after .written .records;
               full = ap length (beside .threads) ∙ threads-after .written .full;
             };
             objects-full = beside .length-kept ∙ (ap length (threads-after .beside .objects) ∙ represents .objects-full);
-            object-at = λ p first last. ap (λ (f : ℕ → ObjectRecord). f p) objects-after ∙ object-after-at p first last (equal? p o);
+            object-is = λ p first last. ap (λ (f : ℕ → ObjectRecord). f p) objects-after ∙ object-after-at p first last (equal? p o);
             object-past = λ p past. ap (λ (f : ℕ → ObjectRecord). f p) objects-after
-                ∙ (update-other (objectAt t) o object-written p (λ e. omega (arith, e, past, small)) ∙ represents .object-past p past);
+                ∙ (update-other (object-at t) o object-written p (λ e. omega (arith, e, past, small)) ∙ represents .object-past p past);
           }
         where
-          beside : BesideObjects own-written (setObject own-written o object-written)
+          beside : BesideObjects own-written (set-object own-written o object-written)
           beside = object-beside own-written o object-written
 
       -- the effect on the records as they are: the word is changed by its bits
-      pub perform-represents : Represents threads objects (performOf t i o (objectAt t o) effect)
+      pub perform-represents : Represents threads objects (perform-of t i o (object-at t o) effect)
           (put-back lists o (perform i (states-at lists o) (lists .objects o) (Do effect)) .table)
       perform-represents =
           rw (
-            represents .object-at o real small,
+            represents .object-is o real small,
             word-changed threads o (represents .thread-room) real (omega (arith, small, represents .object-room)) i (lists .objects o .word)
                 (sound .sound o .word) (effect .word),
           )

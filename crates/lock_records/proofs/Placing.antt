@@ -13,24 +13,17 @@ use Rattle.laws.specs.Update.{update}
 use Rattle.laws.specs.Count.{count}
 use Rattle.laws.proofs.Choice.{equal?, Equal, equal}
 use Rattle.laws.proofs.Update.{update-same, update-other, update-id}
-use Rattle.laws.proofs.Count.{count-same}
+use Rattle.laws.proofs.Count.{count-none, count-same, count-other}
 use Rattle.chains.proofs.Chain.{Chain, head}
 use Rattle.chains.proofs.Walk.{walk, if-counted, walk-changes}
 use Rattle.lock_rules.specs.Changes.{sent-back}
-use Rattle.lock_rules.specs.PlainMonitor.{above-zero}
 use Rattle.lock_rules.specs.declared.ThreadState.{ThreadState}
 use Rattle.lock_rules.specs.declared.ThreadState.the-variants.{Idle}
-use Rattle.lock_rules.proofs.Tables.{ListThread, seen-from, seen-here, seen-elsewhere}
+use Rattle.lock_rules.specs.declared.Taken.the-variants.{First}
+use Rattle.lock_rules.specs.PlainMonitor.{above-zero}
+use Rattle.lock_rules.proofs.Perform.{taken, changed-states}
+use Rattle.lock_rules.proofs.Tables.{ListThread, seen-from, seen-here}
 use Rattle.lock_records.proofs.Moves.{change, sent-from}
-
--- the first of a list, if there is one, in another state
-abbrev pub first-states : (ThreadState → ThreadState) → (ℕ → ThreadState) → List ℕ → ℕ → ThreadState
-first-states f states [] = states
-first-states f states (first ∷ rest) = update states first (f (states first))
-
--- each of a list in another state
-abbrev pub all-states : (ThreadState → ThreadState) → (ℕ → ThreadState) → List ℕ → ℕ → ThreadState
-all-states f states list n = pick (above-zero (count n list)) (f (states n)) (states n)
 
 module _ (o : ℕ) (threads : ℕ → ListThread) where
   -- the threads as o sees them
@@ -58,33 +51,37 @@ module _ (o : ℕ) (threads : ℕ → ListThread) where
   pub placed-none : threads ≡ placed sees
   placed-none = placed-by threads sees as-seen (λ n away. refl)
 
+  -- nobody is in the list
+  nobody-changed : (f : ThreadState → ThreadState) → sees ≡ changed-states f sees []
+  nobody-changed f = fun-ext (λ n. rw (count-none n))
+
   -- one thread at o changed
   pub placed-one : (f : ThreadState → ThreadState) (x : ℕ) → threads x .object ≡ o
-      → update threads x (change f (threads x)) ≡ placed (update sees x (f (sees x)))
+      → update threads x (change f (threads x)) ≡ placed (changed-states f sees (x ∷ []))
   placed-one f x home =
-      placed-by (update threads x (change f (threads x))) (update sees x (f (sees x))) (λ n e. here n e (equal? n x))
+      placed-by (update threads x (change f (threads x))) (changed-states f sees (x ∷ [])) (λ n e. here n e (equal? n x))
       (λ n away. update-other threads x (change f (threads x)) n (λ e. away (ap (λ (m : ℕ). threads m .object) e ∙ home)))
     where
       here : (n : ℕ) → threads n .object ≡ o → (n ≡ x) ⊎ (n ≢ x)
-          → update threads x (change f (threads x)) n ≡ record { object = o; state = update sees x (f (sees x)) n }
-      here n e (inl q) = rw (q, update-same threads x (change f (threads x)), update-same sees x (f (sees x))) (ap (change f) (as-seen x home))
-      here n e (inr away) = rw (update-other threads x (change f (threads x)) n away, update-other sees x (f (sees x)) n away) (as-seen n e)
+          → update threads x (change f (threads x)) n ≡ record { object = o; state = changed-states f sees (x ∷ []) n }
+      here n e (inl q) = rw (q, update-same threads x (change f (threads x)), count-same x []) (ap (change f) (as-seen x home))
+      here n e (inr away) = rw (update-other threads x (change f (threads x)) n away, count-other n x [] away, count-none n) (as-seen n e)
 
   -- the first of a list changed; of an empty one that is thread 0, which is idle and stays so
   pub placed-first : (f : ThreadState → ThreadState) (list : List ℕ) (first : ℕ) → first ≡ head list → threads 0 .state ≡ Idle → f Idle ≡ Idle
       → ((n : ℕ) → 0 < count n list → threads n .object ≡ o)
-      → update threads first (change f (threads first)) ≡ placed (first-states f sees list)
+      → update threads first (change f (threads first)) ≡ placed (changed-states f sees (taken First list))
   placed-first f [] first e nobody fixed home =
       let idle : threads first .state ≡ Idle = ap (λ (n : ℕ). threads n .state) e ∙ nobody in
       let same : threads first ≡ change f (threads first) = λ j. record { object = threads first .object; state = (idle ∙ sym (ap f idle ∙ fixed)) j } in
-      update-id threads first (change f (threads first)) same ∙ placed-none
+      update-id threads first (change f (threads first)) same ∙ (placed-none ∙ ap placed (nobody-changed f))
   placed-first f (x ∷ rest) first e nobody fixed home = rw e (placed-one f x (home x (omega (arith, count-same x rest))))
 
   -- each of a list changed
   pub placed-all : (f : ThreadState → ThreadState) (next : ℕ → ℕ) (list : List ℕ) (fuel first : ℕ) → Chain next first list → length list ≤ fuel
-      → ((n : ℕ) → 0 < count n list → threads n .object ≡ o) → walk fuel next (change f) threads first ≡ placed (all-states f sees list)
+      → ((n : ℕ) → 0 < count n list → threads n .object ≡ o) → walk fuel next (change f) threads first ≡ placed (changed-states f sees list)
   placed-all f next list fuel first chain short home =
-      placed-by (walk fuel next (change f) threads first) (all-states f sees list)
+      placed-by (walk fuel next (change f) threads first) (changed-states f sees list)
       (λ n e. walk-changes fuel next (change f) threads first list chain short n ∙ here n (count n list) e)
       (λ n away. walk-changes fuel next (change f) threads first list chain short n ∙ elsewhere n (count n list) refl away)
     where
@@ -98,16 +95,17 @@ module _ (o : ℕ) (threads : ℕ → ListThread) where
       elsewhere n (suc k) e away = absurd (away (home n (omega (arith, e))))
 
   -- one thread sent back, if it is at o
-  pub placed-sent : (x : ℕ) → update threads x (sent-from o (threads x)) ≡ placed (update sees x (sent-back (sees x)))
+  pub placed-sent : (x : ℕ) → update threads x (sent-from o (threads x)) ≡ placed (changed-states sent-back sees (x ∷ []))
   placed-sent x = at (eqb (threads x .object) o) (equal (threads x .object) o)
     where
       at : (there : Bool) → Equal there (threads x .object) o
           → update threads x (record { object = threads x .object; state = pick there (sent-back (threads x .state)) (threads x .state) })
-          ≡ placed (update sees x (sent-back (sees x)))
+          ≡ placed (changed-states sent-back sees (x ∷ []))
       at true home = placed-one sent-back x home
       at false away =
-          let idle : sees x ≡ Idle = seen-elsewhere o (threads x) away in
-          rw (idle, update-id threads x (threads x) refl, update-id sees x Idle idle) placed-none
+          update-id threads x (threads x) refl
+          ∙ placed-by threads (changed-states sent-back sees (x ∷ []))
+          (λ n e. rw (count-other n x [] (λ q. away (ap (λ (m : ℕ). threads m .object) (sym q) ∙ e)), count-none n) (as-seen n e)) (λ n gone. refl)
 
   -- and with the state of thread i, which is at o
   pub placed-own : (states : ℕ → ThreadState) (i : ℕ) (state : ThreadState) → threads i .object ≡ o

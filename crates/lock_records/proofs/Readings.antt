@@ -12,21 +12,23 @@ use Rattle.laws.proofs.Choice.{equal?}
 use Rattle.chains.specs.Chain.{members}
 use Rattle.chains.proofs.Chain.{head, chain-members}
 use Rattle.chains.proofs.Links.{first-head, head-real}
-use Rattle.lock_word.specs.Read.{decodeOf}
+use Rattle.lock_word.specs.Read.{read-word}
 use Rattle.lock_word.specs.declared.reading.Decoded.the-variants.{Valid}
 use Rattle.lock_rules.specs.Status.{unfinished}
 use Rattle.lock_rules.specs.declared.ThreadState.the-variants.{Idle}
 use Rattle.lock_rules.proofs.Objects.{empty, sight-of}
 use Rattle.lock_rules.proofs.Tables.{ListTable, seen-here}
 use Rattle.lock_rules.proofs.ListSound.{InTable, SoundTable}
-use Rattle.lock_rules.proofs.ListChains.{Chain, entry-chain, contention-chain, waiting-chain, chain-of, short}
+use Rattle.chains.specs.declared.named.Chain.{Chain}
+use Rattle.lock_rules.proofs.Objects.{chain-of}
+use Rattle.lock_rules.proofs.ListChains.{short}
 use Rattle.lock_table.specs.Limits.{thread-limit}
-use Rattle.lock_table.specs.Access.{threadAt, objectAt, nextOf}
+use Rattle.lock_table.specs.Access.{thread-at, object-at, next-of}
 use Rattle.lock_table.specs.declared.record.ThreadRecord.{ThreadRecord}
 use Rattle.lock_table.specs.declared.record.ObjectRecord.{ObjectRecord}
 use Rattle.lock_table.specs.declared.record.Table.{Table}
-use Rattle.lock_perform.specs.State.{stateOf}
-use Rattle.lock_perform.specs.Sight.{sightOf}
+use Rattle.lock_perform.specs.State.{read-thread}
+use Rattle.lock_perform.specs.Sight.{sight-at}
 use Rattle.lock_records.proofs.Numbering.{number, lists-of, list-at}
 use Rattle.lock_records.proofs.Written.{lock-word, word-read, seen-written, state-read, object-written}
 use Rattle.lock_records.proofs.Represents.{thread-record, Represents, record-is, next-is}
@@ -61,16 +63,16 @@ module _ (threads objects : ℕ) (lists : ListTable) (sound : SoundTable threads
 module _ (threads objects : ℕ) (t : Table) (lists : ListTable) (represents : Represents threads objects t lists) (sound : SoundTable threads objects lists)
   where
     -- a thread's record
-    pub thread-is : (n : ℕ) → threadAt t n ≡ thread-record n (lists .threads n) (represents .links .next n)
+    pub thread-is : (n : ℕ) → thread-at t n ≡ thread-record n (lists .threads n) (represents .links .next n)
     thread-is = record-is t (lists .threads) (represents .links .next) (represents .written)
 
-    pub state-is : (n : ℕ) → stateOf (threadAt t n) ≡ lists .threads n .state
+    pub state-is : (n : ℕ) → read-thread (thread-at t n) ≡ lists .threads n .state
     state-is n =
-        ap stateOf (thread-is n)
+        ap read-thread (thread-is n)
         ∙ state-read n (lists .threads n .object) (lists .threads n .state) (represents .links .next n)
         (λ busy. let ((low, high), first, last) = busy-in threads objects lists sound n busy in (low, omega (arith, high, represents .thread-room))) (sound .fine n)
 
-    pub home-is : (n : ℕ) → T (unfinished (lists .threads n .state)) → threadAt t n .object ≡ lists .threads n .object
+    pub home-is : (n : ℕ) → T (unfinished (lists .threads n .state)) → thread-at t n .object ≡ lists .threads n .object
     home-is n busy =
         ap (λ (thread : ThreadRecord). thread .object) (thread-is n)
         ∙ object-written n (lists .threads n .object) (lists .threads n .state) (represents .links .next n) busy
@@ -81,7 +83,7 @@ module _ (threads objects : ℕ) (t : Table) (lists : ListTable) (represents : R
         first-head (represents .links) (lists-of (lists .objects)) (represents .chains) (number o chain) ∙ ap head (list-at (lists .objects) o chain)
 
     pub members-are : (o : ℕ) (chain : Chain)
-        → members thread-limit (nextOf t) (represents .links .first (number o chain)) ≡ chain-of chain (lists .objects o)
+        → members thread-limit (next-of t) (represents .links .first (number o chain)) ≡ chain-of chain (lists .objects o)
     members-are o chain =
         ap (λ (next : ℕ → ℕ). members thread-limit next (represents .links .first (number o chain)))
         (next-is t (lists .threads) (represents .links .next) (represents .written))
@@ -97,21 +99,21 @@ module _ (threads objects : ℕ) (t : Table) (lists : ListTable) (represents : R
 
     -- an object's word and what a rule sees
     module _ (o : ℕ) (real : 1 ≤ o) (low : o ≤ objects) where
-      pub word-is : decodeOf (objectAt t o .word) ≡ Valid (lock-word o (lists .objects o .word))
+      pub word-is : read-word (object-at t o .word) ≡ Valid (lock-word o (lists .objects o .word))
       word-is =
-          ap (λ (object : ObjectRecord). decodeOf (object .word)) (represents .object-at o real low)
+          ap (λ (object : ObjectRecord). read-word (object .word)) (represents .object-is o real low)
           ∙ word-read threads o (represents .thread-room) real (omega (arith, represents .object-room)) (lists .objects o .word) (sound .sound o .word)
 
-      pub sight-is : sightOf t (objectAt t o) (lock-word o (lists .objects o .word)) ≡ sight-of (lists .objects o)
+      pub sight-is : sight-at t (object-at t o) (lock-word o (lists .objects o .word)) ≡ sight-of (lists .objects o)
       sight-is =
-          ap (λ (object : ObjectRecord). sightOf t object (lock-word o (lists .objects o .word))) (represents .object-at o real low)
+          ap (λ (object : ObjectRecord). sight-at t object (lock-word o (lists .objects o .word))) (represents .object-is o real low)
           ∙ (λ j.
           record {
             word = seen-written o (lists .objects o .word) j;
             flag = lists .objects o .flag;
             holder = lists .objects o .holder;
             depth = lists .objects o .depth;
-            entryempty = chain-empty o entry-chain j;
-            contentionempty = chain-empty o contention-chain j;
-            waiters = length (members-are o waiting-chain j);
+            entryempty = chain-empty o Chain.Entry j;
+            contentionempty = chain-empty o Chain.Contention j;
+            waiters = length (members-are o Chain.Waiting j);
           })

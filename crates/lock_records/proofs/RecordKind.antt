@@ -3,12 +3,13 @@ use Prim.Native.Nat.{ℕ, _≤_}
 use mathlib.Core.Path.{_≡_, refl, subst}
 use mathlib.Core.Bool.{false}
 use lib.Dec.{T}
-use Rattle.lock_word.specs.Read.{decodeOf}
+use Rattle.lock_word.specs.Read.{read-word}
 use Rattle.lock_word.specs.declared.reading.Decoded.{Decoded}
 use Rattle.lock_word.specs.declared.reading.Decoded.the-variants.{Valid, Invalid}
 use Rattle.lock_rules.specs.Rules.{begun, decide}
 use Rattle.lock_rules.specs.Status.{unfinished}
-use Rattle.lock_rules.specs.Events.{Event, Refused, Answered}
+use Rattle.lock_rules.specs.declared.event.Event.{Event}
+use Rattle.lock_rules.specs.Events.{Refused, Answered}
 use Rattle.lock_rules.specs.Operations.{Operation}
 use Rattle.lock_rules.specs.declared.Doing.{Doing}
 use Rattle.lock_rules.specs.declared.ThreadState.the-variants.{Idle, Running}
@@ -22,14 +23,14 @@ use Rattle.lock_rules.proofs.Tables.{ListTable, states-at, put-back, begin-at, 
 use Rattle.lock_rules.proofs.ListSound.{SoundTable}
 use Rattle.lock_rules.proofs.SoundKept.{sound-turn}
 use Rattle.lock_rules.proofs.Standing.{Standing, stands-turn}
-use Rattle.lock_table.specs.Access.{threadAt, setThread, objectAt}
+use Rattle.lock_table.specs.Access.{thread-at, set-thread, object-at}
 use Rattle.lock_table.specs.declared.phase.Phase.the-variants.{Look}
 use Rattle.lock_table.specs.declared.record.ThreadRecord.{ThreadRecord}
 use Rattle.lock_table.specs.declared.record.ObjectRecord.{ObjectRecord}
 use Rattle.lock_table.specs.declared.record.Table.{Table}
-use Rattle.lock_perform.specs.State.{stateOf, threadWith}
-use Rattle.lock_perform.specs.Sight.{sightOf}
-use Rattle.lock_perform.specs.Perform.{performOf}
+use Rattle.lock_perform.specs.State.{read-thread, with-fields}
+use Rattle.lock_perform.specs.Sight.{sight-at}
+use Rattle.lock_perform.proofs.Performed.{perform-of}
 use Rattle.lock_records.proofs.Represents.{Represents}
 use Rattle.lock_records.proofs.Readings.{busy-in, state-is, home-is, word-is, sight-is}
 use Rattle.lock_records.proofs.Performs.{running-unchained, begin-represents, unruled-represents, perform-represents}
@@ -39,31 +40,31 @@ use Rattle.lock_records.proofs.Operations.{operation-of, begun-written}
 abbrev pub step-acts : Table → ℕ → ℕ → ObjectRecord → Action → TurnOf Table
 step-acts t n number object Unruled = record { table = t; reply = Answered NoRule false }
 step-acts t n number object (Do effect) =
-    record { table = performOf t n number object effect; reply = Answered (effect .answer) (effect .commits) }
+    record { table = perform-of t n number object effect; reply = Answered (effect .answer) (effect .commits) }
 
 -- 11 for a word that is none, which no sound table has
 abbrev pub step-reads : Table → ℕ → ℕ → ObjectRecord → Doing → Decoded → TurnOf Table
 step-reads t n number object doing Invalid = record { table = t; reply = Refused 11 }
-step-reads t n number object doing (Valid word) = step-acts t n number object (decide n (sightOf t object word) doing)
+step-reads t n number object doing (Valid word) = step-acts t n number object (decide n (sight-at t object word) doing)
 
 abbrev pub step-records : Table → ℕ → Doing → TurnOf Table
 step-records t n doing =
-    let number = threadAt t n .object in
-    let object = objectAt t number in
-    step-reads t n number object doing (decodeOf (object .word))
+    let number = thread-at t n .object in
+    let object = object-at t number in
+    step-reads t n number object doing (read-word (object .word))
 
 abbrev pub begin-records : Table → Operation → ℕ → ℕ → Table
-begin-records t operation n o = setThread t n (threadWith (operation-of operation) o Look 0 0 0)
+begin-records t operation n o = set-thread t n (with-fields (operation-of operation) o Look 0 0 0)
 
 abbrev pub record-kind : Kind
-record-kind = record { Table = Table; state = λ t n. stateOf (threadAt t n); begins = begin-records; steps = step-records }
+record-kind = record { Table = Table; state = λ t n. read-thread (thread-at t n); begins = begin-records; steps = step-records }
 
 module _ (threads objects : ℕ) (t : Table) (lists : ListTable) (represents : Represents threads objects t lists) (sound : SoundTable threads objects lists)
     (n : ℕ) (low : 1 ≤ n) (high : n ≤ threads) where
   begins-alike : (operation : Operation) (o : ℕ) → lists .threads n .state ≡ Idle
       → Represents threads objects (begin-records t operation n o) (begin-at lists operation n o)
   begins-alike operation o idle =
-      subst (λ (thread : ThreadRecord). Represents threads objects (setThread t n thread) (begin-at lists operation n o)) (begun-written n o operation)
+      subst (λ (thread : ThreadRecord). Represents threads objects (set-thread t n thread) (begin-at lists operation n o)) (begun-written n o operation)
       (begin-represents threads objects t lists represents sound n low high (record { object = o; state = Running (begun operation) }) idle)
 
   -- the same table and the same reply
@@ -75,7 +76,7 @@ module _ (threads objects : ℕ) (t : Table) (lists : ListTable) (represents : R
     home = lists .threads n .object
 
     acts-alike : 1 ≤ home → home ≤ objects → (action : Action)
-        → Alike (step-acts t n home (objectAt t home) action) (put-back lists home (perform n (states-at lists home) (lists .objects home) action))
+        → Alike (step-acts t n home (object-at t home) action) (put-back lists home (perform n (states-at lists home) (lists .objects home) action))
     acts-alike real small Unruled =
         (unruled-represents threads objects t lists represents sound n low high home refl real small (rw running (running-unchained doing)), refl)
     acts-alike real small (Do effect) =

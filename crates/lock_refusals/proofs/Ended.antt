@@ -1,21 +1,14 @@
 -- An outcome with the number it is refused with and the table that it leaves: of a refusal before any rule, and of what a rule decided.
 use Prim.Native.Nat.{ℕ, _≤_}
-use mathlib.Core.Path.{_≡_, refl, sym, ap, _∙_}
+use mathlib.Core.Path.{_≡_, refl, sym, ap, _∙_, subst}
 use native.Mathlib.Omega.{arith}
 use borrow.Author.Tests.{ne-eqb}
 use Rattle.lock_word.specs.declared.reading.LockWord.{LockWord}
 use Rattle.lock_rules.specs.declared.Answer.{Answer}
 use Rattle.lock_rules.specs.declared.Answer.the-variants.{GoneOn, Finished, Parked, NotOwner, TooDeep, NoRule}
-use Rattle.lock_rules.specs.declared.Action.{Action}
-use Rattle.lock_rules.specs.declared.Action.the-variants.{Unruled, Do}
-use Rattle.lock_table.specs.Access.{objectAt, nextOf}
-use Rattle.lock_table.specs.declared.record.Table.{Table}
-use Rattle.lock_perform.specs.Sight.{sightOf}
-use Rattle.lock_perform.specs.Perform.{performOf}
-use Rattle.lock_engine.specs.Outcome.{refusalNumberOf, returnedOf, refuseOf}
-use Rattle.lock_engine.specs.Step.{settleOf}
-use Rattle.lock_engine.specs.declared.outcome.Refusal.{Refusal}
-use Rattle.lock_engine.specs.declared.outcome.Refusal.the-variants.{
+use Rattle.lock_rules.specs.Numbers.{refusal-number}
+use Rattle.lock_rules.specs.declared.event.Refusal.{Refusal}
+use Rattle.lock_rules.specs.declared.event.Refusal.the-variants.{
   NotSound,
   NoSuchThread,
   NoSuchObject,
@@ -24,8 +17,24 @@ use Rattle.lock_engine.specs.declared.outcome.Refusal.the-variants.{
   ThreadParked,
   NoSuchOperation,
 }
+use Rattle.lock_rules.specs.declared.Effect.{Effect}
+use Rattle.lock_rules.specs.declared.Action.{Action}
+use Rattle.lock_rules.specs.declared.Action.the-variants.{Unruled, Do}
+use Rattle.lock_table.specs.Access.{thread-at, object-at, next-of}
+use Rattle.lock_table.specs.declared.record.ThreadRecord.{ThreadRecord}
+use Rattle.lock_table.specs.declared.record.Table.{Table}
+use Rattle.lock_perform.specs.Sight.{sight-at}
+use Rattle.lock_table.proofs.Records.{object-unchanged}
+use Rattle.lock_perform.specs.Perform.{stays}
+use Rattle.lock_perform.proofs.Performed.{perform-of}
+use Rattle.lock_records.proofs.Settled.{settled-performs}
+use Rattle.lock_engine.specs.Outcome.{reply-returned}
+use Rattle.lock_engine.specs.Turn.{action-turn}
+use Rattle.lock_engine.specs.Handle.{outcome-of}
 use Rattle.lock_engine.specs.declared.outcome.Reply.the-variants.{Answered}
 use Rattle.lock_engine.specs.declared.outcome.Outcome.{Outcome}
+use Rattle.lock_engine.proofs.Refused.{refusing}
+use Rattle.lock_table.proofs.Records.{thread-unchanged}
 use Rattle.lock_refusals.specs.Demand.{returned, refused-number, Leaves}
 use Rattle.lock_refusals.proofs.RuleEnds.{EndsAs, Ends}
 use Rattle.lock_refusals.proofs.IdleAgain.{idle-again-performed}
@@ -51,8 +60,8 @@ same-ended {table} {outcome} thread ended =
           (ended .same high);
     }
 
-pub refuse-same : (table : Table) (refusal : Refusal) → EndedSame table (refuseOf table refusal) (refusalNumberOf refusal)
-unfolding refusalNumberOf returnedOf
+pub refuse-same : (table : Table) (refusal : Refusal) → EndedSame table (refusing table refusal) (refusal-number refusal)
+unfolding refusal-number reply-returned
 refuse-same table NotSound = record { refused = refl; same = λ high. refl; before-rule = omega arith }
 refuse-same table NoSuchThread = record { refused = refl; same = λ high. refl; before-rule = omega arith }
 refuse-same table NoSuchObject = record { refused = refl; same = λ high. refl; before-rule = omega arith }
@@ -61,32 +70,41 @@ refuse-same table ThreadIdle = record { refused = refl; same = λ high. refl; be
 refuse-same table ThreadParked = record { refused = refl; same = λ high. refl; before-rule = omega arith }
 refuse-same table NoSuchOperation = record { refused = refl; same = λ high. refl; before-rule = omega arith }
 
-pub refuse-ended : (table : Table) (thread : ℕ) (refusal : Refusal) → Ended table thread (refuseOf table refusal) (refusalNumberOf refusal)
+pub refuse-ended : (table : Table) (thread : ℕ) (refusal : Refusal) → Ended table thread (refusing table refusal) (refusal-number refusal)
 refuse-ended table thread refusal = same-ended thread (refuse-same table refusal)
 
-module _ (table : Table) (thread o : ℕ) (out : nextOf table thread ≡ 0) where
+module _ (table : Table) (thread : ℕ) (out : next-of table thread ≡ 0) where
+  abbrev own : ThreadRecord
+  own = thread-at table thread
+
+  abbrev o : ℕ
+  o = own .object
+
+  -- the table and the answer of an effect
+  performed-ended : (word : LockWord) (effect : Effect) (answer : Answer) (number : ℕ) → EndsAs (sight-at table (object-at table o) word) effect answer number
+      → Ended table thread (record { table = perform-of table thread o (object-at table o) effect; reply = Answered answer; commits = effect .commits }) number
+  unfolding reply-returned
+  performed-ended word effect GoneOn number none = record { refused = sym none; left = λ high. absurd (omega (arith, high)) }
+  performed-ended word effect (Finished woken) number none = record { refused = sym none; left = λ high. absurd (omega (arith, high)) }
+  performed-ended word effect Parked number none = record { refused = sym none; left = λ high. absurd (omega (arith, high)) }
+  performed-ended word effect NotOwner number (is, same) =
+      record {
+        refused = sym is;
+        left = λ high. ap (perform-of table thread o (object-at table o)) same ∙ idle-again-performed table thread o word NotOwner out;
+      }
+  performed-ended word effect TooDeep number (is, same) =
+      record {
+        refused = sym is;
+        left = λ high. ap (perform-of table thread o (object-at table o)) same ∙ idle-again-performed table thread o word TooDeep out;
+      }
+  performed-ended word effect NoRule number never = absurd never
+
   -- what a rule decided, carried out
-  pub settle-ended : (word : LockWord) (action : Action) (number : ℕ) → Ends (sightOf table (objectAt table o) word) action number
-      → Ended table thread (settleOf table thread o (objectAt table o) action) number
-  unfolding settleOf returnedOf
-  settle-ended word Unruled number ends = record { refused = sym ends; left = λ high. refl }
-  settle-ended word (Do effect) number ends = at (effect .answer) ends
-    where
-      at : (answer : Answer) → EndsAs (sightOf table (objectAt table o) word) effect answer number
-          → Ended table thread
-          (record { table = performOf table thread o (objectAt table o) effect; reply = Answered answer; commits = effect .commits })
-          number
-      at GoneOn none = record { refused = sym none; left = λ high. absurd (omega (arith, high)) }
-      at (Finished woken) none = record { refused = sym none; left = λ high. absurd (omega (arith, high)) }
-      at Parked none = record { refused = sym none; left = λ high. absurd (omega (arith, high)) }
-      at NotOwner (is, same) =
-          record {
-            refused = sym is;
-            left = λ high. ap (performOf table thread o (objectAt table o)) same ∙ idle-again-performed table thread o word NotOwner out;
-          }
-      at TooDeep (is, same) =
-          record {
-            refused = sym is;
-            left = λ high. ap (performOf table thread o (objectAt table o)) same ∙ idle-again-performed table thread o word TooDeep out;
-          }
-      at NoRule never = absurd never
+  pub action-ended : (word : LockWord) (action : Action) (number : ℕ) → Ends (sight-at table (object-at table o) word) action number
+      → Ended table thread (outcome-of table thread o (action-turn thread own (object-at table o) action)) number
+  unfolding action-turn reply-returned stays
+  action-ended word Unruled number ends =
+      record { refused = sym ends; left = λ high. rw (thread-unchanged table thread, object-unchanged table o) refl }
+  action-ended word (Do effect) number ends =
+      subst (λ (after : Table). Ended table thread (record { table = after; reply = Answered (effect .answer); commits = effect .commits }) number)
+      (sym (settled-performs table thread o (object-at table o) effect)) (performed-ended word effect (effect .answer) number ends)

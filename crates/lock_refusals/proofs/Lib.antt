@@ -4,6 +4,5 @@ pub mod RuleEnds
 pub mod StepEnds
 pub mod IdleAgain
 pub mod Ended
-pub mod Begins
 pub mod Steps
 pub mod Theorem

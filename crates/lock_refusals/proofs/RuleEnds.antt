@@ -44,7 +44,8 @@ use Rattle.lock_word.specs.declared.meaning.WordSeen.{WordSeen}
 use Rattle.lock_word.specs.declared.meaning.WordSeen.the-variants.{Free, Anonymous, Fat, Flat, Reserved}
 use Rattle.lock_rules.specs.declared.WordChange.the-variants.{Unchanged}
 use Rattle.lock_rules.specs.declared.Sight.{Sight}
-use Rattle.lock_rules.specs.declared.ChainAction.the-variants.{Stay, JoinEntry}
+use Rattle.chains.specs.declared.named.Chain.{Chain}
+use Rattle.lock_rules.specs.declared.ChainWork.the-variants.{Stay, Join}
 use Rattle.lock_rules.specs.declared.Answer.{Answer}
 use Rattle.lock_rules.specs.declared.Answer.the-variants.{GoneOn, Finished, Parked, NotOwner, TooDeep, NoRule}
 use Rattle.lock_rules.specs.declared.Effect.{Effect}
@@ -56,7 +57,7 @@ use Rattle.lock_refusals.specs.Refusals.{unruled}
 abbrev pub idle-again : Sight → Answer → Effect
 idle-again sight answer =
     record {
-      chains = Stay;
+      work = Stay;
       state = Idle;
       word = Unchanged;
       flag = sight .flag;
@@ -272,7 +273,7 @@ module _ (thread : ℕ) (sight : Sight) where
 
       at : (free : Bool) → Equal free (sight .holder) 0 → (own : Bool) → Equal own (sight .holder) thread
           → let decided = pick free (become-holder thread sight EnterCheck)
-          (pick own (go-in-again sight ToCheck) (keep-object sight JoinEntry (Queued ToCheck) Parked false)) in
+          (pick own (go-in-again sight ToCheck) (keep-object sight (Join Chain.Entry) (Queued ToCheck) Parked false)) in
           Ends sight decided (pick (both own (eqb (sight .depth) depth-limit)) 19 (pick (unruled decided) 20 0))
       at true free true own = absurd (some (sym own ∙ free))
       at true free false other = refl

@@ -6,7 +6,7 @@ use mathlib.Core.Bool.{Bool, true, false}
 use mathlib.Core.List.{List, [], _∷_}
 use lib.Dec.{eqb}
 use Rattle.laws.specs.Choice.{pick}
-use Rattle.lock_word.specs.Meaning.{seenOf, owner-of, depth-of}
+use Rattle.lock_word.specs.Meaning.{seen-word, owner-of, depth-of}
 use Rattle.lock_word.proofs.Ownership.{owner-owned}
 use Rattle.lock_word.specs.declared.reading.LockWord.{LockWord}
 use Rattle.lock_word.specs.declared.reading.Decoded.the-variants.{Valid}
@@ -18,15 +18,15 @@ use Rattle.lock_rules.specs.declared.Doing.the-variants.{EnterLook, EnterStore,
 use Rattle.lock_rules.specs.declared.Doing.the-variants.{ExitStore, ExitGoIn, ExitTest, ExitTell, ExitLeave, WaitLook, WaitCancel, WaitGoIn}
 use Rattle.lock_rules.specs.declared.Doing.the-variants.{WaitInflate, WaitGiveUp, WaitResume, NotifyLook, NotifyAllLook}
 use Rattle.lock_rules.specs.declared.Sight.{Sight}
-use Rattle.lock_table.specs.Operation.{operationNumberOf}
-use Rattle.lock_table.specs.Phase.{phaseNumberOf}
+use Rattle.lock_table.specs.Operation.{operation-number}
+use Rattle.lock_table.specs.Phase.{phase-number}
 use Rattle.lock_table.specs.declared.record.Monitor.{Monitor}
 use Rattle.lock_table.specs.declared.record.ObjectRecord.{ObjectRecord}
 use Rattle.lock_table.specs.declared.record.Table.{Table}
-use Rattle.lock_perform.specs.State.{doingRecordOf}
-use Rattle.lock_perform.specs.Sight.{sightOf}
+use Rattle.lock_perform.specs.State.{doing-record}
+use Rattle.lock_perform.specs.Sight.{sight-at}
 use Rattle.lock_table.specs.Ownership.{ownership-in}
-use Rattle.lock_refusals.specs.Refusals.{Row, row, first-applies, parked, not-the-owner, too-deep, unruled}
+use Rattle.lock_refusals.specs.Refusals.{Row, row, first-applies, not-the-owner, too-deep, unruled}
 use Rattle.lock_refusals.proofs.RuleEnds.{
   Ends,
   Ordinary,
@@ -55,34 +55,32 @@ use Rattle.lock_refusals.proofs.RuleEnds.{
   go-in-ends,
 }
 
--- a step's refusals from 15 on, of a thread with this operation and phase; `none` says that no rule fits
+-- a step's refusals by its rule, of a thread with this operation and phase; `none` says that no rule fits
 abbrev pub rule-refusals : ℕ → ℕ → ℕ → ℕ → Monitor → Bool → List Row
 rule-refusals thread operation phase owner monitor none =
-    row 15 (eqb phase 0)
-    ∷ row 16 (parked phase)
-    ∷ row 18 (not-the-owner thread operation phase owner)
+    row 18 (not-the-owner thread operation phase owner)
     ∷ row 19 (too-deep thread operation phase monitor)
     ∷ row 20 none
     ∷ []
 
 -- the owner by an object's word is the one that the rules see
-owner-is : (word : LockWord) (monitor : Monitor) → ownership-in (Valid word) monitor .thread ≡ owner-of (seenOf word) (monitor .holder) (monitor .depth)
+owner-is : (word : LockWord) (monitor : Monitor) → ownership-in (Valid word) monitor .thread ≡ owner-of (seen-word word) (monitor .holder) (monitor .depth)
 unfolding ownership-in
-owner-is word monitor = owner-owned (owner-of (seenOf word) (monitor .holder) (monitor .depth)) (depth-of (seenOf word) (monitor .depth))
+owner-is word monitor = owner-owned (owner-of (seen-word word) (monitor .holder) (monitor .depth)) (depth-of (seen-word word) (monitor .depth))
 
 -- what a thread of this number sees of an object, doing this
 module _ (table : Table) (object : ObjectRecord) (word : LockWord) (thread : ℕ) (some : thread ≢ 0) (small : object .monitor .depth ≤ depth-limit) where
   abbrev sight : Sight
-  sight = sightOf table object word
+  sight = sight-at table object word
 
   -- the record of such a thread, at an object with this owner, ends as its list says
   abbrev Decided : ℕ → ℕ → ℕ → Doing → Type 0
   Decided o next owner doing =
-      let own = doingRecordOf thread o doing next in
+      let own = doing-record thread o doing next in
       let action = decide thread sight doing in
       Ends sight action
       (first-applies
-      (rule-refusals thread (operationNumberOf (own .operation)) (phaseNumberOf (own .phase)) owner (object .monitor) (unruled action)))
+      (rule-refusals thread (operation-number (own .operation)) (phase-number (own .phase)) owner (object .monitor) (unruled action)))
 
   owned-word : owner-seen sight ≡ thread → owner-seen sight ≢ 0
   owned-word same none = some (sym same ∙ none)
@@ -91,7 +89,7 @@ module _ (table : Table) (object : ObjectRecord) (word : LockWord) (thread : ℕ
   plain doing = ordinary-ends sight (decide thread sight doing)
 
   seen-ends : (o next : ℕ) (doing : Doing) → Decided o next (owner-seen sight) doing
-  unfolding decide doingRecordOf phaseNumberOf operationNumberOf
+  unfolding decide doing-record phase-number operation-number
   seen-ends o next EnterLook = plain EnterLook (enter-look-ordinary thread sight (sight .word))
   seen-ends o next (EnterStore count) = plain (EnterStore count) (enter-store-ordinary sight count)
   seen-ends o next EnterCancel = plain EnterCancel (cancel-ordinary sight EnterLook (sight .word))

@@ -1,118 +1,162 @@
--- A step is refused with the first of document 01's list that applies, and leaves what it says then.
-use Prim.Native.Nat.{ℕ}
-use mathlib.Core.Path.{_≡_, refl, sym, subst₂}
+-- An event is refused with the first of document 01's list that applies, and leaves what it says then.
+use Prim.Native.Nat.{ℕ, _≤_}
+use mathlib.Core.Path.{_≡_, refl, sym, ap, _∙_, subst, subst₂}
 use mathlib.Core.Logic.{_≢_}
-use mathlib.Core.Bool.{Bool, true, false, not}
+use mathlib.Core.Bool.{Bool, true, false}
 use native.Mathlib.Omega.{arith}
-use lib.Dec.{T}
-use Rattle.laws.specs.Choice.{pick, within}
-use Rattle.lock_word.specs.Read.{decodeOf}
+use lib.Dec.{T, leb}
+use borrow.Author.Tests.{le-leb}
+use Rattle.laws.specs.Choice.{pick, both, within}
+use Rattle.laws.proofs.Choice.{split, false≢true}
+use Rattle.lock_word.specs.Read.{read-word}
 use Rattle.lock_word.specs.declared.reading.Decoded.{Decoded}
 use Rattle.lock_word.specs.declared.reading.Decoded.the-variants.{Valid, Invalid}
+use Rattle.lock_rules.specs.Numbers.{refusal-number}
+use Rattle.lock_rules.specs.Gate.{is-idle, is-parked, gate-rows, gate, event-thread}
 use Rattle.lock_rules.specs.Rules.{decide}
 use Rattle.lock_rules.specs.Status.{unfinished}
-use Rattle.lock_rules.specs.declared.Carried.the-variants.{ToCheck, ToTell, ToInflate, ToResume}
+use Rattle.lock_rules.specs.declared.event.Event.{Event}
+use Rattle.lock_rules.specs.declared.event.Event.the-variants.{Begin, Step}
+use Rattle.lock_rules.specs.declared.event.ThreadStatus.{ThreadStatus}
+use Rattle.lock_rules.specs.declared.event.ThreadStatus.the-variants.{Ready}
+use Rattle.lock_rules.specs.declared.event.Refusal.the-variants.{NotSound}
+use Rattle.lock_rules.specs.declared.event.Gate.{Gate}
+use Rattle.lock_rules.specs.declared.event.Gate.the-variants.{Shut}
 use Rattle.lock_rules.specs.declared.Doing.{Doing}
 use Rattle.lock_rules.specs.declared.ThreadState.{ThreadState}
 use Rattle.lock_rules.specs.declared.ThreadState.the-variants.{Idle, Running, Queued, Contending, Waiting}
-use Rattle.lock_table.specs.Operation.{operationNumberOf}
-use Rattle.lock_table.specs.Phase.{phaseNumberOf}
-use Rattle.lock_table.specs.Access.{threadAt, objectAt, nextOf}
+use Rattle.lock_rules.proofs.Gate.{Passed, by-gate}
+use Rattle.lock_rules.proofs.Turns.{status-of}
+use Rattle.lock_table.specs.Limits.{thread-limit, object-limit}
+use Rattle.lock_table.specs.Operation.{operation-number}
+use Rattle.lock_table.specs.Phase.{phase-number}
+use Rattle.lock_table.specs.Access.{thread-at, object-at, next-of}
+use Rattle.lock_table.specs.Whole.{Whole}
 use Rattle.lock_table.specs.declared.record.ThreadRecord.{ThreadRecord}
 use Rattle.lock_table.specs.declared.record.Table.{Table}
-use Rattle.lock_perform.specs.State.{doingRecordOf, carriedRecordOf, recordOf, stateOf}
-use Rattle.lock_perform.specs.Sight.{sightOf}
-use Rattle.lock_soundness.specs.Sound.{soundOf}
-use Rattle.lock_soundness.specs.Meaning.{Within, WordFits}
-use Rattle.laws.proofs.Facts.{reads-within}
-use Rattle.lock_soundness.proofs.Reading.{sound-reads}
-use Rattle.lock_engine.specs.Outcome.{refusalNumberOf}
-use Rattle.lock_engine.specs.Step.{stepOf, stepTrusting, stepRanged, stepThread, stepWord}
-use Rattle.lock_engine.specs.declared.outcome.Refusal.the-variants.{NotSound, NoSuchThread, ThreadIdle, ThreadParked}
 use Rattle.lock_table.specs.Ownership.{ownership-in, ownership-at}
-use Rattle.record_soundness.proofs.ReadBack.{IsWritten, state-back}
-use Rattle.record_soundness.proofs.EveryNumber.{written-at, running-next}
-use Rattle.lock_table.specs.Whole.{Whole}
-use Rattle.lock_refusals.specs.Refusals.{first-applies, no-rule-seeing, no-rule, step-refusals}
+use Rattle.lock_perform.specs.State.{doing-record, write-thread, read-thread}
+use Rattle.lock_perform.specs.Sight.{sight-at}
+use Rattle.lock_soundness.specs.Sound.{sound-of}
+use Rattle.sound_records.proofs.Reading.{WordFits}
+use Rattle.lock_soundness.proofs.Reading.{sound-reads}
+use Rattle.lock_engine.specs.Outcome.{reply-returned}
+use Rattle.lock_engine.specs.Turn.{word-turn, state-turn, step-turn, open-turn, gate-turn, refused}
+use Rattle.lock_gate.specs.Status.{thread-status}
+use Rattle.lock_engine.specs.Handle.{event-object, waiters-of, trusted, outcome-of, handle-trusting, handle}
+use Rattle.lock_engine.specs.declared.outcome.Outcome.{Outcome}
+use Rattle.lock_engine.proofs.Refused.{refusing, refused-stays, handle-shut}
+use Rattle.lock_engine.proofs.Narrow.{sizes}
+use Rattle.lock_records.proofs.ReadBack.{IsWritten, state-back}
+use Rattle.lock_records.proofs.EveryNumber.{written-at, running-next}
+use Rattle.lock_schedule.proofs.Turns.{status-read, home-inside}
+use Rattle.lock_refusals.specs.Refusals.{first-applies, no-rule-seeing, no-rule, rule-rows, refusals}
+use Rattle.lock_refusals.proofs.Rows.{by-gate-number, first-gated}
 use Rattle.lock_refusals.proofs.StepEnds.{rule-refusals, decide-ends}
-use Rattle.lock_refusals.proofs.Ended.{Ended, refuse-ended, settle-ended}
+use Rattle.lock_refusals.proofs.Ended.{Ended, refuse-ended, action-ended}
 
--- the first of a step's refusals from 15 on, for a thread in this state whose record is `written`
-abbrev from-state : Table → ℕ → ThreadRecord → ThreadState → ℕ
-from-state table thread written state =
-    let home = threadAt table thread .object in
-    first-applies
-    (rule-refusals thread (operationNumberOf (written .operation)) (phaseNumberOf (written .phase)) (ownership-at table home .thread)
-    (objectAt table home .monitor) (no-rule table thread (objectAt table home) state))
-
-module _ (table : Table) (whole : Whole table) (sound : soundOf table ≡ true) (thread : ℕ) (some : thread ≢ 0) where
+module _ (table : Table) (whole : Whole table) (sound : sound-of table ≡ true) (thread : ℕ) (some : thread ≢ 0) where
   abbrev own : ThreadRecord
-  own = threadAt table thread
+  own = thread-at table thread
 
   abbrev home : ℕ
   home = own .object
 
-  -- the step of the thread in this state ends as its list says
-  abbrev Stepped : ThreadRecord → ThreadState → Type 0
-  Stepped written state = Ended table thread (stepThread table thread home state) (from-state table thread written state)
+  -- a step's refusals by its rule, for a thread in this state whose record is `written`
+  abbrev from-rule : ThreadRecord → ThreadState → ℕ
+  from-rule written state =
+      first-applies
+      (rule-refusals thread (operation-number (written .operation)) (phase-number (written .phase)) (ownership-at table home .thread)
+      (object-at table home .monitor) (no-rule table thread (object-at table home) state))
 
   -- a thread that can take a step, by its object's word
-  running-ended : (doing : Doing) → nextOf table thread ≡ 0 → WordFits (table .threadcount) home (decodeOf (objectAt table home .word))
-      → Stepped (doingRecordOf thread home doing (own .next)) (Running doing)
-  unfolding stepThread stepWord
-  running-ended doing out fits = at (decodeOf (objectAt table home .word)) fits
-    where
-      at : (decoded : Decoded) → WordFits (table .threadcount) home decoded
-          → let written = doingRecordOf thread home doing (own .next) in
-          Ended table thread (stepWord table thread home (objectAt table home) doing decoded)
-          (first-applies
-          (rule-refusals thread (operationNumberOf (written .operation)) (phaseNumberOf (written .phase))
-          (ownership-in decoded (objectAt table home .monitor) .thread) (objectAt table home .monitor)
-          (no-rule-seeing table thread (objectAt table home) doing decoded)))
-      at Invalid never = absurd never
-      at (Valid word) fits =
-          settle-ended table thread home out word (decide thread (sightOf table (objectAt table home) word) doing) _
-          (decide-ends table (objectAt table home) word thread some (whole .depths home) home (own .next) doing)
-
-  -- any thread: 15 and 16
-  state-ended : (state : ThreadState) → stateOf own ≡ state → (T (unfinished state) → Within 1 (table .objectcount) home)
-      → Stepped (recordOf thread home state (own .next)) state
-  unfolding stepThread recordOf carriedRecordOf phaseNumberOf refusalNumberOf
-  state-ended Idle is inside = refuse-ended table thread ThreadIdle
-  state-ended (Running doing) is inside =
-      let (low, high) = inside tt in
-      running-ended doing (running-next table sound thread doing is) (sound-reads table sound .words home low high)
-  state-ended (Queued ToCheck) is inside = refuse-ended table thread ThreadParked
-  state-ended (Queued ToTell) is inside = refuse-ended table thread ThreadParked
-  state-ended (Queued ToInflate) is inside = refuse-ended table thread ThreadParked
-  state-ended (Queued (ToResume suspension)) is inside = refuse-ended table thread ThreadParked
-  state-ended Contending is inside = refuse-ended table thread ThreadParked
-  state-ended (Waiting suspension) is inside = refuse-ended table thread ThreadParked
+  word-ended : (doing : Doing) → next-of table thread ≡ 0 → (decoded : Decoded) → WordFits (table .threadcount) home decoded
+      → let written = doing-record thread home doing (own .next) in
+      let object = object-at table home in
+      Ended table thread (outcome-of table thread home (word-turn thread own object (waiters-of table object) doing decoded))
+      (first-applies
+      (rule-refusals thread (operation-number (written .operation)) (phase-number (written .phase)) (ownership-in decoded (object .monitor) .thread)
+      (object .monitor) (no-rule-seeing table thread object doing decoded)))
+  unfolding word-turn
+  word-ended doing out Invalid never = absurd never
+  word-ended doing out (Valid word) fits =
+      action-ended table thread out word (decide thread (sight-at table (object-at table home) word) doing) _
+      (decide-ends table (object-at table home) word thread some (whole .depths home) home (own .next) doing)
 
   -- its record is the state that it is read as, written
-  thread-ended : Stepped own (stateOf own)
-  thread-ended =
-      let is : IsWritten (table .objectcount) thread own = written-at table (sound-reads table sound) thread in
-      let read : stateOf own ≡ is .state = state-back (table .objectcount) thread own is in
-      let stepped : Stepped (recordOf thread home (is .state) (own .next)) (is .state) = state-ended (is .state) read (is .home) in
-      subst₂ Stepped (sym (is .written)) (sym read) stepped
+  ready-ended : (state : ThreadState) → read-thread own ≡ state → status-of state ≡ Ready
+      → let object = object-at table home in
+      Ended table thread
+      (outcome-of table thread home
+      (pick (within 1 object-limit home) (state-turn thread own object (waiters-of table object) state) (refused own object NotSound)))
+      (from-rule own state)
+  unfolding state-turn write-thread
+  ready-ended Idle is ready = false≢true (ap is-idle (sym ready))
+  ready-ended (Running doing) is ready =
+      let read : IsWritten (table .objectcount) thread own = written-at table (sound-reads table sound) thread in
+      let back : read .state ≡ Running doing = sym (state-back (table .objectcount) thread own read) ∙ is in
+      let written : own ≡ doing-record thread home doing (own .next) =
+      read .written ∙ ap (λ (state : ThreadState). write-thread thread home state (own .next)) back in
+      let (low, high) = read .home (rw back tt) in
+      rw (home-inside table sound thread (rw is tt))
+      (subst (λ (shape : ThreadRecord). Ended table thread
+      (outcome-of table thread home
+      (word-turn thread own (object-at table home) (waiters-of table (object-at table home)) doing (read-word (object-at table home .word))))
+      (from-rule shape (Running doing))) (sym written)
+      (word-ended doing (running-next table sound thread doing is) (read-word (object-at table home .word)) (sound-reads table sound .objects home low high .word)))
+  ready-ended (Queued carried) is ready = false≢true (ap is-parked (sym ready))
+  ready-ended Contending is ready = false≢true (ap is-parked (sym ready))
+  ready-ended (Waiting suspension) is ready = false≢true (ap is-parked (sym ready))
 
--- 11 and 12
-pub step-ended : (table : Table) → Whole table → (thread : ℕ) → Ended table thread (stepOf table thread) (first-applies (step-refusals table thread))
-unfolding stepOf stepTrusting stepRanged refusalNumberOf
-step-ended table whole thread = gated (soundOf table) refl
-  where
-    ranged : soundOf table ≡ true → (real : Bool) → within 1 (table .threadcount) thread ≡ real
-        → Ended table thread (stepRanged table thread real)
-        (pick (not real) 12 (from-state table thread (threadAt table thread) (stateOf (threadAt table thread))))
-    ranged sound true is =
-        let (low, high) = reads-within 1 (table .threadcount) thread .read is in
-        thread-ended table whole sound thread (λ none. omega (arith, none, low))
-    ranged sound false is = refuse-ended table thread NoSuchThread
+  step-ended : thread-status (own .phase) ≡ Ready
+      → let object = object-at table home in
+      Ended table thread (outcome-of table thread home (step-turn thread own object (waiters-of table object))) (first-applies (rule-rows table (Step thread)))
+  unfolding step-turn
+  step-ended ready = ready-ended (read-thread own) refl (sym (status-read table sound thread) ∙ ready)
 
-    gated : (sound : Bool) → soundOf table ≡ sound
-        → Ended table thread (stepTrusting table thread sound)
-        (pick (not sound) 11
-        (pick (not (within 1 (table .threadcount) thread)) 12 (from-state table thread (threadAt table thread) (stateOf (threadAt table thread)))))
-    gated true is = ranged is (within 1 (table .threadcount) thread) refl
-    gated false is = refuse-ended table thread NotSound
+module _ (table : Table) (whole : Whole table) where
+  -- what the gate lets through
+  open-ended : sound-of table ≡ true → (event : Event)
+      → Passed (table .threadcount) (table .objectcount) event (thread-status (thread-at table (event-thread event) .phase))
+      → let own = thread-at table (event-thread event) in
+      let number = event-object event (own .object) in
+      let object = object-at table number in
+      Ended table (event-thread event) (outcome-of table (event-thread event) number (open-turn event own object (waiters-of table object)))
+      (first-applies (rule-rows table event))
+  unfolding open-turn reply-returned
+  open-ended sound (Begin operation thread object) passed = record { refused = refl; left = λ high. absurd (omega (arith, high)) }
+  open-ended sound (Step thread) (low, high, ready) = step-ended table whole sound thread (λ none. omega (arith, none, low)) ready
+
+  -- on a sound table
+  sound-ended : sound-of table ≡ true → (event : Event)
+      → Ended table (event-thread event) (handle-trusting table event true)
+      (by-gate-number (gate true (table .threadcount) (table .objectcount) event (thread-status (thread-at table (event-thread event) .phase)))
+      (first-applies (rule-rows table event)))
+  unfolding handle-trusting gate-turn
+  sound-ended sound event =
+      let own = thread-at table (event-thread event) in
+      let number = event-object event (own .object) in
+      let object = object-at table number in
+      rw (le-leb (table .threadcount) thread-limit (sizes table sound .0))
+      (by-gate true (table .threadcount) (table .objectcount)
+      (λ (gated : Gate). Ended table (event-thread event) (outcome-of table (event-thread event) number (gate-turn gated event own object (waiters-of table object)))
+      (by-gate-number gated (first-applies (rule-rows table event))))
+      (λ unsound. false≢true (sym unsound))
+      (λ refusal is high. subst (λ (outcome : Outcome). Ended table (event-thread event) outcome (refusal-number refusal))
+      (sym (refused-stays table (event-thread event) number refusal)) (refuse-ended table (event-thread event) refusal))
+      event (thread-status (own .phase)) (λ is. open-ended sound event))
+
+  -- on any other
+  unsound-shut : (event : Event) (threads : Bool) (status : ThreadStatus)
+      → gate (both false threads) (table .threadcount) (table .objectcount) event status ≡ Shut NotSound
+  unsound-shut (Begin operation thread object) threads status = refl
+  unsound-shut (Step thread) threads status = refl
+
+  pub event-ended : (event : Event) → Ended table (event-thread event) (handle table event) (first-applies (refusals table event))
+  unfolding handle
+  event-ended event =
+      let status = thread-status (thread-at table (event-thread event) .phase) in
+      rw (first-gated (gate-rows (sound-of table) (table .threadcount) (table .objectcount) event status) (rule-rows table event))
+      (split (sound-of table) (λ sound. rw sound (sound-ended sound event))
+      (λ unsound. rw (unsound, unsound-shut event false status, handle-shut table event false NotSound (unsound-shut event (leb (table .threadcount) thread-limit) status))
+      (refuse-ended table (event-thread event) NotSound)))

@@ -3,65 +3,31 @@ use Prim.Native.Nat.{ℕ, _≤_}
 use mathlib.Core.Path.{_≡_, refl, sym, _∙_}
 use mathlib.Core.Logic.{_⊎_, inl, inr}
 use mathlib.Core.Bool.{true}
-use mathlib.Core.List.{List}
+use mathlib.Core.List.{List, [], _∷_, _++_}
 use native.Mathlib.Omega.{arith}
 use borrow.Author.Tests.{le-leb, lt-leb}
-use Rattle.lock_rules.specs.Events.{Begin, Step}
+use Rattle.lock_rules.specs.declared.event.Event.the-variants.{Begin, Step}
 use Rattle.lock_rules.specs.declared.Answer.{Answer}
 use Rattle.lock_rules.specs.declared.Answer.the-variants.{GoneOn, Finished, Parked, NotOwner, TooDeep, NoRule}
 use Rattle.lock_table.specs.declared.record.Table.{Table}
-use Rattle.lock_rules.specs.Numbers.{returned-of}
-use Rattle.lock_engine.specs.Outcome.{refusalNumberOf, returnedOf}
-use Rattle.lock_engine.specs.Begin.{beginOf}
-use Rattle.lock_engine.specs.Step.{stepOf}
-use Rattle.lock_engine.specs.declared.outcome.Refusal.{Refusal}
-use Rattle.lock_engine.specs.declared.outcome.Refusal.the-variants.{
-  NotSound,
-  NoSuchThread,
-  NoSuchObject,
-  NotIdle,
-  ThreadIdle,
-  ThreadParked,
-  NoSuchOperation,
-}
+use Rattle.lock_rules.specs.Numbers.{refusal-number, returned-of}
+use Rattle.lock_rules.specs.Gate.{GateRow, gate-rows, event-thread}
+use Rattle.lock_rules.specs.declared.event.Event.{Event}
+use Rattle.lock_engine.specs.Outcome.{reply-returned}
+use Rattle.lock_engine.proofs.After.{refusal-high}
+use Rattle.lock_engine.specs.Handle.{handle}
+use Rattle.lock_gate.specs.Status.{thread-status}
+use Rattle.lock_soundness.specs.Sound.{sound-of}
+use Rattle.lock_table.specs.Access.{thread-at}
 use Rattle.lock_engine.specs.declared.outcome.Reply.{Reply}
 use Rattle.lock_engine.specs.declared.outcome.Reply.the-variants.{Begun, Refused, Answered}
 use Rattle.lock_engine.specs.declared.outcome.Outcome.{Outcome}
-use Rattle.lock_table.specs.Whole.{Whole}
-use Rattle.lock_refusals.specs.Refusals.{Row, first-applies, begin-refusals, step-refusals}
-use Rattle.lock_refusals.specs.Demand.{returned, refused-number, RefusedByFirst, Leaves, DemandOne}
+use Rattle.lock_refusals.specs.Refusals.{Row, first-applies, numbered, rule-rows, refusals}
+use Rattle.lock_refusals.specs.Demand.{returned, refused-number, RefusedByFirst, DemandOne}
 use Rattle.lock_refusals.proofs.Rows.{from-eleven, first-read, first-made, none-read, none-made}
-use Rattle.lock_refusals.proofs.Ended.{same-ended}
-use Rattle.lock_refusals.proofs.Begins.{begin-ended}
-use Rattle.lock_refusals.proofs.Steps.{step-ended}
-
--- the number that an event is refused with is the first of its list that applies, 0 where none does
-pub begin-refused : (table : Table) (thread operation object : ℕ)
-    → refused-number (beginOf table thread operation object) ≡ first-applies (begin-refusals table thread operation object)
-begin-refused table thread operation object = begin-ended table thread object operation .refused
-
-pub step-refused : (table : Table) → Whole table → (thread : ℕ) → refused-number (stepOf table thread) ≡ first-applies (step-refusals table thread)
-step-refused table whole thread = step-ended table whole thread .refused
-
--- a refused begin gives the same table; so does a refused step, but for 18 and 19, which make the thread idle and change nothing else
-pub begin-leaves : (table : Table) (thread operation object : ℕ)
-    → let outcome = beginOf table thread operation object in 11 ≤ returned outcome → outcome .table ≡ table
-begin-leaves table thread operation object = begin-ended table thread object operation .same
-
-pub step-leaves : (table : Table) → Whole table → (thread : ℕ) → Leaves table thread (stepOf table thread)
-step-leaves table whole thread = step-ended table whole thread .left
+use Rattle.lock_refusals.proofs.Steps.{event-ended}
 
 -- no event returns 3 to 10
-refusal-high : (refusal : Refusal) → 11 ≤ refusalNumberOf refusal
-unfolding refusalNumberOf
-refusal-high NotSound = omega arith
-refusal-high NoSuchThread = omega arith
-refusal-high NoSuchObject = omega arith
-refusal-high NotIdle = omega arith
-refusal-high ThreadIdle = omega arith
-refusal-high ThreadParked = omega arith
-refusal-high NoSuchOperation = omega arith
-
 answer-range : (answer : Answer) → (returned-of answer ≤ 2) ⊎ (11 ≤ returned-of answer)
 answer-range GoneOn = inl (omega arith)
 answer-range (Finished woken) = inl (omega arith)
@@ -70,8 +36,8 @@ answer-range NotOwner = inr (omega arith)
 answer-range TooDeep = inr (omega arith)
 answer-range NoRule = inr (omega arith)
 
-reply-range : (reply : Reply) → (returnedOf reply ≤ 2) ⊎ (11 ≤ returnedOf reply)
-unfolding returnedOf
+reply-range : (reply : Reply) → (reply-returned reply ≤ 2) ⊎ (11 ≤ reply-returned reply)
+unfolding reply-returned
 reply-range Begun = inl (omega arith)
 reply-range (Refused refusal) = inr (refusal-high refusal)
 reply-range (Answered answer) = answer-range answer
@@ -105,13 +71,20 @@ refused-by-first rows outcome numbered first = at (reply-range (outcome .reply))
           accepted = (λ small. absurd (omega (arith, small, refused)), λ passed. absurd (omega (arith, none-made rows passed, applies, refused)));
         }
 
+-- the numbers of the refusals
+numbered-high : (rows : List GateRow) (rest : List Row) → from-eleven rest ≡ true → from-eleven (numbered rows ++ rest) ≡ true
+numbered-high [] rest high = high
+numbered-high (first ∷ rows) rest high = rw (le-leb 11 (refusal-number (first .refusal)) (refusal-high (first .refusal))) (numbered-high rows rest high)
+
+rule-high : (table : Table) (event : Event) → from-eleven (rule-rows table event) ≡ true
+rule-high table (Begin operation thread object) = refl
+rule-high table (Step thread) = refl
+
 pub demand-one : DemandOne
-demand-one table whole (Begin operation thread object) = (
-  refused-by-first (begin-refusals table thread operation object) (beginOf table thread operation object) refl
-      (begin-refused table thread operation object),
-  same-ended thread (begin-ended table thread object operation) .left,
-)
-demand-one table whole (Step thread) = (
-  refused-by-first (step-refusals table thread) (stepOf table thread) refl (step-refused table whole thread),
-  step-leaves table whole thread,
+demand-one table whole event = (
+  refused-by-first (refusals table event) (handle table event) (numbered-high
+      (gate-rows (sound-of table) (table .threadcount) (table .objectcount) event (thread-status (thread-at table (event-thread event) .phase)))
+      (rule-rows table event) (rule-high table event))
+      (event-ended table whole event .refused),
+  event-ended table whole event .left,
 )

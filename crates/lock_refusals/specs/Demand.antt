@@ -5,31 +5,24 @@ use mathlib.Core.Logic.{_↔_}
 use mathlib.Core.List.{List}
 use lib.Dec.{eqb, leb}
 use Rattle.laws.specs.Choice.{pick, either}
-use Rattle.lock_rules.specs.Events.{Event, Begin, Step}
-use Rattle.lock_table.specs.Record.{noThread}
-use Rattle.lock_table.specs.Access.{setThread}
+use Rattle.lock_rules.specs.declared.event.Event.{Event}
+use Rattle.lock_rules.specs.Gate.{event-thread}
+use Rattle.lock_rules.specs.Numbers.{first-refusal}
+use Rattle.lock_table.specs.Record.{no-thread}
+use Rattle.lock_table.specs.Access.{set-thread}
 use Rattle.lock_table.specs.declared.record.Table.{Table}
-use Rattle.lock_engine.specs.Outcome.{first-refusal, returnedOf}
+use Rattle.lock_engine.specs.Outcome.{reply-returned}
 use Rattle.lock_engine.specs.declared.outcome.Outcome.{Outcome}
-use Rattle.lock_schedule.specs.Schedule.{eventOf}
+use Rattle.lock_engine.specs.Handle.{handle}
 use Rattle.lock_table.specs.Whole.{Whole}
-use Rattle.lock_refusals.specs.Refusals.{Row, IsFirst, NoneApplies, begin-refusals, step-refusals}
+use Rattle.lock_refusals.specs.Refusals.{Row, IsFirst, NoneApplies, refusals}
 
 abbrev pub returned : Outcome → ℕ
-returned outcome = returnedOf (outcome .reply)
+returned outcome = reply-returned (outcome .reply)
 
 -- the number of a refused event; 0 for one that is not
 abbrev pub refused-number : Outcome → ℕ
 refused-number outcome = pick (leb first-refusal (returned outcome)) (returned outcome) 0
-
--- the refusals of an event, and the thread that it is of
-abbrev pub refusals : Table → Event → List Row
-refusals table (Begin operation thread object) = begin-refusals table thread operation object
-refusals table (Step thread) = step-refusals table thread
-
-abbrev pub thread-of : Event → ℕ
-thread-of (Begin operation thread object) = thread
-thread-of (Step thread) = thread
 
 -- "It is refused only where a refusal of document 01 applies, with the first that applies in its order, and otherwise accepted."
 pub record RefusedByFirst (rows : List Row) (outcome : Outcome) : Type 0 where
@@ -39,7 +32,7 @@ pub record RefusedByFirst (rows : List Row) (outcome : Outcome) : Type 0 where
 
 -- "A refused event gives the table back unchanged, save that a thread refused as no owner or as too deep is idle again."
 abbrev pub left-by : ℕ → Table → ℕ → Table
-left-by number table thread = pick (either (eqb number 18) (eqb number 19)) (setThread table thread noThread) table
+left-by number table thread = pick (either (eqb number 18) (eqb number 19)) (set-thread table thread no-thread) table
 
 abbrev pub Leaves : Table → ℕ → Outcome → Type 0
 Leaves table thread outcome = first-refusal ≤ returned outcome → outcome .table ≡ left-by (returned outcome) table thread
@@ -48,4 +41,4 @@ Leaves table thread outcome = first-refusal ≤ returned outcome → outcome .ta
 abbrev pub DemandOne : Type 0
 DemandOne =
     (table : Table) → Whole table → (event : Event)
-    → RefusedByFirst (refusals table event) (eventOf table event) × Leaves table (thread-of event) (eventOf table event)
+    → RefusedByFirst (refusals table event) (handle table event) × Leaves table (event-thread event) (handle table event)

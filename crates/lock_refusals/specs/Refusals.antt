@@ -4,27 +4,32 @@ use Prim.Native.Nat.{ℕ}
 use mathlib.Core.Path.{_≡_}
 use mathlib.Core.Logic.{_⊎_}
 use mathlib.Core.Bool.{Bool, true, false, not}
-use mathlib.Core.List.{List, [], _∷_}
+use mathlib.Core.List.{List, [], _∷_, _++_}
 use lib.Dec.{eqb}
-use Rattle.laws.specs.Choice.{pick, both, either, within}
-use Rattle.lock_word.specs.Read.{decodeOf}
+use Rattle.laws.specs.Choice.{pick, both, within}
+use Rattle.lock_word.specs.Read.{read-word}
 use Rattle.lock_word.specs.declared.reading.Decoded.{Decoded}
 use Rattle.lock_word.specs.declared.reading.Decoded.the-variants.{Valid, Invalid}
+use Rattle.lock_rules.specs.Numbers.{refusal-number}
+use Rattle.lock_rules.specs.Gate.{GateRow, gate-rows, event-thread}
 use Rattle.lock_rules.specs.Rules.{decide}
+use Rattle.lock_rules.specs.declared.event.Event.{Event}
+use Rattle.lock_rules.specs.declared.event.Event.the-variants.{Begin, Step}
 use Rattle.lock_rules.specs.declared.Doing.{Doing}
 use Rattle.lock_rules.specs.declared.ThreadState.{ThreadState}
 use Rattle.lock_rules.specs.declared.ThreadState.the-variants.{Idle, Running, Queued, Contending, Waiting}
 use Rattle.lock_rules.specs.declared.Action.{Action}
 use Rattle.lock_rules.specs.declared.Action.the-variants.{Unruled, Do}
 use Rattle.lock_table.specs.Limits.{depth-limit}
-use Rattle.lock_table.specs.Operation.{operationNumberOf}
-use Rattle.lock_table.specs.Access.{threadAt, objectAt, phaseAt}
+use Rattle.lock_table.specs.Operation.{operation-number}
+use Rattle.lock_table.specs.Access.{thread-at, object-at, phase-number-at}
 use Rattle.lock_table.specs.declared.record.Monitor.{Monitor}
 use Rattle.lock_table.specs.declared.record.ObjectRecord.{ObjectRecord}
 use Rattle.lock_table.specs.declared.record.Table.{Table}
-use Rattle.lock_perform.specs.State.{stateOf}
-use Rattle.lock_perform.specs.Sight.{sightOf}
-use Rattle.lock_soundness.specs.Sound.{soundOf}
+use Rattle.lock_perform.specs.State.{read-thread}
+use Rattle.lock_perform.specs.Sight.{sight-at}
+use Rattle.lock_soundness.specs.Sound.{sound-of}
+use Rattle.lock_gate.specs.Status.{thread-status}
 use Rattle.lock_table.specs.Ownership.{ownership-at}
 
 -- one refusal: its number, and whether it applies
@@ -52,24 +57,15 @@ NoneApplies (first ∷ rest) = (first .applies ≡ false) × NoneApplies rest
 
 -- thread n's operation by its number, and the object that it is on
 abbrev pub operation-at : Table → ℕ → ℕ
-operation-at table n = operationNumberOf (threadAt table n .operation)
+operation-at table n = operation-number (thread-at table n .operation)
 
 abbrev pub home-at : Table → ℕ → ℕ
-home-at table n = threadAt table n .object
+home-at table n = thread-at table n .object
 
--- "11, 12; begin then 17, 13, 14"
-abbrev pub begin-refusals : Table → ℕ → ℕ → ℕ → List Row
-begin-refusals table thread operation object =
-    row 11 (not (soundOf table))
-    ∷ row 12 (not (within 1 (table .threadcount) thread))
-    ∷ row 17 (not (within 1 5 operation))
-    ∷ row 13 (not (within 1 (table .objectcount) object))
-    ∷ row 14 (not (eqb (phaseAt table thread) 0))
-    ∷ []
-
--- 16: "thread parked (phase 5, 8, 14)"
-abbrev pub parked : ℕ → Bool
-parked phase = either (eqb phase 5) (either (eqb phase 8) (eqb phase 14))
+-- the refusals before any rule, by their numbers
+abbrev pub numbered : List GateRow → List Row
+numbered [] = []
+numbered (first ∷ rest) = row (refusal-number (first .refusal)) (first .applies) ∷ numbered rest
 
 -- 18: "exit, wait, notify: not the owner". An exit, a wait or either notify is in phase 1, and the object's owner by its word is not the thread.
 abbrev pub not-the-owner : ℕ → ℕ → ℕ → ℕ → Bool
@@ -87,26 +83,29 @@ unruled (Do effect) = false
 
 abbrev pub no-rule-seeing : Table → ℕ → ObjectRecord → Doing → Decoded → Bool
 no-rule-seeing table thread object doing Invalid = false
-no-rule-seeing table thread object doing (Valid word) = unruled (decide thread (sightOf table object word) doing)
+no-rule-seeing table thread object doing (Valid word) = unruled (decide thread (sight-at table object word) doing)
 
 abbrev pub no-rule : Table → ℕ → ObjectRecord → ThreadState → Bool
 no-rule table thread object Idle = false
-no-rule table thread object (Running doing) = no-rule-seeing table thread object doing (decodeOf (object .word))
+no-rule table thread object (Running doing) = no-rule-seeing table thread object doing (read-word (object .word))
 no-rule table thread object (Queued carried) = false
 no-rule table thread object Contending = false
 no-rule table thread object (Waiting suspension) = false
 
--- "11, 12; step then 15, 16, then its rule"
-abbrev pub step-refusals : Table → ℕ → List Row
-step-refusals table thread =
-    let phase = phaseAt table thread in
+-- "then its rule"
+abbrev pub rule-rows : Table → Event → List Row
+rule-rows table (Begin operation thread object) = []
+rule-rows table (Step thread) =
+    let phase = phase-number-at table thread in
     let operation = operation-at table thread in
     let home = home-at table thread in
-    row 11 (not (soundOf table))
-    ∷ row 12 (not (within 1 (table .threadcount) thread))
-    ∷ row 15 (eqb phase 0)
-    ∷ row 16 (parked phase)
-    ∷ row 18 (not-the-owner thread operation phase (ownership-at table home .thread))
-    ∷ row 19 (too-deep thread operation phase (objectAt table home .monitor))
-    ∷ row 20 (no-rule table thread (objectAt table home) (stateOf (threadAt table thread)))
+    row 18 (not-the-owner thread operation phase (ownership-at table home .thread))
+    ∷ row 19 (too-deep thread operation phase (object-at table home .monitor))
+    ∷ row 20 (no-rule table thread (object-at table home) (read-thread (thread-at table thread)))
     ∷ []
+
+-- "Order: 11, 12; begin then 17, 13, 14; step then 15, 16, then its rule"
+abbrev pub refusals : Table → Event → List Row
+refusals table event =
+    numbered (gate-rows (sound-of table) (table .threadcount) (table .objectcount) event (thread-status (thread-at table (event-thread event) .phase)))
+    ++ rule-rows table event

@@ -16,7 +16,8 @@ use Rattle.lock_rules.specs.declared.Doing.the-variants.{ExitGoIn, ExitT
 use Rattle.lock_rules.specs.declared.Doing.the-variants.{WaitGiveUp, WaitResume, NotifyLook, NotifyAllLook}
 use Rattle.lock_rules.specs.declared.ThreadState.{ThreadState}
 use Rattle.lock_rules.specs.declared.ThreadState.the-variants.{Idle, Running, Queued, Contending, Waiting}
-use Rattle.lock_rules.specs.Events.{Event, woken}
+use Rattle.lock_rules.specs.declared.event.Event.{Event}
+use Rattle.lock_rules.specs.Events.{woken}
 use Rattle.lock_rules.specs.PlainMonitor.{PlainMonitor}
 use Rattle.lock_rules.specs.Feed.{Plain, feed-all, blank, AllEndRight}
 use Rattle.lock_rules.proofs.Objects.{ListObject, object-owner, owned-depth}

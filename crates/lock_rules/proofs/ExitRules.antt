@@ -9,61 +9,49 @@ use lib.Dec.{T}
 use Rattle.laws.specs.Update.{update}
 use Rattle.laws.specs.Count.{count}
 use Rattle.laws.proofs.Choice.{by-equal}
-use Rattle.laws.proofs.Update.{update-same, update-other}
-use Rattle.laws.proofs.Count.{count-other}
+use Rattle.laws.proofs.Update.{update-other}
+use Rattle.laws.proofs.Count.{count-none, count-same}
+use Rattle.chains.specs.declared.named.Chain.{Chain}
 use Rattle.lock_rules.specs.Actions.{go-on}
 use Rattle.lock_rules.specs.Rules.{onward, exit-test, exit-tell, exit-leave}
-use Rattle.lock_rules.specs.Changes.{handed}
+use Rattle.lock_rules.specs.Changes.{handed, moved}
 use Rattle.lock_rules.specs.Operations.{Exit}
 use Rattle.lock_rules.specs.declared.Carried.{Carried}
 use Rattle.lock_rules.specs.declared.Carried.the-variants.{ToCheck, ToTell, ToInflate, ToResume}
 use Rattle.lock_rules.specs.declared.Doing.the-variants.{ExitGoIn, ExitTest, ExitTell, ExitLeave}
-use Rattle.lock_rules.specs.declared.ThreadState.the-variants.{Idle, Running, Queued}
+use Rattle.lock_rules.specs.declared.ThreadState.the-variants.{Idle, Running}
 use Rattle.lock_word.specs.declared.meaning.WordSeen.{WordSeen}
 use Rattle.lock_word.specs.declared.meaning.WordSeen.the-variants.{Free, Anonymous, Fat, Flat, Reserved}
+use Rattle.lock_rules.specs.declared.Taken.the-variants.{First}
 use Rattle.lock_rules.specs.declared.Answer.the-variants.{GoneOn, Finished}
-use Rattle.lock_rules.proofs.Objects.{ListObject, object-of, sight-of}
-use Rattle.lock_rules.proofs.Perform.{enter-queue, count-entered-other, handed-object, handed-states}
+use Rattle.lock_rules.proofs.Objects.{ListObject, with-word, with-flag, with-entry, with-contention, sight-of}
+use Rattle.lock_rules.proofs.Perform.{left, count-taken, first-of, changed-states, handed-states, moved-object, moved-states}
 use Rattle.lock_rules.proofs.Invariant.{phase-row, leaving?, in-entry, FlagOk, Told, Unstranded}
 use Rattle.lock_rules.proofs.Reliances.{is-queued}
-use Rattle.lock_rules.proofs.Membership.{not-first}
-use Rattle.lock_rules.proofs.OtherThreads.{others-told}
+use Rattle.lock_rules.proofs.Membership.{placed-unmoved}
+use Rattle.lock_rules.proofs.OtherThreads.{others-moved}
 use Rattle.lock_rules.proofs.SharedFacts.{unstranded-empty, unstranded-joined, flag-down, owner-shallow, first-queued}
-use Rattle.lock_rules.proofs.SharedFacts.{contender-busy, same-monitor}
-use Rattle.lock_rules.proofs.Refinement.{Actor, Stepping, Right, nothing-committed, refine}
+use Rattle.lock_rules.proofs.SharedFacts.{idle-changed, same-monitor}
+use Rattle.lock_rules.proofs.Refinement.{Actor, Stepping, Right, nothing-committed, refine, quiet-refines}
 use Rattle.lock_rules.proofs.RuleShapes.{go-on-refines, ended-self, hand-refines}
 
 module _ (actor : Actor) where
-  pub exit-test-refines : (word : WordSeen) (flag : Bool) (holder depth : ℕ) (entry contention waiting : List ℕ)
-      → let o = object-of word flag holder depth entry contention waiting in
+  pub exit-test-refines : (it : ListObject) (flag : Bool) → let o = with-flag it flag in
       Stepping actor ExitTest o → Right actor Exit o (exit-test (sight-of o))
   unfolding exit-test
-  exit-test-refines word true holder depth entry contention waiting step =
-      go-on-refines actor _ ExitTest ExitGoIn step (refl, refl, refl, refl) (λ k. k) (step .self .relies)
-  exit-test-refines word false holder depth entry contention waiting step =
-      let o = object-of word false holder depth entry contention waiting in
-      refine actor Exit o
+  exit-test-refines it true step = go-on-refines actor _ ExitTest ExitGoIn step (refl, refl, refl, refl) (λ k. k) (step .self .relies)
+  exit-test-refines it false step =
+      let o = with-flag it false in
+      quiet-refines actor Exit o o Idle (Finished 0) (step .inv) (step .self .logged .1)
       (record {
-        after = o;
-        states = actor .states;
-        state = Idle;
-        answer = Finished 0;
-        commits = false;
-        committed = nothing-committed;
-        woken = actor .ghost .woken;
-        saved = actor .ghost .saved;
-        nobody = step .inv .whole .nobody;
-        stays = λ t e. e;
-        does = λ k. absurd k;
         others = λ t n. step .inv .threads t;
         self = ended-self actor (λ x k. absurd (step .self .seated .0 x)) (step .self .placed) (step .self .woken);
         monitor = step .inv .whole .monitor;
         empty = step .inv .whole .empty;
         flag = step .inv .whole .flag;
-        unstranded = unstranded-empty word
-            (update (actor .states) (actor .thread) Idle) holder entry contention (flag-down word contention (step .inv .whole .flag));
+        unstranded = unstranded-empty (it .word) (update (actor .states) (actor .thread) Idle) (it .holder) (it .entry) (it .contention)
+            (flag-down (it .word) (it .contention) (step .inv .whole .flag));
         shows = refl;
-        ended = step .self .logged .1;
       })
 
   flag-rest : (word : WordSeen) (first : ℕ) (rest : List ℕ) → FlagOk word true (first ∷ rest) → FlagOk word true rest
@@ -76,19 +64,8 @@ module _ (actor : Actor) where
   -- there is nobody to tell
   tell-nobody : (o : ListObject) → Stepping actor ExitTell o → o .contention ≡ [] → Right actor Exit o (go-on (sight-of o) ExitLeave)
   tell-nobody o step e =
-      refine actor Exit o
+      quiet-refines actor Exit o o (Running ExitLeave) GoneOn (step .inv) tt
       (record {
-        after = o;
-        states = actor .states;
-        state = Running ExitLeave;
-        answer = GoneOn;
-        commits = false;
-        committed = nothing-committed;
-        woken = actor .ghost .woken;
-        saved = actor .ghost .saved;
-        nobody = step .inv .whole .nobody;
-        stays = λ t e. e;
-        does = λ k. absurd k;
         others = λ t n. step .inv .threads t;
         self = record {
           seated = step .self .seated;
@@ -103,22 +80,24 @@ module _ (actor : Actor) where
         flag = step .inv .whole .flag;
         unstranded = unstranded-empty (o .word) (update (actor .states) (actor .thread) (Running ExitLeave)) (o .holder) (o .entry) (o .contention) e;
         shows = refl;
-        ended = tt;
       })
 
-  pub exit-tell-refines : (word : WordSeen) (flag : Bool) (holder depth : ℕ) (entry contention waiting : List ℕ)
-      → let o = object-of word flag holder depth entry contention waiting in
+  pub exit-tell-refines : (it : ListObject) (flag : Bool) (contention : List ℕ) → let o = with-contention (with-flag it flag) contention in
       Stepping actor ExitTell o → Right actor Exit o (exit-tell (sight-of o))
   unfolding exit-tell
-  exit-tell-refines word true holder depth entry [] waiting step = tell-nobody _ step refl
-  exit-tell-refines word true holder depth entry (first ∷ rest) waiting step =
-      let o = object-of word true holder depth entry (first ∷ rest) waiting in
-      let q : holder ≡ actor .thread = step .self .seated .0 in
-      let far = not-first (actor .thread) first rest (step .self .placed .contention) .0 in
+  exit-tell-refines it true [] step = tell-nobody _ step refl
+  exit-tell-refines it true (first ∷ rest) step =
+      let o = with-contention (with-flag it true) (first ∷ rest) in
+      let q : it .holder ≡ actor .thread = step .self .seated .0 in
+      let out : count (actor .thread) (first ∷ []) ≡ 0 = omega (
+        arith,
+        count-taken First (first ∷ rest) (actor .thread),
+        step .self .placed .contention,
+      ) in
       refine actor Exit o
       (record {
-        after = object-of word true holder depth (enter-queue entry first) rest waiting;
-        states = update (actor .states) first (Queued ToCheck);
+        after = moved-object Chain.Contention First o;
+        states = moved-states Chain.Contention First (actor .states) o;
         state = Running ExitLeave;
         answer = GoneOn;
         commits = false;
@@ -126,17 +105,12 @@ module _ (actor : Actor) where
         woken = actor .ghost .woken;
         saved = actor .ghost .saved;
         nobody = step .inv .whole .nobody;
-        stays = λ t e. update-other (actor .states) first (Queued ToCheck) t
-            (λ k. contender-busy (actor .states) o (actor .ghost) (step .inv) first rest refl t e (sym k)) ∙ e;
+        stays = idle-changed moved refl (actor .states) (first ∷ []);
         does = λ k. absurd k;
-        others = others-told (actor .thread) (actor .states) o (actor .ghost) first rest refl (λ t n. step .inv .threads t);
+        others = others-moved (actor .thread) (actor .states) o (actor .ghost) Chain.Contention First (λ t n. step .inv .threads t);
         self = record {
           seated = step .self .seated;
-          placed = record {
-            entry = count-entered-other (actor .thread) first entry far ∙ step .self .placed .entry;
-            contention = sym (count-other (actor .thread) first rest far) ∙ step .self .placed .contention;
-            waiting = step .self .placed .waiting;
-          };
+          placed = placed-unmoved (actor .thread) (Running ExitLeave) o (step .self .placed) Chain.Contention First out;
           relies = tt;
           logged = step .self .logged;
           saved = tt;
@@ -144,14 +118,13 @@ module _ (actor : Actor) where
         };
         monitor = step .inv .whole .monitor;
         empty = λ x. absurd (actor .real (sym q ∙ x));
-        flag = flag-rest word first rest (step .inv .whole .flag);
-        unstranded = unstranded-joined word
-            (update (update (actor .states) first (Queued ToCheck)) (actor .thread) (Running ExitLeave)) first holder entry rest
-            (λ x. actor .real (sym q ∙ x));
+        flag = flag-rest (it .word) first rest (step .inv .whole .flag);
+        unstranded = unstranded-joined (it .word) (update (moved-states Chain.Contention First (actor .states) o) (actor .thread) (Running ExitLeave)) first
+            (it .holder) (it .entry) rest (λ x. actor .real (sym q ∙ x));
         shows = refl;
         ended = tt;
       })
-  exit-tell-refines word false holder depth entry contention waiting step = tell-nobody _ step (flag-down word contention (step .inv .whole .flag))
+  exit-tell-refines it false contention step = tell-nobody _ step (flag-down (it .word) contention (step .inv .whole .flag))
 
   -- a thread that is handed the monitor does not leave it at once
   onward-stays : (carried : Carried) → T (leaving? (phase-row (onward carried) .seat)) → ⊥
@@ -161,51 +134,50 @@ module _ (actor : Actor) where
   onward-stays (ToResume suspension) k = k
 
   -- the contenders of a free word, after the leaving
-  told-handed : (flag : Bool) (holder depth : ℕ) (entry contention waiting queue : List ℕ)
-      → let o = object-of Free flag holder depth entry contention waiting in
-      Stepping actor ExitLeave o → entry ≡ queue → contention ≢ []
-      → Told (update (handed-states (actor .states) queue) (actor .thread) Idle) (handed-object o queue .holder) (handed-object o queue .entry)
-  told-handed flag holder depth entry contention waiting [] step x c = at (step .inv .whole .unstranded c)
+  told-handed : (it : ListObject) (entry : List ℕ) → let o = with-entry (with-word it Free) entry in
+      Stepping actor ExitLeave o → it .contention ≢ []
+      → Told (update (handed-states (actor .states) o) (actor .thread) Idle) (first-of entry) (left First entry)
+  told-handed it [] step c = at (step .inv .whole .unstranded c)
     where
-      at : Told (actor .states) holder entry → Told (update (actor .states) (actor .thread) Idle) 0 []
-      at (inl (t, k)) = inl (t, rw (update-other (actor .states) (actor .thread) Idle t (λ p. rw (p, step .running) at k)) k)
-      at (inr (n, k)) = absurd (k (rw (step .self .seated .0, step .running) tt) x)
-  told-handed flag holder depth entry contention waiting (first ∷ rest) step x c =
-      let (n, m) = first-queued (actor .states) (object-of Free flag holder depth entry contention waiting) (actor .ghost) (step .inv) first rest x in
+      at : Told (actor .states) (it .holder) [] → Told (update (changed-states handed (actor .states) []) (actor .thread) Idle) 0 []
+      at (inl (t, k)) =
+          inl (
+            t,
+            rw (
+              update-other (changed-states handed (actor .states) []) (actor .thread) Idle t (λ p. rw (p, step .running) at k),
+              count-none t,
+            ) k,
+          )
+      at (inr (n, k)) = absurd (k (rw (step .self .seated .0, step .running) tt) refl)
+  told-handed it (first ∷ rest) step c =
+      let o = with-entry (with-word it Free) (first ∷ rest) in
+      let (n, m) = first-queued (actor .states) o (actor .ghost) (step .inv) first rest refl in
       let (carried, v, u) = is-queued (actor .states first) (count first rest) m in
       let far : first ≢ actor .thread =
       λ p. (let b : in-entry (actor .states (actor .thread)) ≡ suc (count (actor .thread) rest) = rw p at m in absurd
       (omega (arith, rw (step .running) at b))) in
       inr (
         n,
-        rw (
-          update-other (update (actor .states) first (handed (actor .states first))) (actor .thread) Idle first far,
-          update-same (actor .states) first (handed (actor .states first)),
-          v,
-        ) (λ k. absurd (onward-stays carried k)),
+        rw (update-other (handed-states (actor .states) o) (actor .thread) Idle first far, count-same first [], v) (λ k. absurd (onward-stays carried k)),
       )
 
-  unstranded-handed : (word : WordSeen) (flag : Bool) (holder depth : ℕ) (entry contention waiting : List ℕ)
-      → let o = object-of word flag holder depth entry contention waiting in
+  unstranded-handed : (it : ListObject) (word : WordSeen) → let o = with-word it word in
       Stepping actor ExitLeave o
-      → Unstranded word (update (handed-states (actor .states) entry) (actor .thread) Idle) (handed-object o entry .holder)
-      (handed-object o entry .entry) contention
-  unstranded-handed Free flag holder depth entry contention waiting step = told-handed flag holder depth entry contention waiting entry step refl
-  unstranded-handed Anonymous flag holder depth entry contention waiting step = tt
-  unstranded-handed Fat flag holder depth entry contention waiting step = tt
-  unstranded-handed (Flat owner c) flag holder depth entry contention waiting step = tt
-  unstranded-handed (Reserved owner c) flag holder depth entry contention waiting step = tt
+      → Unstranded word (update (handed-states (actor .states) o) (actor .thread) Idle) (first-of (it .entry)) (left First (it .entry)) (it .contention)
+  unstranded-handed it Free step = told-handed it (it .entry) step
+  unstranded-handed it Anonymous step = tt
+  unstranded-handed it Fat step = tt
+  unstranded-handed it (Flat owner c) step = tt
+  unstranded-handed it (Reserved owner c) step = tt
 
-  pub exit-leave-refines : (word : WordSeen) (flag : Bool) (holder depth : ℕ) (entry contention waiting : List ℕ)
-      → let o = object-of word flag holder depth entry contention waiting in
-      Stepping actor ExitLeave o → Right actor Exit o (exit-leave (sight-of o))
+  pub exit-leave-refines : (o : ListObject) → Stepping actor ExitLeave o → Right actor Exit o (exit-leave (sight-of o))
   unfolding exit-leave
-  exit-leave-refines word flag holder depth entry contention waiting step =
-      by-equal (Right actor Exit (object-of word flag holder depth entry contention waiting)) depth 0
-      (λ e. hand-refines actor Exit word flag holder depth entry contention waiting ExitLeave step (step .self .seated .0)
+  exit-leave-refines o step =
+      by-equal (Right actor Exit o) (o .depth) 0
+      (λ e. hand-refines actor Exit o ExitLeave step (step .self .seated .0)
       (record {
-        contenders = contention;
-        waiters = waiting;
+        contenders = o .contention;
+        waiters = o .waiting;
         state = Idle;
         answer = Finished 0;
         commits = false;
@@ -216,8 +188,8 @@ module _ (actor : Actor) where
         self = λ next rest seated gone. ended-self actor seated
             (record { entry = gone; contention = step .self .placed .contention; waiting = step .self .placed .waiting }) (step .self .woken);
         flag = step .inv .whole .flag;
-        unstranded = unstranded-handed word flag holder depth entry contention waiting step;
-        shows = λ next rest. rw e (same-monitor (owner-shallow word holder next) refl);
+        unstranded = unstranded-handed o (o .word) step;
+        shows = λ next rest. rw e (same-monitor (owner-shallow (o .word) (o .holder) next) refl);
         ended = step .self .logged .1;
       }))
       (λ e. absurd (e (step .self .seated .1)))

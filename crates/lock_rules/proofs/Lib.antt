@@ -2,6 +2,7 @@
 pub mod Commits
 pub mod Objects
 pub mod Perform
+pub mod Gate
 pub mod Turns
 pub mod Tables
 pub mod Invariant

@@ -1,6 +1,6 @@
 -- From one object to the table: every event keeps the invariant at every object, and the plain monitors agree with the objects. A step changes one object and
 -- the threads at it; any other object is seen as before.
-use Prim.Native.Nat.{ℕ}
+use Prim.Native.Nat.{ℕ, _<_}
 use mathlib.Core.Path.{_≡_, refl, sym, ap, _∙_, subst₂, subst₃, fun-ext}
 use mathlib.Core.Logic.{_≢_, _⊎_, inl, inr}
 use mathlib.Core.Bool.{Bool, true, false}
@@ -21,14 +21,18 @@ use Rattle.lock_rules.specs.declared.Doing.{Doing}
 use Rattle.lock_rules.specs.declared.ThreadState.{ThreadState}
 use Rattle.lock_rules.specs.declared.ThreadState.the-variants.{Idle, Running}
 use Rattle.lock_rules.specs.declared.Answer.{Answer}
-use Rattle.lock_rules.specs.Events.{Event, Begin, Step, Refused}
+use Rattle.lock_rules.specs.Numbers.{first-refusal, refusal-number}
+use Rattle.lock_rules.specs.declared.event.Refusal.{Refusal}
+use Rattle.lock_rules.specs.declared.event.Event.{Event}
+use Rattle.lock_rules.specs.declared.event.Event.the-variants.{Begin, Step}
+use Rattle.lock_rules.specs.Events.{Refused}
 use Rattle.lock_rules.specs.PlainMonitor.{PlainMonitor, Committed, unowned, commit}
 use Rattle.lock_rules.specs.Feed.{OperationLog, Plain, new-log, log-after, fed-step, fed-begin, feed, feed-all, blank, EndsRight, AllEndRight}
-use Rattle.lock_rules.proofs.Objects.{ListObject, object-of, empty}
+use Rattle.lock_rules.proofs.Objects.{ListObject, empty}
 use Rattle.lock_rules.proofs.Perform.{Performed}
 use Rattle.lock_rules.proofs.Turns.{by-event}
 use Rattle.lock_rules.proofs.Tables.{ListThread, ListTable, seen-from, states-at, put-back, perform-at, begin-at, list-kind, turn, final}
-use Rattle.lock_rules.proofs.Tables.{shown, fresh-word, fresh, seen-idle, seen-here, seen-elsewhere}
+use Rattle.lock_rules.proofs.Tables.{shown, fresh-object, fresh, seen-idle, seen-here, seen-elsewhere}
 use Rattle.lock_rules.proofs.Invariant.{phase-row, leaving?, Ghost, ThreadOk, ObjectOk, Invariant, monitor-of, Refines}
 use Rattle.lock_rules.proofs.OtherThreads.{with-own}
 use Rattle.lock_rules.proofs.SharedFacts.{unstranded-moved}
@@ -305,12 +309,11 @@ world-turn threads objects table plain world =
     (stepping table plain t doing z running world .self .logged .0) (step-refines (actor-at table plain t z) (table .objects (table .threads t .object))
     doing (stepping table plain t doing z running world)))
   where
-    refused : (event : Event) (number : ℕ) → World table (feed plain event (Refused number))
-    refused (Begin n t o) number = world
-    refused (Step t) number = world
+    refused : (event : Event) (refusal : Refusal) → first-refusal < refusal-number refusal → World table (feed plain event (Refused (refusal-number refusal)))
+    refused (Begin n t o) refusal high = world
+    refused (Step t) refusal high = world
 
-inv-fresh : (reserved : Bool) (ghost : Ghost) → ((t : ℕ) → ghost .woken t ≡ false)
-    → Invariant (λ t. Idle) (object-of (fresh-word reserved) false 0 0 [] [] []) ghost
+inv-fresh : (reserved : Bool) (ghost : Ghost) → ((t : ℕ) → ghost .woken t ≡ false) → Invariant (λ t. Idle) (fresh-object reserved) ghost
 inv-fresh reserved ghost e =
     record {
       threads = λ t.
@@ -325,7 +328,7 @@ inv-fresh reserved ghost e =
       whole = whole reserved;
     }
   where
-    whole : (reserved : Bool) → ObjectOk (λ t. Idle) (object-of (fresh-word reserved) false 0 0 [] [] [])
+    whole : (reserved : Bool) → ObjectOk (λ t. Idle) (fresh-object reserved)
     whole true = record { nobody = refl; monitor = refl; empty = λ e. refl; flag = refl; unstranded = tt }
     whole false = record { nobody = refl; monitor = refl; empty = λ e. refl; flag = λ e. refl; unstranded = λ c. absurd (c refl) }
 
@@ -339,7 +342,7 @@ world-fresh reserved =
       ended = tt;
     }
   where
-    mons : (reserved : Bool) → unowned ≡ monitor-of (object-of (fresh-word reserved) false 0 0 [] [] []) (ghost-at blank 0)
+    mons : (reserved : Bool) → unowned ≡ monitor-of (fresh-object reserved) (ghost-at blank 0)
     mons true = refl
     mons false = refl
 

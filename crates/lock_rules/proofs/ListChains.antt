@@ -12,54 +12,47 @@ use Rattle.laws.specs.Choice.{pick}
 use Rattle.laws.specs.Count.{count}
 use Rattle.laws.proofs.Choice.{equal?, Equal, equal}
 use Rattle.laws.proofs.Count.{distinct-within}
+use Rattle.chains.specs.declared.named.Chain.{Chain}
 use Rattle.lock_rules.specs.declared.ThreadState.{ThreadState}
 use Rattle.lock_rules.specs.declared.ThreadState.the-variants.{Idle, Running, Queued, Contending, Waiting}
-use Rattle.lock_rules.proofs.Objects.{ListObject}
+use Rattle.lock_rules.proofs.Objects.{ListObject, chain-of}
 use Rattle.lock_rules.proofs.Tables.{ListThread, ListTable, seen-from, states-at, seen-idle}
 use Rattle.lock_rules.proofs.Invariant.{in-entry, in-contention, in-waiting, Placed}
 use Rattle.lock_rules.proofs.ListSound.{InTable, SoundTable}
 
-pub data Chain : Type 0 where
-  entry-chain contention-chain waiting-chain : Chain
-
-abbrev pub chain-of : Chain → ListObject → List ℕ
-chain-of entry-chain o = o .entry
-chain-of contention-chain o = o .contention
-chain-of waiting-chain o = o .waiting
-
 -- how often a thread in this state is in the chain
 abbrev pub times-in : Chain → ThreadState → ℕ
-times-in entry-chain state = in-entry state
-times-in contention-chain state = in-contention state
-times-in waiting-chain state = in-waiting state
+times-in Chain.Entry state = in-entry state
+times-in Chain.Contention state = in-contention state
+times-in Chain.Waiting state = in-waiting state
 
 pub placed-in : (chain : Chain) (t : ℕ) (state : ThreadState) (o : ListObject) → Placed state t (o .entry) (o .contention) (o .waiting)
     → count t (chain-of chain o) ≡ times-in chain state
-placed-in entry-chain t state o p = p .entry
-placed-in contention-chain t state o p = p .contention
-placed-in waiting-chain t state o p = p .waiting
+placed-in Chain.Entry t state o p = p .entry
+placed-in Chain.Contention t state o p = p .contention
+placed-in Chain.Waiting t state o p = p .waiting
 
 idle-out : (chain : Chain) → times-in chain Idle ≡ 0
-idle-out entry-chain = refl
-idle-out contention-chain = refl
-idle-out waiting-chain = refl
+idle-out Chain.Entry = refl
+idle-out Chain.Contention = refl
+idle-out Chain.Waiting = refl
 
 once : (chain : Chain) (state : ThreadState) → times-in chain state ≤ 1
-once entry-chain Idle = omega arith
-once entry-chain (Running doing) = omega arith
-once entry-chain (Queued carried) = omega arith
-once entry-chain Contending = omega arith
-once entry-chain (Waiting saved) = omega arith
-once contention-chain Idle = omega arith
-once contention-chain (Running doing) = omega arith
-once contention-chain (Queued carried) = omega arith
-once contention-chain Contending = omega arith
-once contention-chain (Waiting saved) = omega arith
-once waiting-chain Idle = omega arith
-once waiting-chain (Running doing) = omega arith
-once waiting-chain (Queued carried) = omega arith
-once waiting-chain Contending = omega arith
-once waiting-chain (Waiting saved) = omega arith
+once Chain.Entry Idle = omega arith
+once Chain.Entry (Running doing) = omega arith
+once Chain.Entry (Queued carried) = omega arith
+once Chain.Entry Contending = omega arith
+once Chain.Entry (Waiting saved) = omega arith
+once Chain.Contention Idle = omega arith
+once Chain.Contention (Running doing) = omega arith
+once Chain.Contention (Queued carried) = omega arith
+once Chain.Contention Contending = omega arith
+once Chain.Contention (Waiting saved) = omega arith
+once Chain.Waiting Idle = omega arith
+once Chain.Waiting (Running doing) = omega arith
+once Chain.Waiting (Queued carried) = omega arith
+once Chain.Waiting Contending = omega arith
+once Chain.Waiting (Waiting saved) = omega arith
 
 -- a thread is seen idle from o, or is at o
 pub seen-or-at : (o : ℕ) (thread : ListThread) → (seen-from o thread ≡ Idle) ⊎ (thread .object ≡ o)

@@ -17,7 +17,7 @@ use Rattle.lock_rules.specs.Limits.{count-limit}
 use Rattle.lock_word.specs.Meaning.{owner-of, depth-of}
 use Rattle.lock_rules.specs.Actions.{let-go}
 use Rattle.lock_rules.specs.Rules.{owner-seen, enter-look, exit-owned, wait-owned, owner-only}
-use Rattle.lock_rules.specs.Changes.{word-after}
+use Rattle.lock_rules.specs.Changes.{seen-after}
 use Rattle.lock_rules.specs.Operations.{Enter, Exit, Wait}
 use Rattle.lock_rules.specs.declared.Doing.{Doing}
 use Rattle.lock_rules.specs.declared.Doing.the-variants.{EnterLook, EnterStore, EnterCancel, EnterGoIn, ExitLook, ExitStore, ExitTest, ExitLeave}
@@ -30,7 +30,7 @@ use Rattle.lock_rules.specs.declared.WordChange.the-variants.{Unchanged,
 use Rattle.lock_rules.specs.declared.Answer.the-variants.{GoneOn}
 use Rattle.lock_rules.specs.PlainMonitor.{unowned, owned-by, finished}
 use Rattle.lock_rules.proofs.Commits.{commit-enter, commit-enter-again, commit-exit-last, commit-exit}
-use Rattle.lock_rules.proofs.Objects.{with-word, with-depth, ListObject, object-of, empty, sight-of, object-owner, owned-depth}
+use Rattle.lock_rules.proofs.Objects.{with-word, with-depth, ListObject, empty, sight-of, object-owner, owned-depth}
 use Rattle.lock_rules.proofs.Invariant.{all-committed, nothing-saved, phase-row, Seated, ReliesOn, MonitorOk, FlagOk, Unstranded}
 use Rattle.lock_rules.proofs.OtherThreads.{Others, others-word, others-depth}
 use Rattle.lock_rules.proofs.SharedFacts.{keeps-taken, keeps-flat, keeps-freed, keeps-anonymous, keeps-deflated}
@@ -42,60 +42,51 @@ use Rattle.lock_rules.proofs.RuleShapes.{move-refines, go-on-refines, o
 record LetGoParts (actor : Actor) (o : ListObject) (change : WordChange) (new : ℕ) (next : Doing) : Type 0 where
   owns : object-owner o ≡ actor .thread
   one : owned-depth o ≡ 1
-  others : Others (actor .thread) (actor .states) (with-depth (with-word o (word-after (actor .thread) change (o .word))) new) (actor .ghost)
+  others : Others (actor .thread) (actor .states) (with-depth (with-word o (seen-after (actor .thread) change (o .word))) new) (actor .ghost)
   seated : Seated (phase-row next .seat) (actor .thread) (o .holder) new
-  relies : ReliesOn (phase-row next .reliance) (actor .thread) (word-after (actor .thread) change (o .word)) (o .flag) (o .holder)
+  relies : ReliesOn (phase-row next .reliance) (actor .thread) (seen-after (actor .thread) change (o .word)) (o .flag) (o .holder)
   operation : phase-row next .operation ≡ Exit
   stage : phase-row next .stage ≡ all-committed
   saved : phase-row next .saved ≡ nothing-saved
-  monitor : MonitorOk (word-after (actor .thread) change (o .word)) (o .holder) new
-  flag : FlagOk (word-after (actor .thread) change (o .word)) (o .flag) (o .contention)
-  unstranded : Unstranded (word-after (actor .thread) change (o .word)) (update (actor .states) (actor .thread) (Running next)) (o .holder) (o .entry)
+  monitor : MonitorOk (seen-after (actor .thread) change (o .word)) (o .holder) new
+  flag : FlagOk (seen-after (actor .thread) change (o .word)) (o .flag) (o .contention)
+  unstranded : Unstranded (seen-after (actor .thread) change (o .word)) (update (actor .states) (actor .thread) (Running next)) (o .holder) (o .entry)
       (o .contention)
-  unowned : owner-of (word-after (actor .thread) change (o .word)) (o .holder) new ≡ 0
-  shallow : depth-of (word-after (actor .thread) change (o .word)) new ≡ 0
+  unowned : owner-of (seen-after (actor .thread) change (o .word)) (o .holder) new ≡ 0
+  shallow : depth-of (seen-after (actor .thread) change (o .word)) new ≡ 0
 
 module _ (actor : Actor) where
-  pub enter-look-refines : (word : WordSeen) (flag : Bool) (holder depth : ℕ) (entry contention waiting : List ℕ)
-      → let o = object-of word flag holder depth entry contention waiting in
+  pub enter-look-refines : (it : ListObject) (word : WordSeen) → let o = with-word it word in
       Stepping actor EnterLook o → Right actor Enter o (enter-look (actor .thread) (sight-of o) word)
   unfolding enter-look
-  enter-look-refines Free flag holder depth entry contention waiting step =
-      word-refines actor Enter (object-of Free flag holder depth entry contention waiting) (OwnFlat 0) step
+  enter-look-refines it Free step =
+      word-refines actor Enter (with-word it Free) (OwnFlat 0) step refl refl
       (record {
-        keeps = λ t n. keeps-taken (actor .states t) (actor .thread) t holder n 0;
-        does = commit-enter (actor .thread) (plain-at actor (object-of Free flag holder depth entry contention waiting)) refl;
-        seated = step .self .seated;
-        asleep = step .self .woken;
+        keeps = λ t n. keeps-taken (actor .states t) (actor .thread) t (it .holder) n 0;
+        does = commit-enter (actor .thread) (plain-at actor (with-word it Free)) refl;
         monitor = (step .inv .whole .monitor, actor .real, omega arith);
         flag = step .inv .whole .flag;
         unstranded = tt;
         ended = (first-commit (step .self .logged .1), refl);
       })
-  enter-look-refines Anonymous flag holder depth entry contention waiting step =
-      word-refines actor Enter (object-of Anonymous flag holder depth entry contention waiting) (OwnReserved 1) step
+  enter-look-refines it Anonymous step =
+      word-refines actor Enter (with-word it Anonymous) (OwnReserved 1) step refl refl
       (record {
-        keeps = λ t n. keeps-anonymous (actor .states t) (actor .thread) t holder n (Reserved (actor .thread) 1);
-        does = commit-enter (actor .thread) (plain-at actor (object-of Anonymous flag holder depth entry contention waiting)) refl;
-        seated = step .self .seated;
-        asleep = step .self .woken;
+        keeps = λ t n. keeps-anonymous (actor .states t) (actor .thread) t (it .holder) n (Reserved (actor .thread) 1);
+        does = commit-enter (actor .thread) (plain-at actor (with-word it Anonymous)) refl;
         monitor = (step .inv .whole .monitor, actor .real, omega arith);
         flag = step .inv .whole .flag;
         unstranded = tt;
         ended = (first-commit (step .self .logged .1), refl);
       })
-  enter-look-refines Fat flag holder depth entry contention waiting step =
-      go-on-refines actor _ EnterLook EnterGoIn step (refl, refl, refl, refl) (λ k. k) tt
-  enter-look-refines (Flat owner c) flag holder depth entry contention waiting step =
-      by-equal (Right actor Enter (object-of (Flat owner c) flag holder depth entry contention waiting)) owner (actor .thread)
-      (λ q. by-below (Right actor Enter (object-of (Flat owner c) flag holder depth entry contention waiting)) c count-limit
-      (λ l. word-refines actor Enter (object-of (Flat owner c) flag holder depth entry contention waiting) (OwnFlat (c + 1)) step
+  enter-look-refines it Fat step = go-on-refines actor _ EnterLook EnterGoIn step (refl, refl, refl, refl) (λ k. k) tt
+  enter-look-refines it (Flat owner c) step =
+      by-equal (Right actor Enter (with-word it (Flat owner c))) owner (actor .thread)
+      (λ q. by-below (Right actor Enter (with-word it (Flat owner c))) c count-limit
+      (λ l. word-refines actor Enter (with-word it (Flat owner c)) (OwnFlat (c + 1)) step refl refl
       (record {
-        keeps = λ t n. keeps-flat (actor .states t) (actor .thread) t holder n owner c (c + 1) q;
-        does = commit-enter-again (actor .thread)
-            (plain-at actor (object-of (Flat owner c) flag holder depth entry contention waiting)) (actor .real) q (omega (arith, l));
-        seated = step .self .seated;
-        asleep = step .self .woken;
+        keeps = λ t n. keeps-flat (actor .states t) (actor .thread) t (it .holder) n owner c (c + 1) q;
+        does = commit-enter-again (actor .thread) (plain-at actor (with-word it (Flat owner c))) (actor .real) q (omega (arith, l));
         monitor = (step .inv .whole .monitor .0, actor .real, omega (arith, l));
         flag = step .inv .whole .flag;
         unstranded = tt;
@@ -103,9 +94,9 @@ module _ (actor : Actor) where
       }))
       (λ l. go-on-refines actor _ EnterLook EnterGoIn step (refl, refl, refl, refl) (λ k. k) tt))
       (λ q. go-on-refines actor _ EnterLook EnterGoIn step (refl, refl, refl, refl) (λ k. k) tt)
-  enter-look-refines (Reserved owner c) flag holder depth entry contention waiting step =
-      by-equal (Right actor Enter (object-of (Reserved owner c) flag holder depth entry contention waiting)) owner (actor .thread)
-      (λ q. by-below (Right actor Enter (object-of (Reserved owner c) flag holder depth entry contention waiting)) c count-limit
+  enter-look-refines it (Reserved owner c) step =
+      by-equal (Right actor Enter (with-word it (Reserved owner c))) owner (actor .thread)
+      (λ q. by-below (Right actor Enter (with-word it (Reserved owner c))) c count-limit
       (λ l. go-on-refines actor _ EnterLook (EnterStore c) step (refl, refl, refl, refl) (λ k. k) ((q, refl), l))
       (λ l. go-on-refines actor _ EnterLook EnterCancel step (refl, refl, refl, refl) (λ k. k) tt))
       (λ q. go-on-refines actor _ EnterLook EnterCancel step (refl, refl, refl, refl) (λ k. k) tt)
@@ -116,7 +107,7 @@ module _ (actor : Actor) where
   let-go-refines o change new next step parts =
       refine actor Exit o
       (record {
-        after = with-depth (with-word o (word-after (actor .thread) change (o .word))) new;
+        after = with-depth (with-word o (seen-after (actor .thread) change (o .word))) new;
         states = actor .states;
         state = Running next;
         answer = GoneOn;
@@ -158,41 +149,39 @@ module _ (actor : Actor) where
   all-empty [] (first ∷ rest) waiting = tt
   all-empty (first ∷ rest) contention waiting = tt
 
-  exit-owned-refines : (word : WordSeen) (flag : Bool) (holder depth : ℕ) (entry contention waiting : List ℕ)
-      → let o = object-of word flag holder depth entry contention waiting in
+  exit-owned-refines : (it : ListObject) (word : WordSeen) → let o = with-word it word in
       Stepping actor ExitLook o → object-owner o ≡ actor .thread → Right actor Exit o (exit-owned (sight-of o) word)
   unfolding exit-owned
-  exit-owned-refines Free flag holder depth entry contention waiting step q = absurd (actor .real (sym q))
-  exit-owned-refines Anonymous flag holder depth entry contention waiting step q = absurd (actor .real (sym q))
-  exit-owned-refines Fat flag holder depth entry contention waiting step q =
-      by-below (Right actor Exit (object-of Fat flag holder depth entry contention waiting)) 1 depth
-      (λ more. depth-refines actor Exit flag holder depth (depth - 1) entry contention waiting step (inside .1)
+  exit-owned-refines it Free step q = absurd (actor .real (sym q))
+  exit-owned-refines it Anonymous step q = absurd (actor .real (sym q))
+  exit-owned-refines it Fat step q =
+      by-below (Right actor Exit (with-word it Fat)) 1 (it .depth)
+      (λ more. depth-refines actor Exit it (it .depth - 1) step (inside .1)
       (record {
         woken = actor .ghost .woken;
-        does = commit-exit (actor .thread) (plain-at actor (object-of Fat flag holder depth entry contention waiting)) q (λ e. omega (arith, more, e));
+        does = commit-exit (actor .thread) (plain-at actor (with-word it Fat)) q (λ e. omega (arith, more, e));
         others = λ t n. refl;
         asleep = step .self .woken;
         above = omega (arith, more);
         limit = omega (arith, step .inv .whole .monitor .0);
         ended = (first-commit (step .self .logged .1), refl);
       }))
-      (λ low. leave (both (empty entry) (both (empty contention) (eqb (length waiting) 0))) (all-empty entry contention waiting)
-      (omega (arith, inside .0, low)))
+      (λ low. leave (both (empty (it .entry)) (both (empty (it .contention)) (eqb (length (it .waiting)) 0)))
+      (all-empty (it .entry) (it .contention) (it .waiting)) (omega (arith, inside .0, low)))
     where
-      inside : (0 < depth) × (holder ≡ actor .thread)
-      inside = fat-owned holder depth (actor .thread) (actor .real) q
+      inside : (0 < it .depth) × (it .holder ≡ actor .thread)
+      inside = fat-owned (it .holder) (it .depth) (actor .thread) (actor .real) q
 
-      leave : (b : Bool) → AllEmpty b entry contention waiting → depth ≡ 1 → let o = object-of Fat flag holder depth entry contention waiting in
+      leave : (b : Bool) → AllEmpty b (it .entry) (it .contention) (it .waiting) → it .depth ≡ 1 → let o = with-word it Fat in
           Right actor Exit o (let-go (sight-of o) (pick b Freed Unchanged) 0 ExitLeave)
       leave true (noentry, nowaiting) one =
-          let lowered = others-depth (actor .thread) (actor .states) (object-of Fat flag holder depth entry contention waiting) (actor .ghost) 0 (inside .1)
-          (λ t n. step .inv .threads t) in
-          let free = others-word (actor .thread) (actor .states) (object-of Fat flag holder 0 entry contention waiting) (actor .ghost) Free
-          (λ t n. keeps-deflated (actor .states t) (actor .thread) t holder n (inside .1)
+          let lowered = others-depth (actor .thread) (actor .states) (with-word it Fat) (actor .ghost) 0 (inside .1) (λ t n. step .inv .threads t) in
+          let free = others-word (actor .thread) (actor .states) (with-depth (with-word it Fat) 0) (actor .ghost) Free
+          (λ t n. keeps-deflated (actor .states t) (actor .thread) t (it .holder) n (inside .1)
           (sym (step .inv .threads t .placed .entry) ∙ (ap (count t) noentry ∙ count-none t)) (sym (step .inv .threads t .placed .waiting)
           ∙ (ap (count t) nowaiting ∙ count-none t)))
           lowered in
-          let-go-refines (object-of Fat flag holder depth entry contention waiting) Freed 0 ExitLeave step
+          let-go-refines (with-word it Fat) Freed 0 ExitLeave step
           (record {
             owns = q;
             one = one;
@@ -205,17 +194,16 @@ module _ (actor : Actor) where
             monitor = refl;
             flag = λ k. step .inv .whole .flag .1;
             unstranded = unstranded-empty Free
-                (update (actor .states) (actor .thread) (Running ExitLeave)) holder entry contention (step .inv .whole .flag .1);
+                (update (actor .states) (actor .thread) (Running ExitLeave)) (it .holder) (it .entry) (it .contention) (step .inv .whole .flag .1);
             unowned = refl;
             shallow = refl;
           })
       leave false e one =
-          let-go-refines (object-of Fat flag holder depth entry contention waiting) Unchanged 0 ExitLeave step
+          let-go-refines (with-word it Fat) Unchanged 0 ExitLeave step
           (record {
             owns = q;
             one = one;
-            others = others-depth (actor .thread) (actor .states) (object-of Fat flag holder depth entry contention waiting)
-                (actor .ghost) 0 (inside .1) (λ t n. step .inv .threads t);
+            others = others-depth (actor .thread) (actor .states) (with-word it Fat) (actor .ghost) 0 (inside .1) (λ t n. step .inv .threads t);
             seated = (inside .1, refl, actor .real);
             relies = tt;
             operation = refl;
@@ -227,16 +215,13 @@ module _ (actor : Actor) where
             unowned = refl;
             shallow = refl;
           })
-  exit-owned-refines (Flat owner c) flag holder depth entry contention waiting step q =
-      by-below (Right actor Exit (object-of (Flat owner c) flag holder depth entry contention waiting)) 0 c
-      (λ e. word-refines actor Exit (object-of (Flat owner c) flag holder depth entry contention waiting) (OwnFlat (c - 1)) step
+  exit-owned-refines it (Flat owner c) step q =
+      by-below (Right actor Exit (with-word it (Flat owner c))) 0 c
+      (λ e. word-refines actor Exit (with-word it (Flat owner c)) (OwnFlat (c - 1)) step refl refl
       (record {
-        keeps = λ t n. keeps-flat (actor .states t) (actor .thread) t holder n owner c (c - 1) q;
-        does = commit-exit (actor .thread)
-            (plain-at actor (object-of (Flat owner c) flag holder depth entry contention waiting)) q (λ x. omega (arith, e, x)) ∙ ap finished
+        keeps = λ t n. keeps-flat (actor .states t) (actor .thread) t (it .holder) n owner c (c - 1) q;
+        does = commit-exit (actor .thread) (plain-at actor (with-word it (Flat owner c))) q (λ x. omega (arith, e, x)) ∙ ap finished
             (same-monitor refl (omega (arith, e)));
-        seated = step .self .seated;
-        asleep = step .self .woken;
         monitor = (
           step .inv .whole .monitor .0,
           actor .real,
@@ -246,12 +231,12 @@ module _ (actor : Actor) where
         unstranded = tt;
         ended = (first-commit (step .self .logged .1), refl);
       }))
-      (λ e. let-go-refines (object-of (Flat owner c) flag holder depth entry contention waiting) Freed depth ExitTest step
+      (λ e. let-go-refines (with-word it (Flat owner c)) Freed (it .depth) ExitTest step
       (record {
         owns = q;
         one = omega (arith, e);
-        others = others-word (actor .thread) (actor .states) (object-of (Flat owner c) flag holder depth entry
-            contention waiting) (actor .ghost) Free (λ t n. keeps-freed (actor .states t) (actor .thread) t holder n owner c q) (λ t n. step .inv .threads t);
+        others = others-word (actor .thread) (actor .states) (with-word it (Flat owner c)) (actor .ghost) Free
+            (λ t n. keeps-freed (actor .states t) (actor .thread) t (it .holder) n owner c q) (λ t n. step .inv .threads t);
         seated = (λ x. omega (arith, step .self .seated x (actor .real), step .inv .whole .monitor .0), actor .real);
         relies = tt;
         operation = refl;
@@ -263,7 +248,7 @@ module _ (actor : Actor) where
         unowned = refl;
         shallow = refl;
       }))
-  exit-owned-refines (Reserved owner c) flag holder depth entry contention waiting step q =
+  exit-owned-refines it (Reserved owner c) step q =
       let (l, own) = reserved-owned owner c (actor .thread) (actor .real) q in
       go-on-refines actor _ ExitLook (ExitStore c) step (refl, refl, refl, refl) (λ k. k) ((own, refl), l)
 
@@ -271,17 +256,15 @@ module _ (actor : Actor) where
       → Right actor Exit o (owner-only (actor .thread) (sight-of o) (owner-seen (sight-of o)) (exit-owned (sight-of o) (o .word)))
   exit-look-refines o step =
       owner-only-refines actor Exit o ExitLook (exit-owned (sight-of o) (o .word)) tt step (λ k. k) (step .self .seated) (step .self .woken)
-      (step .self .logged .1)
-      (exit-owned-refines (o .word) (o .flag) (o .holder) (o .depth) (o .entry) (o .contention) (o .waiting) step)
+      (step .self .logged .1) (exit-owned-refines o (o .word) step)
 
-  wait-owned-refines : (word : WordSeen) (flag : Bool) (holder depth : ℕ) (entry contention waiting : List ℕ)
-      → let o = object-of word flag holder depth entry contention waiting in
+  wait-owned-refines : (it : ListObject) (word : WordSeen) → let o = with-word it word in
       Stepping actor WaitLook o → object-owner o ≡ actor .thread → Right actor Wait o (wait-owned (sight-of o) word)
   unfolding wait-owned
-  wait-owned-refines Free flag holder depth entry contention waiting step q = absurd (actor .real (sym q))
-  wait-owned-refines Anonymous flag holder depth entry contention waiting step q = absurd (actor .real (sym q))
-  wait-owned-refines Fat flag holder depth entry contention waiting step q =
-      let (l, held) = fat-owned holder depth (actor .thread) (actor .real) q in
+  wait-owned-refines it Free step q = absurd (actor .real (sym q))
+  wait-owned-refines it Anonymous step q = absurd (actor .real (sym q))
+  wait-owned-refines it Fat step q =
+      let (l, held) = fat-owned (it .holder) (it .depth) (actor .thread) (actor .real) q in
       move-refines actor Wait _ WaitLook WaitGiveUp step (λ k. k) (λ k. k)
       (record {
         seated = (held, l, actor .real);
@@ -291,14 +274,11 @@ module _ (actor : Actor) where
         saved = tt;
         woken = step .self .woken;
       })
-  wait-owned-refines (Flat owner c) flag holder depth entry contention waiting step q =
-      go-on-refines actor _ WaitLook WaitGoIn step (refl, refl, refl, refl) (λ k. k) q
-  wait-owned-refines (Reserved owner c) flag holder depth entry contention waiting step q =
-      go-on-refines actor _ WaitLook WaitCancel step (refl, refl, refl, refl) (λ k. k) tt
+  wait-owned-refines it (Flat owner c) step q = go-on-refines actor _ WaitLook WaitGoIn step (refl, refl, refl, refl) (λ k. k) q
+  wait-owned-refines it (Reserved owner c) step q = go-on-refines actor _ WaitLook WaitCancel step (refl, refl, refl, refl) (λ k. k) tt
 
   pub wait-look-refines : (o : ListObject) → Stepping actor WaitLook o
       → Right actor Wait o (owner-only (actor .thread) (sight-of o) (owner-seen (sight-of o)) (wait-owned (sight-of o) (o .word)))
   wait-look-refines o step =
       owner-only-refines actor Wait o WaitLook (wait-owned (sight-of o) (o .word)) tt step (λ k. k) (step .self .seated) (step .self .woken)
-      (step .self .logged .1)
-      (wait-owned-refines (o .word) (o .flag) (o .holder) (o .depth) (o .entry) (o .contention) (o .waiting) step)
+      (step .self .logged .1) (wait-owned-refines o (o .word) step)

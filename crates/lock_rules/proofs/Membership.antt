@@ -1,25 +1,25 @@
--- Who is in which chain after a chain action: every thread but the one that steps is in the chain that its state names, before and after.
-use Prim.Native.Nat.{ℕ, zero, suc}
+-- Who is in which chain after the work on chains: every thread but the one that steps is in the chain that its state names, before and after.
+use Prim.Native.Nat.{ℕ, zero, suc, _+_}
 use mathlib.Core.Path.{_≡_, refl, sym, ap, _∙_}
 use mathlib.Core.Logic.{_≢_, _⊎_, inl, inr}
-use mathlib.Core.List.{List, [], _∷_, _++_}
+use mathlib.Core.List.{List, [], _∷_}
 use native.Mathlib.Omega.{arith}
-use Rattle.laws.specs.Update.{update}
 use Rattle.laws.specs.Count.{count}
 use Rattle.laws.proofs.Choice.{equal?}
-use Rattle.laws.proofs.Update.{update-same, update-other}
-use Rattle.laws.proofs.Count.{count-none, count-same, count-other, count-joined-other}
-use Rattle.lock_rules.specs.Changes.{handed, notified, sent-back}
-use Rattle.lock_rules.specs.declared.Carried.the-variants.{ToCheck}
+use Rattle.laws.proofs.Count.{count-none, count-same, count-other}
+use Rattle.chains.specs.declared.named.Chain.{Chain}
+use Rattle.lock_rules.specs.Changes.{sent-back}
+use Rattle.lock_rules.specs.declared.Suspension.{Suspension}
+use Rattle.lock_rules.specs.declared.Carried.{Carried}
 use Rattle.lock_rules.specs.declared.ThreadState.{ThreadState}
 use Rattle.lock_rules.specs.declared.ThreadState.the-variants.{Idle, Running, Queued, Contending, Waiting}
-use Rattle.lock_rules.specs.declared.ChainAction.{ChainAction}
-use Rattle.lock_rules.specs.declared.ChainAction.the-variants.{Stay, JoinEntry, Contend, GiveUp, HandOver, AdmitContenders, TellFirst, WakeFirst}
-use Rattle.lock_rules.specs.declared.ChainAction.the-variants.{WakeAll, SendBack}
-use Rattle.lock_rules.proofs.Objects.{ListObject, with-entry, with-contention, with-waiting}
-use Rattle.lock_rules.proofs.Perform.{enter-queue, enter-queue-all, count-entered, count-entered-other, count-entered-all, handed-object}
-use Rattle.lock_rules.proofs.Perform.{handed-states, told-object, told-states, admitted-states, notified-object, notified-states}
-use Rattle.lock_rules.proofs.Perform.{all-notified-states, states-after, object-after}
+use Rattle.lock_rules.specs.declared.Taken.{Taken}
+use Rattle.lock_rules.specs.declared.Taken.the-variants.{First, All}
+use Rattle.lock_rules.specs.declared.ChainWork.{ChainWork}
+use Rattle.lock_rules.specs.declared.ChainWork.the-variants.{Stay, Join, JoinAndHand, Hand, Move, SendBack}
+use Rattle.lock_rules.proofs.Objects.{ListObject, chain-of}
+use Rattle.lock_rules.proofs.Perform.{count-entered-all, count-join, taken, left, count-taken, first-of, changed-states, joined-object}
+use Rattle.lock_rules.proofs.Perform.{handed-object, handed-states, moved-object, moved-states, states-after, object-after}
 use Rattle.lock_rules.proofs.Invariant.{Placed}
 use Rattle.lock_rules.proofs.Reliances.{is-queued, is-contending, is-waiting}
 
@@ -43,145 +43,143 @@ placed-sent-back (Queued carried) p = p
 placed-sent-back Contending p = p
 placed-sent-back (Waiting suspension) p = p
 
+-- the chains of an object, and where a thread in a state is in them
+abbrev pub PlacedAt : ℕ → ThreadState → ListObject → Type 0
+PlacedAt t state o = Placed state t (o .entry) (o .contention) (o .waiting)
+
+-- the state of a thread that is in the chain
+abbrev pub ParkedIn : Chain → ThreadState → Type 0
+ParkedIn Chain.Entry state = (carried : Carried) × (state ≡ Queued carried)
+ParkedIn Chain.Contention state = state ≡ Contending
+ParkedIn Chain.Waiting state = (suspension : Suspension) × (state ≡ Waiting suspension)
+
+-- the first of a list is who is taken from it first, if there is one
+pub first-taken : (queue : List ℕ) (t k : ℕ) → count t (taken First queue) ≡ suc k → first-of queue ≡ t
+first-taken [] t k e = absurd (omega (arith, count-none t, e))
+first-taken (first ∷ rest) t k e = at (equal? t first)
+  where
+    at : (t ≡ first) ⊎ (t ≢ first) → first ≡ t
+    at (inl q) = sym q
+    at (inr n) = absurd (omega (arith, count-other t first [] n, count-none t, e))
+
+pub not-taken : (queue : List ℕ) (t : ℕ) → count t (taken First queue) ≡ 0 → first-of queue ≡ t → t ≢ 0 → ⊥
+not-taken [] t out e real = real (sym e)
+not-taken (first ∷ rest) t out e real = not-first t first [] out .0 (sym e)
+
+module _ (t : ℕ) (state : ThreadState) (o : ListObject) (p : PlacedAt t state o) where
+  -- a thread that is not among those that join, leave or move stays where it is
+  pub placed-joined : (chain : Chain) (thread : ℕ) → t ≢ thread → PlacedAt t state (joined-object chain thread o)
+  placed-joined chain thread n = at chain (count-other t thread [] n ∙ count-none t)
+    where
+      at : (chain : Chain) → count t (thread ∷ []) ≡ 0 → PlacedAt t state (joined-object chain thread o)
+      at Chain.Entry out =
+          record { entry = omega (arith, count-join Chain.Entry t thread (o .entry), out, p .entry); contention = p .contention; waiting = p .waiting }
+      at Chain.Contention out =
+          record {
+            entry = p .entry;
+            contention = omega (arith, count-join Chain.Contention t thread (o .contention), out, p .contention);
+            waiting = p .waiting;
+          }
+      at Chain.Waiting out =
+          record {
+            entry = p .entry;
+            contention = p .contention;
+            waiting = omega (arith, count-join Chain.Waiting t thread (o .waiting), out, p .waiting);
+          }
+
+  pub placed-left : count t (taken First (o .entry)) ≡ 0 → PlacedAt t state (handed-object o)
+  placed-left out = record { entry = omega (arith, count-taken First (o .entry) t, out, p .entry); contention = p .contention; waiting = p .waiting }
+
+  placed-requeued : (which : Taken) → PlacedAt t state (moved-object Chain.Entry which o)
+  placed-requeued which =
+      record {
+        entry = omega (arith, count-entered-all t (left which (o .entry)) (taken which (o .entry)), count-taken which (o .entry) t, p .entry);
+        contention = p .contention;
+        waiting = p .waiting;
+      }
+
+  pub placed-unmoved : (from : Chain) (which : Taken) → count t (taken which (chain-of from o)) ≡ 0 → PlacedAt t state (moved-object from which o)
+  placed-unmoved Chain.Entry which out = placed-requeued which
+  placed-unmoved Chain.Contention which out =
+      record {
+        entry = omega (arith, count-entered-all t (o .entry) (taken which (o .contention)), out, p .entry);
+        contention = omega (arith, count-taken which (o .contention) t, out, p .contention);
+        waiting = p .waiting;
+      }
+  placed-unmoved Chain.Waiting which out =
+      record {
+        entry = omega (arith, count-entered-all t (o .entry) (taken which (o .waiting)), out, p .entry);
+        contention = p .contention;
+        waiting = omega (arith, count-taken which (o .waiting) t, out, p .waiting);
+      }
+
+  -- one that is taken from a chain was in its state, and is not left in it
+  pub was-in : (from : Chain) (which : Taken) (k : ℕ) → count t (taken which (chain-of from o)) ≡ suc k
+      → ParkedIn from state × (k + count t (left which (chain-of from o)) ≡ 0)
+  was-in Chain.Entry which k e =
+      let (carried, v, c) = is-queued state (k + count t (left which (o .entry))) (omega (arith, p .entry, count-taken which (o .entry) t, e)) in
+      ((carried, v), c)
+  was-in Chain.Contention which k e =
+      is-contending state (k + count t (left which (o .contention))) (omega (arith, p .contention, count-taken which (o .contention) t, e))
+  was-in Chain.Waiting which k e =
+      let (suspension, v, c) = is-waiting state (k + count t (left which (o .waiting))) (omega (arith, p .waiting, count-taken which (o .waiting) t, e)) in
+      ((suspension, v), c)
+
 module _ (thread : ℕ) (states : ℕ → ThreadState) (o : ListObject) (members : Members thread states o) where
-  pub members-joined-entry : Members thread states (with-entry o (enter-queue (o .entry) thread))
-  members-joined-entry t n =
-      let p = members t n in
-      record { entry = count-entered-other t thread (o .entry) n ∙ p .entry; contention = p .contention; waiting = p .waiting }
+  pub members-joined : (chain : Chain) → Members thread states (joined-object chain thread o)
+  members-joined chain t n = placed-joined t (states t) o (members t n) chain thread n
 
-  pub members-joined-contention : Members thread states (with-contention o (o .contention ++ (thread ∷ [])))
-  members-joined-contention t n =
-      let p = members t n in
-      record { entry = p .entry; contention = count-joined-other t thread (o .contention) n ∙ p .contention; waiting = p .waiting }
-
-  pub members-joined-waiting : Members thread states (with-waiting o (o .waiting ++ (thread ∷ [])))
-  members-joined-waiting t n =
-      let p = members t n in
-      record { entry = p .entry; contention = p .contention; waiting = count-joined-other t thread (o .waiting) n ∙ p .waiting }
-
-  pub members-handed : (queue : List ℕ) → o .entry ≡ queue → Members thread (handed-states states queue) (handed-object o queue)
-  members-handed [] e t n = let p = members t n in record { entry = rw e at (p .entry); contention = p .contention; waiting = p .waiting }
-  members-handed (first ∷ rest) e t n = at (equal? t first)
+  pub members-handed : Members thread (handed-states states o) (handed-object o)
+  members-handed t n = at (count t (taken First (o .entry))) refl (members t n)
     where
-      at : (t ≡ first) ⊎ (t ≢ first) → Placed (update states first (handed (states first)) t) t rest (o .contention) (o .waiting)
-      at (inl q) =
-          let p = members first (λ s. n (q ∙ s)) in
-          let (carried, v, c) = is-queued (states first) (count first rest) (sym (p .entry) ∙ (ap (count first) e ∙ count-same first rest)) in
-          let p′ : Placed (Queued carried) first (o .entry) (o .contention) (o .waiting) = rw v at p in
-          rw (q, update-same states first (handed (states first)), v) (record { entry = c; contention = p′ .contention; waiting = p′ .waiting })
-      at (inr d) =
-          let p = members t n in
-          rw (update-other states first (handed (states first)) t d)
-          (record { entry = sym (count-other t first rest d) ∙ (rw e at (p .entry)); contention = p .contention; waiting = p .waiting })
+      at : (k : ℕ) → count t (taken First (o .entry)) ≡ k → PlacedAt t (states t) o → PlacedAt t (handed-states states o t) (handed-object o)
+      at zero e p = rw e (placed-left t (states t) o p e)
+      at (suc k) e p =
+          let ((carried, v), c) = was-in t (states t) o p Chain.Entry First k e in
+          let p′ : PlacedAt t (Queued carried) o = rw v at p in
+          rw (e, v) (record { entry = omega (arith, c); contention = p′ .contention; waiting = p′ .waiting })
 
-  pub members-told : (contenders : List ℕ) → o .contention ≡ contenders → Members thread (told-states states contenders) (told-object o contenders)
-  members-told [] e t n = members t n
-  members-told (first ∷ rest) e t n = at (equal? t first)
+  pub members-moved : (from : Chain) (which : Taken) → Members thread (moved-states from which states o) (moved-object from which o)
+  members-moved from which t n = at from (count t (taken which (chain-of from o))) refl (members t n)
     where
-      at : (t ≡ first) ⊎ (t ≢ first) → Placed (update states first (Queued ToCheck) t) t (enter-queue (o .entry) first) rest (o .waiting)
-      at (inl q) =
-          let p = members first (λ s. n (q ∙ s)) in
-          let (v, c) = is-contending (states first) (count first rest) (sym (p .contention) ∙ (ap (count first) e ∙ count-same first rest)) in
-          let p′ : Placed Contending first (o .entry) (o .contention) (o .waiting) = rw v at p in
-          rw (q, update-same states first (Queued ToCheck))
-          (record { entry = omega (arith, count-entered first (o .entry), p′ .entry); contention = c; waiting = p′ .waiting })
-      at (inr d) =
-          let p = members t n in
-          rw (update-other states first (Queued ToCheck) t d)
-          (record {
-            entry = count-entered-other t first (o .entry) d ∙ p .entry;
-            contention = sym (count-other t first rest d) ∙ (rw e at (p .contention));
-            waiting = p .waiting;
-          })
-
-  pub members-notified : (waiters : List ℕ) → o .waiting ≡ waiters → Members thread (notified-states states waiters) (notified-object o waiters)
-  members-notified [] e t n = members t n
-  members-notified (first ∷ rest) e t n = at (equal? t first)
-    where
-      at : (t ≡ first) ⊎ (t ≢ first) → Placed (update states first (notified (states first)) t) t (enter-queue (o .entry) first) (o .contention) rest
-      at (inl q) =
-          let p = members first (λ s. n (q ∙ s)) in
-          let (suspension, v, c) = is-waiting (states first) (count first rest) (sym (p .waiting) ∙ (ap (count first) e ∙ count-same first rest)) in
-          let p′ : Placed (Waiting suspension) first (o .entry) (o .contention) (o .waiting) = rw v at p in
-          rw (q, update-same states first (notified (states first)), v)
-          (record { entry = omega (arith, count-entered first (o .entry), p′ .entry); contention = p′ .contention; waiting = c })
-      at (inr d) =
-          let p = members t n in
-          rw (update-other states first (notified (states first)) t d)
-          (record {
-            entry = count-entered-other t first (o .entry) d ∙ p .entry;
-            contention = p .contention;
-            waiting = sym (count-other t first rest d) ∙ (rw e at (p .waiting));
-          })
-
-  pub members-admitted : Members thread (admitted-states states (o .contention)) (with-contention (with-entry o (enter-queue-all (o .entry) (o .contention)))
-      [])
-  members-admitted t n = at (count t (o .contention)) refl
-    where
-      at : (k : ℕ) → count t (o .contention) ≡ k
-          → Placed (admitted-states states (o .contention) t) t (enter-queue-all (o .entry) (o .contention)) [] (o .waiting)
-      at zero e =
-          let p = members t n in
-          rw e
-          (record {
-            entry = omega (arith, count-entered-all t (o .entry) (o .contention), p .entry, e);
-            contention = omega (arith, count-none t, p .contention, e);
-            waiting = p .waiting;
-          })
-      at (suc k) e =
-          let p = members t n in
-          let (v, c) = is-contending (states t) k (sym (p .contention) ∙ e) in
-          let p′ : Placed Contending t (o .entry) (o .contention) (o .waiting) = rw v at p in
-          rw e
-          (record {
-            entry = omega (arith, count-entered-all t (o .entry) (o .contention), p′ .entry, p′ .contention);
-            contention = count-none t;
-            waiting = p′ .waiting;
-          })
-
-  pub members-all-notified : Members thread (all-notified-states states (o .waiting)) (with-waiting (with-entry o (enter-queue-all (o .entry) (o .waiting))) [])
-  members-all-notified t n = at (count t (o .waiting)) refl
-    where
-      at : (k : ℕ) → count t (o .waiting) ≡ k → Placed (all-notified-states states (o .waiting) t) t (enter-queue-all (o .entry) (o .waiting))
-          (o .contention) []
-      at zero e =
-          let p = members t n in
-          rw e
-          (record {
-            entry = omega (arith, count-entered-all t (o .entry) (o .waiting), p .entry, e);
-            contention = p .contention;
-            waiting = omega (arith, count-none t, p .waiting, e);
-          })
-      at (suc k) e =
-          let p = members t n in
-          let (suspension, v, c) = is-waiting (states t) k (sym (p .waiting) ∙ e) in
-          let p′ : Placed (Waiting suspension) t (o .entry) (o .contention) (o .waiting) = rw v at p in
+      at : (from : Chain) (k : ℕ) → count t (taken which (chain-of from o)) ≡ k → PlacedAt t (states t) o
+          → PlacedAt t (moved-states from which states o t) (moved-object from which o)
+      at from zero e p = rw e (placed-unmoved t (states t) o p from which e)
+      at Chain.Entry (suc k) e p =
+          let ((carried, v), c) = was-in t (states t) o p Chain.Entry which k e in
+          rw (e, v) (placed-requeued t (Queued carried) o (rw v at p) which)
+      at Chain.Contention (suc k) e p =
+          let (v, c) = was-in t (states t) o p Chain.Contention which k e in
+          let p′ : PlacedAt t Contending o = rw v at p in
           rw (e, v)
           (record {
-            entry = omega (arith, count-entered-all t (o .entry) (o .waiting), p′ .entry, p′ .waiting);
+            entry = omega (arith, count-entered-all t (o .entry) (taken which (o .contention)), p′ .entry, c, e);
+            contention = omega (arith, c);
+            waiting = p′ .waiting;
+          })
+      at Chain.Waiting (suc k) e p =
+          let ((suspension, v), c) = was-in t (states t) o p Chain.Waiting which k e in
+          let p′ : PlacedAt t (Waiting suspension) o = rw v at p in
+          rw (e, v)
+          (record {
+            entry = omega (arith, count-entered-all t (o .entry) (taken which (o .waiting)), p′ .entry, c, e);
             contention = p′ .contention;
-            waiting = count-none t;
+            waiting = omega (arith, c);
           })
 
-  pub members-sent-back : (u : ℕ) → Members thread (update states u (sent-back (states u))) o
-  members-sent-back u t n = at (equal? t u)
+  pub members-sent-back : (u : ℕ) → Members thread (changed-states sent-back states (u ∷ [])) o
+  members-sent-back u t n = at (count t (u ∷ [])) refl (members t n)
     where
-      at : (t ≡ u) ⊎ (t ≢ u) → Placed (update states u (sent-back (states u)) t) t (o .entry) (o .contention) (o .waiting)
-      at (inl q) = rw (q, update-same states u (sent-back (states u))) (placed-sent-back (states u) (members u (λ k. n (q ∙ k))))
-      at (inr d) = rw (update-other states u (sent-back (states u)) t d) (members t n)
+      at : (k : ℕ) → count t (u ∷ []) ≡ k → PlacedAt t (states t) o → PlacedAt t (changed-states sent-back states (u ∷ []) t) o
+      at zero e p = rw e p
+      at (suc k) e p = rw e (placed-sent-back (states t) p)
 
--- handing over after joining another chain: the entry chain is as before
-pub members-after : (action : ChainAction) (thread : ℕ) (states : ℕ → ThreadState) (o : ListObject) → Members thread states o
-    → Members thread (states-after action states o) (object-after action thread o)
+pub members-after : (work : ChainWork) (thread : ℕ) (states : ℕ → ThreadState) (o : ListObject) → Members thread states o
+    → Members thread (states-after work states o) (object-after work thread o)
 members-after Stay thread states o members = members
-members-after JoinEntry thread states o members = members-joined-entry thread states o members
-members-after Contend thread states o members =
-    members-handed thread states (with-contention o (o .contention ++ (thread ∷ []))) (members-joined-contention thread states o members) (o .entry) refl
-members-after GiveUp thread states o members =
-    members-handed thread states (with-waiting o (o .waiting ++ (thread ∷ []))) (members-joined-waiting thread states o members) (o .entry) refl
-members-after HandOver thread states o members = members-handed thread states o members (o .entry) refl
-members-after AdmitContenders thread states o members = members-admitted thread states o members
-members-after TellFirst thread states o members = members-told thread states o members (o .contention) refl
-members-after WakeFirst thread states o members = members-notified thread states o members (o .waiting) refl
-members-after WakeAll thread states o members = members-all-notified thread states o members
+members-after (Join chain) thread states o members = members-joined thread states o members chain
+members-after (JoinAndHand chain) thread states o members =
+    members-joined thread (handed-states states o) (handed-object o) (members-handed thread states o members) chain
+members-after Hand thread states o members = members-handed thread states o members
+members-after (Move from which) thread states o members = members-moved thread states o members from which
 members-after (SendBack u) thread states o members = members-sent-back thread states o members u

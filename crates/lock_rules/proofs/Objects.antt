@@ -3,6 +3,7 @@ use Prim.Native.Nat.{ℕ}
 use mathlib.Core.Bool.{Bool, true, false}
 use mathlib.Core.List.{List, [], _∷_}
 use lib.ListN.{length}
+use Rattle.chains.specs.declared.named.Chain.{Chain}
 use Rattle.lock_word.specs.Meaning.{owner-of, depth-of}
 use Rattle.lock_word.specs.declared.meaning.WordSeen.{WordSeen}
 use Rattle.lock_rules.specs.declared.Sight.{Sight}
@@ -40,6 +41,17 @@ with-contention o contention = object-of (o .word) (o .flag) (o .holder) (o .dep
 
 abbrev pub with-waiting : ListObject → List ℕ → ListObject
 with-waiting o waiting = object-of (o .word) (o .flag) (o .holder) (o .depth) (o .entry) (o .contention) waiting
+
+-- any of the three chains, and the object with another list for it
+abbrev pub chain-of : Chain → ListObject → List ℕ
+chain-of Chain.Entry o = o .entry
+chain-of Chain.Contention o = o .contention
+chain-of Chain.Waiting o = o .waiting
+
+abbrev pub with-chain : Chain → ListObject → List ℕ → ListObject
+with-chain Chain.Entry o list = with-entry o list
+with-chain Chain.Contention o list = with-contention o list
+with-chain Chain.Waiting o list = with-waiting o list
 
 abbrev pub empty : List ℕ → Bool
 empty [] = true

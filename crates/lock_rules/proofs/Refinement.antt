@@ -2,7 +2,7 @@
 use Prim.Native.Nat.{ℕ}
 use mathlib.Core.Path.{_≡_, sym, _∙_}
 use mathlib.Core.Logic.{_≢_}
-use mathlib.Core.Bool.{Bool}
+use mathlib.Core.Bool.{Bool, false}
 use mathlib.Core.List.{[]}
 use lib.Dec.{T}
 use Rattle.laws.specs.Choice.{pick}
@@ -55,9 +55,9 @@ Alike doing next =
     (phase-row next .seat ≡ phase-row doing .seat) × (phase-row next .operation ≡ phase-row doing .operation) × (phase-row next .stage ≡ phase-row doing .stage)
     × (phase-row next .saved ≡ phase-row doing .saved)
 
-pub moved : (actor : Actor) {doing : Doing} {o : ListObject} → Self actor (Running doing) o → (next : Doing) → Alike doing next
+pub sits-alike : (actor : Actor) {doing : Doing} {o : ListObject} → Self actor (Running doing) o → (next : Doing) → Alike doing next
     → ReliesOn (phase-row next .reliance) (actor .thread) (o .word) (o .flag) (o .holder) → Self actor (Running next) o
-moved actor a next (same-seat, same-operation, same-stage, same-saved) relies =
+sits-alike actor a next (same-seat, same-operation, same-stage, same-saved) relies =
     record {
       seated = rw same-seat (a .seated);
       placed = a .placed;
@@ -100,6 +100,16 @@ pub record RuleParts (actor : Actor) (operation : Operation) (o : ListObject) : 
   pub shows : pick commits (committed .monitor) (plain-at actor o) ≡ monitor-of after (known actor woken saved)
   pub ended : EndsRight operation answer (log-after commits (actor .ghost .logs (actor .thread)) (committed .answer))
 
+-- What is shown of a step that does not commit and changes no other thread: of the others, the thread itself, and the object after it.
+pub record QuietParts (actor : Actor) (o after : ListObject) (state : ThreadState) : Type 0 where
+  pub others : Others (actor .thread) (actor .states) after (actor .ghost)
+  pub self : Self actor state after
+  pub monitor : MonitorOk (after .word) (after .holder) (after .depth)
+  pub empty : after .holder ≡ 0 → after .entry ≡ []
+  pub flag : FlagOk (after .word) (after .flag) (after .contention)
+  pub unstranded : Unstranded (after .word) (update (actor .states) (actor .thread) state) (after .holder) (after .entry) (after .contention)
+  pub shows : plain-at actor o ≡ plain-at actor after
+
 module _ (actor : Actor) where
   -- the parts of a rule, put together
   pub refine : (operation : Operation) (o : ListObject) (rule : RuleParts actor operation o)
@@ -130,3 +140,31 @@ module _ (actor : Actor) where
           };
         };
       }
+
+  pub quiet-refines : (operation : Operation) (o after : ListObject) (state : ThreadState) (answer : Answer) → Invariant (actor .states) o (actor .ghost)
+      → EndsRight operation answer (actor .ghost .logs (actor .thread)) → QuietParts actor o after state
+      → Refines (actor .thread) operation (actor .states) o (actor .ghost)
+      (record { states = update (actor .states) (actor .thread) state; object = after; answer = answer; commits = false })
+  quiet-refines operation o after state answer inv ended parts =
+      refine operation o
+      (record {
+        after = after;
+        states = actor .states;
+        state = state;
+        answer = answer;
+        commits = false;
+        committed = nothing-committed;
+        woken = actor .ghost .woken;
+        saved = actor .ghost .saved;
+        nobody = inv .whole .nobody;
+        stays = λ t e. e;
+        does = λ k. absurd k;
+        others = parts .others;
+        self = parts .self;
+        monitor = parts .monitor;
+        empty = parts .empty;
+        flag = parts .flag;
+        unstranded = parts .unstranded;
+        shows = parts .shows;
+        ended = ended;
+      })

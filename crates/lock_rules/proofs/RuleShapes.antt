@@ -11,37 +11,38 @@ use Rattle.laws.specs.Update.{update}
 use Rattle.laws.specs.Count.{count}
 use Rattle.laws.proofs.Choice.{by-equal}
 use Rattle.laws.proofs.Count.{count-none}
+use Rattle.chains.specs.declared.named.Chain.{Chain}
 use Rattle.lock_rules.specs.Limits.{depth-limit}
 use Rattle.lock_rules.specs.Actions.{keep-object, go-on, finish-word, finish-depth, inflate}
 use Rattle.lock_rules.specs.Rules.{owner-seen, owner-only}
-use Rattle.lock_rules.specs.Changes.{word-after}
+use Rattle.lock_rules.specs.Changes.{seen-after, handed, moved}
 use Rattle.lock_rules.specs.Operations.{Operation}
 use Rattle.lock_rules.specs.declared.Suspension.{Suspension}
 use Rattle.lock_rules.specs.declared.Doing.{Doing}
 use Rattle.lock_rules.specs.declared.ThreadState.{ThreadState}
 use Rattle.lock_rules.specs.declared.ThreadState.the-variants.{Idle, Running}
-use Rattle.lock_word.specs.declared.meaning.WordSeen.{WordSeen}
 use Rattle.lock_word.specs.declared.meaning.WordSeen.the-variants.{Fat}
 use Rattle.lock_rules.specs.declared.WordChange.{WordChange}
-use Rattle.lock_rules.specs.declared.ChainAction.the-variants.{Stay}
+use Rattle.lock_rules.specs.declared.Taken.the-variants.{First, All}
+use Rattle.lock_rules.specs.declared.ChainWork.the-variants.{Stay}
 use Rattle.lock_rules.specs.declared.Answer.{Answer}
 use Rattle.lock_rules.specs.declared.Answer.the-variants.{GoneOn, Finished, NotOwner}
 use Rattle.lock_rules.specs.declared.Action.{Action}
 use Rattle.lock_rules.specs.PlainMonitor.{PlainMonitor, Committed, unaltered, finished, commit}
 use Rattle.lock_rules.specs.Feed.{OperationLog, log-after, EndsRight}
 use Rattle.lock_rules.proofs.Commits.{commit-not-owner, owner-operation}
-use Rattle.lock_rules.proofs.Objects.{with-word, with-depth, with-contention, with-waiting, ListObject, object-of, empty, sight-of}
+use Rattle.lock_rules.proofs.Objects.{with-word, with-depth, with-contention, with-waiting, ListObject, empty, sight-of}
 use Rattle.lock_rules.proofs.Objects.{object-owner}
-use Rattle.lock_rules.proofs.Perform.{first-of, rest-of, enter-queue-all, count-entered-all, handed-object, handed-states, admitted-states}
+use Rattle.lock_rules.proofs.Perform.{first-of, taken, left, enter-queue-all, count-entered-all, handed-to, handed-object, handed-states, moved-states}
 use Rattle.lock_rules.proofs.Tables.{fresh}
-use Rattle.lock_rules.proofs.Invariant.{Ghost, outside, phase-row, telling?, leaving?, Seated, InChains, Unreserved, FlatOf, ReliesOn}
+use Rattle.lock_rules.proofs.Invariant.{Ghost, outside, nothing-saved, phase-row, telling?, leaving?, Seated, InChains, Unreserved, FlatOf, ReliesOn}
 use Rattle.lock_rules.proofs.Invariant.{ThreadOk, MonitorOk, FlagOk, Unstranded, Invariant, monitor-of, Refines}
 use Rattle.lock_rules.proofs.Reliances.{KeepsReliance}
 use Rattle.lock_rules.proofs.Membership.{not-first}
 use Rattle.lock_rules.proofs.OtherThreads.{Others, inflated, others-word, others-depth, others-ghost, others-handed, others-inflated}
-use Rattle.lock_rules.proofs.SharedFacts.{unstranded-moved, monitor-handed, fat-owner, first-commit, idle-handed, idle-admitted}
+use Rattle.lock_rules.proofs.SharedFacts.{unstranded-moved, monitor-handed, fat-owner, first-commit, idle-changed}
 use Rattle.lock_rules.proofs.SharedFacts.{first-queued, same-monitor}
-use Rattle.lock_rules.proofs.Refinement.{known, Actor, Self, Stepping, plain-at, Right, Alike, moved, nothing-committed, refine}
+use Rattle.lock_rules.proofs.Refinement.{known, Actor, Self, Stepping, plain-at, Right, Alike, sits-alike, refine, quiet-refines}
 
 -- the plain monitor, owned by the thread
 abbrev pub owned : Actor → ListObject → ℕ → (ℕ → Bool) → PlainMonitor
@@ -49,13 +50,11 @@ owned actor o depth woken = record { owner = actor .thread; depth = depth; waiti
 
 -- what is shown of a rule that changes the word and ends the operation
 pub record WordParts (actor : Actor) (operation : Operation) (o : ListObject) (change : WordChange) : Type 0 where
-  pub keeps : (t : ℕ) → t ≢ actor .thread → KeepsReliance (actor .states t) t (o .word) (word-after (actor .thread) change (o .word)) (o .holder)
-  pub does : commit operation (actor .thread) (plain-at actor o) ≡ finished (plain-at actor (with-word o (word-after (actor .thread) change (o .word))))
-  pub seated : Seated outside (actor .thread) (o .holder) (o .depth)
-  pub asleep : actor .ghost .woken (actor .thread) ≡ false
-  pub monitor : MonitorOk (word-after (actor .thread) change (o .word)) (o .holder) (o .depth)
-  pub flag : FlagOk (word-after (actor .thread) change (o .word)) (o .flag) (o .contention)
-  pub unstranded : Unstranded (word-after (actor .thread) change (o .word)) (update (actor .states) (actor .thread) Idle) (o .holder) (o .entry) (o .contention)
+  pub keeps : (t : ℕ) → t ≢ actor .thread → KeepsReliance (actor .states t) t (o .word) (seen-after (actor .thread) change (o .word)) (o .holder)
+  pub does : commit operation (actor .thread) (plain-at actor o) ≡ finished (plain-at actor (with-word o (seen-after (actor .thread) change (o .word))))
+  pub monitor : MonitorOk (seen-after (actor .thread) change (o .word)) (o .holder) (o .depth)
+  pub flag : FlagOk (seen-after (actor .thread) change (o .word)) (o .flag) (o .contention)
+  pub unstranded : Unstranded (seen-after (actor .thread) change (o .word)) (update (actor .states) (actor .thread) Idle) (o .holder) (o .entry) (o .contention)
   pub ended : EndsRight operation (Finished 0) (log-after true (actor .ghost .logs (actor .thread)) (Finished 0))
 
 -- what is shown of a rule that changes the depth and ends the operation; a wait that resumes is no longer woken
@@ -102,13 +101,13 @@ pub record HandParts (actor : Actor) (operation : Operation) (o : ListObject) : 
   pub does : T commits → commit operation (actor .thread) (plain-at actor o) ≡ committed
   pub others : Others (actor .thread) (actor .states) (with-chains o contenders waiters) (known actor (actor .ghost .woken) saved)
   pub self : (next : ℕ) (rest : List ℕ) → Seated outside (actor .thread) next 0 → count (actor .thread) rest ≡ 0
-      → ThreadOk (actor .thread) state (object-of (o .word) (o .flag) next 0 rest contenders waiters)
+      → ThreadOk (actor .thread) state (with-chains (handed-to o next rest) contenders waiters)
       (log-after commits (actor .ghost .logs (actor .thread)) (committed .answer)) (actor .ghost .woken (actor .thread)) (saved (actor .thread))
   pub flag : FlagOk (o .word) (o .flag) contenders
-  pub unstranded : Unstranded (o .word) (update (handed-states (actor .states) (o .entry)) (actor .thread) state) (first-of (o .entry)) (rest-of (o .entry))
+  pub unstranded : Unstranded (o .word) (update (handed-states (actor .states) o) (actor .thread) state) (first-of (o .entry)) (left First (o .entry))
       contenders
   pub shows : (next : ℕ) (rest : List ℕ) → pick commits (committed .monitor) (plain-at actor o)
-      ≡ monitor-of (object-of (o .word) (o .flag) next 0 rest contenders waiters) (known actor (actor .ghost .woken) saved)
+      ≡ monitor-of (with-chains (handed-to o next rest) contenders waiters) (known actor (actor .ghost .woken) saved)
   pub ended : EndsRight operation answer (log-after commits (actor .ghost .logs (actor .thread)) (committed .answer))
 
 module _ (actor : Actor) where
@@ -118,19 +117,8 @@ module _ (actor : Actor) where
       → Self actor (Running next) o → Right actor operation o (go-on (sight-of o) next)
   move-refines operation o doing next step keep stays a =
       let inv = step .inv in
-      refine actor operation o
+      quiet-refines actor operation o o (Running next) GoneOn inv tt
       (record {
-        after = o;
-        states = actor .states;
-        state = Running next;
-        answer = GoneOn;
-        commits = false;
-        committed = nothing-committed;
-        woken = actor .ghost .woken;
-        saved = actor .ghost .saved;
-        nobody = inv .whole .nobody;
-        stays = λ t e. e;
-        does = λ k. absurd k;
         others = λ t n. inv .threads t;
         self = a;
         monitor = inv .whole .monitor;
@@ -139,7 +127,6 @@ module _ (actor : Actor) where
         unstranded = unstranded-moved (o .word) (actor .states) (actor .thread) (Running doing) (Running next) (o .holder) (o .entry) (o .contention)
             (step .running) keep (λ k. absurd (stays k)) (inv .whole .unstranded);
         shows = refl;
-        ended = tt;
       })
 
   -- to a phase that sits alike
@@ -147,7 +134,7 @@ module _ (actor : Actor) where
       → ReliesOn (phase-row next .reliance) (actor .thread) (o .word) (o .flag) (o .holder)
       → Right actor (phase-row doing .operation) o (go-on (sight-of o) next)
   go-on-refines o doing next step alike stays relies =
-      move-refines (phase-row doing .operation) o doing next step (rw (alike .0) (λ k. k)) stays (moved actor (step .self) next alike relies)
+      move-refines (phase-row doing .operation) o doing next step (rw (alike .0) (λ k. k)) stays (sits-alike actor (step .self) next alike relies)
 
   -- the thread, after its operation has ended
   pub ended-self : {o : ListObject} {log : OperationLog} {woken : Bool} {suspension : Suspension} → Seated outside (actor .thread) (o .holder) (o .depth)
@@ -200,25 +187,25 @@ module _ (actor : Actor) where
 
   -- the word changes, and the operation ends
   pub word-refines : (operation : Operation) (o : ListObject) (change : WordChange) {doing : Doing} → Stepping actor doing o
-      → WordParts actor operation o change
+      → phase-row doing .seat ≡ outside → phase-row doing .saved ≡ nothing-saved → WordParts actor operation o change
       → Right actor operation o (finish-word (sight-of o) change)
-  word-refines operation o change step parts =
+  word-refines operation o change step out saves-not parts =
       refine actor operation o
       (record {
-        after = with-word o (word-after (actor .thread) change (o .word));
+        after = with-word o (seen-after (actor .thread) change (o .word));
         states = actor .states;
         state = Idle;
         answer = Finished 0;
         commits = true;
-        committed = finished (plain-at actor (with-word o (word-after (actor .thread) change (o .word))));
+        committed = finished (plain-at actor (with-word o (seen-after (actor .thread) change (o .word))));
         woken = actor .ghost .woken;
         saved = actor .ghost .saved;
         nobody = step .inv .whole .nobody;
         stays = λ t e. e;
         does = λ k. parts .does;
-        others = others-word (actor .thread) (actor .states) o (actor .ghost) (word-after (actor .thread) change (o .word)) (parts .keeps)
+        others = others-word (actor .thread) (actor .states) o (actor .ghost) (seen-after (actor .thread) change (o .word)) (parts .keeps)
             (λ t n. step .inv .threads t);
-        self = ended-self (parts .seated) (step .self .placed) (parts .asleep);
+        self = ended-self (rw out at (step .self .seated)) (step .self .placed) (rw saves-not at (step .self .woken));
         monitor = parts .monitor;
         empty = step .inv .whole .empty;
         flag = parts .flag;
@@ -228,11 +215,10 @@ module _ (actor : Actor) where
       })
 
   -- the holder's depth changes to one above 0, and the operation ends
-  pub depth-refines : (operation : Operation) (flag : Bool) (holder depth new : ℕ) (entry contention waiting : List ℕ) {doing : Doing}
-      → let o = object-of Fat flag holder depth entry contention waiting in
-      Stepping actor doing o → holder ≡ actor .thread → DepthParts actor operation o new → Right actor operation o (finish-depth (sight-of o) new)
-  depth-refines operation flag holder depth new entry contention waiting step q parts =
-      let o = object-of Fat flag holder depth entry contention waiting in
+  pub depth-refines : (operation : Operation) (it : ListObject) (new : ℕ) {doing : Doing} → let o = with-word it Fat in
+      Stepping actor doing o → it .holder ≡ actor .thread → DepthParts actor operation o new → Right actor operation o (finish-depth (sight-of o) new)
+  depth-refines operation it new step q parts =
+      let o = with-word it Fat in
       refine actor operation o
       (record {
         after = with-depth o new;
@@ -254,40 +240,38 @@ module _ (actor : Actor) where
         empty = step .inv .whole .empty;
         flag = step .inv .whole .flag;
         unstranded = tt;
-        shows = same-monitor (sym (fat-owner holder new (parts .above) ∙ q)) refl;
+        shows = same-monitor (sym (fat-owner (it .holder) new (parts .above) ∙ q)) refl;
         ended = parts .ended;
       })
 
   -- a thread that is not in the entry chain is not the next holder
   handed-self : (queue : List ℕ) → count (actor .thread) queue ≡ 0
-      → Seated outside (actor .thread) (first-of queue) 0 × (count (actor .thread) (rest-of queue) ≡ 0)
+      → Seated outside (actor .thread) (first-of queue) 0 × (count (actor .thread) (left First queue) ≡ 0)
   handed-self [] out = (λ x n. absurd (n (sym x)), out)
   handed-self (first ∷ rest) out = let (n, gone) = not-first (actor .thread) first rest out in (λ x p. absurd (n (sym x)), gone)
 
   -- the next holder is no thread 0
   next-real : (states : ℕ → ThreadState) (o : ListObject) (ghost : Ghost) → Invariant states o ghost → (queue : List ℕ) → o .entry ≡ queue → first-of queue ≡ 0
-      → rest-of queue ≡ []
+      → left First queue ≡ []
   next-real states o ghost inv [] e zeroth = refl
   next-real states o ghost inv (first ∷ rest) e zeroth = absurd (first-queued states o ghost inv first rest e .0 zeroth)
 
   -- the holder leaves the monitor
-  pub hand-refines : (operation : Operation) (word : WordSeen) (flag : Bool) (holder depth : ℕ) (entry contention waiting : List ℕ) (doing : Doing)
-      → let o = object-of word flag holder depth entry contention waiting in
-      Stepping actor doing o → holder ≡ actor .thread → (hand : HandParts actor operation o)
+  pub hand-refines : (operation : Operation) (o : ListObject) (doing : Doing)
+      → Stepping actor doing o → o .holder ≡ actor .thread → (hand : HandParts actor operation o)
       → Refines (actor .thread) operation (actor .states) o (actor .ghost)
       (record {
-        states = update (handed-states (actor .states) entry) (actor .thread) (hand .state);
-        object = handed-object (with-chains o (hand .contenders) (hand .waiters)) entry;
+        states = update (handed-states (actor .states) o) (actor .thread) (hand .state);
+        object = handed-object (with-chains o (hand .contenders) (hand .waiters));
         answer = hand .answer;
         commits = hand .commits;
       })
-  hand-refines operation word flag holder depth entry contention waiting doing step q hand =
-      let o = object-of word flag holder depth entry contention waiting in
-      let (seated, gone) = handed-self entry (step .self .placed .entry) in
+  hand-refines operation o doing step q hand =
+      let (seated, gone) = handed-self (o .entry) (step .self .placed .entry) in
       refine actor operation o
       (record {
-        after = handed-object (with-chains o (hand .contenders) (hand .waiters)) entry;
-        states = handed-states (actor .states) entry;
+        after = handed-object (with-chains o (hand .contenders) (hand .waiters));
+        states = handed-states (actor .states) o;
         state = hand .state;
         answer = hand .answer;
         commits = hand .commits;
@@ -295,31 +279,28 @@ module _ (actor : Actor) where
         woken = actor .ghost .woken;
         saved = hand .saved;
         nobody = step .inv .whole .nobody;
-        stays = idle-handed (actor .states) entry;
+        stays = idle-changed handed refl (actor .states) (taken First (o .entry));
         does = hand .does;
         others = others-handed (actor .thread) (actor .states) (with-chains o (hand .contenders) (hand .waiters))
-            (known actor (actor .ghost .woken) (hand .saved)) entry refl
-            q (step .inv .whole .nobody) (hand .others);
-        self = hand .self (first-of entry) (rest-of entry) seated gone;
-        monitor = monitor-handed word holder (first-of entry) depth (step .inv .whole .monitor);
-        empty = next-real (actor .states) o (actor .ghost) (step .inv) entry refl;
+            (known actor (actor .ghost .woken) (hand .saved)) q (step .inv .whole .nobody) (hand .others);
+        self = hand .self (first-of (o .entry)) (left First (o .entry)) seated gone;
+        monitor = monitor-handed (o .word) (o .holder) (first-of (o .entry)) (o .depth) (step .inv .whole .monitor);
+        empty = next-real (actor .states) o (actor .ghost) (step .inv) (o .entry) refl;
         flag = hand .flag;
         unstranded = hand .unstranded;
-        shows = hand .shows (first-of entry) (rest-of entry);
+        shows = hand .shows (first-of (o .entry)) (left First (o .entry));
         ended = hand .ended;
       })
 
   -- the holder at depth 0 inflates a word that is its own or nobody's, to a depth above 0
-  pub inflate-refines : (operation : Operation) (word : WordSeen) (flag : Bool) (holder depth new : ℕ) (entry contention waiting : List ℕ) {doing : Doing}
-      → let o = object-of word flag holder depth entry contention waiting in
-      Stepping actor doing o → holder ≡ actor .thread → (parts : InflateParts actor operation o new)
+  pub inflate-refines : (operation : Operation) (o : ListObject) (new : ℕ) {doing : Doing}
+      → Stepping actor doing o → o .holder ≡ actor .thread → (parts : InflateParts actor operation o new)
       → Right actor operation o (inflate (sight-of o) new (parts .state) (parts .answer) (parts .commits))
-  inflate-refines operation word flag holder depth new entry contention waiting step q parts =
-      let o = object-of word flag holder depth entry contention waiting in
+  inflate-refines operation o new step q parts =
       refine actor operation o
       (record {
         after = inflated o new;
-        states = admitted-states (actor .states) contention;
+        states = moved-states Chain.Contention All (actor .states) o;
         state = parts .state;
         answer = parts .answer;
         commits = parts .commits;
@@ -327,12 +308,12 @@ module _ (actor : Actor) where
         woken = actor .ghost .woken;
         saved = actor .ghost .saved;
         nobody = step .inv .whole .nobody;
-        stays = idle-admitted (actor .states) o (actor .ghost) (step .inv);
+        stays = idle-changed moved refl (actor .states) (o .contention);
         does = parts .does;
         others = others-inflated (actor .thread) (actor .states) o (actor .ghost) new q (parts .foreign) (parts .open-word) (λ t n. step .inv .threads t);
         self = parts .self
             (record {
-              entry = omega (arith, count-entered-all (actor .thread) entry contention, step .self .placed .entry, step .self .placed .contention);
+              entry = omega (arith, count-entered-all (actor .thread) (o .entry) (o .contention), step .self .placed .entry, step .self .placed .contention);
               contention = count-none (actor .thread);
               waiting = step .self .placed .waiting;
             });
@@ -340,6 +321,6 @@ module _ (actor : Actor) where
         empty = λ e. absurd (actor .real (sym q ∙ e));
         flag = (refl, refl);
         unstranded = tt;
-        shows = parts .shows ∙ same-monitor (sym (fat-owner holder new (parts .above) ∙ q)) refl;
+        shows = parts .shows ∙ same-monitor (sym (fat-owner (o .holder) new (parts .above) ∙ q)) refl;
         ended = parts .ended;
       })

@@ -15,7 +15,6 @@ use Rattle.laws.proofs.Choice.{equal?, Equal, equal}
 use Rattle.laws.proofs.Update.{update-same, update-other}
 use Rattle.laws.proofs.Count.{count-same}
 use Rattle.lock_word.specs.Meaning.{owner-of}
-use Rattle.lock_rules.specs.Changes.{handed, notified}
 use Rattle.lock_rules.specs.declared.Suspension.{Suspension}
 use Rattle.lock_rules.specs.declared.ThreadState.{ThreadState}
 use Rattle.lock_rules.specs.declared.ThreadState.the-variants.{Idle}
@@ -23,8 +22,8 @@ use Rattle.lock_word.specs.declared.meaning.WordSeen.{WordSeen}
 use Rattle.lock_word.specs.declared.meaning.WordSeen.the-variants.{Free, Anonymous, Fat, Flat, Reserved}
 use Rattle.lock_rules.specs.PlainMonitor.{PlainMonitor, above-zero}
 use Rattle.lock_rules.proofs.Objects.{ListObject}
-use Rattle.lock_rules.proofs.Perform.{enter-queue, entered≢nil, handed-states, admitted-states, all-notified-states}
-use Rattle.lock_rules.proofs.Invariant.{unreserved, seat, telling?, leaving?, in-entry, in-contention, in-waiting, Ghost, ThreadOk}
+use Rattle.lock_rules.proofs.Perform.{enter-queue, entered≢nil, changed-states}
+use Rattle.lock_rules.proofs.Invariant.{unreserved, seat, telling?, leaving?, in-entry, in-waiting, Ghost}
 use Rattle.lock_rules.proofs.Invariant.{MonitorOk, FlagOk, Told, Unstranded, Invariant}
 use Rattle.lock_rules.proofs.Reliances.{KeepsReliance}
 
@@ -211,41 +210,20 @@ pub none : (xs : List ℕ) → length xs ≡ 0 → xs ≡ []
 none [] e = refl
 none (x ∷ xs) e = absurd (omega (arith, e))
 
--- a thread that was idle still is, where a state is changed by a function that leaves idle as it is
-pub idle-update : (f : ThreadState → ThreadState) → f Idle ≡ Idle → (states : ℕ → ThreadState) (u t : ℕ) → states t ≡ Idle
-    → update states u (f (states u)) t ≡ Idle
-idle-update f fixed states u t e = at (equal? t u)
+-- a thread that was idle still is, where states are changed by a function that leaves idle as it is
+pub idle-changed : (change : ThreadState → ThreadState) → change Idle ≡ Idle → (states : ℕ → ThreadState) (list : List ℕ) (t : ℕ) → states t ≡ Idle
+    → changed-states change states list t ≡ Idle
+idle-changed change fixed states list t e = at (above-zero (count t list))
   where
-    at : (t ≡ u) ⊎ (t ≢ u) → update states u (f (states u)) t ≡ Idle
-    at (inl q) = rw (← q, update-same states t (f (states t)), e) fixed
-    at (inr n) = update-other states u (f (states u)) t n ∙ e
-
-pub idle-handed : (states : ℕ → ThreadState) (queue : List ℕ) (t : ℕ) → states t ≡ Idle → handed-states states queue t ≡ Idle
-idle-handed states [] t e = e
-idle-handed states (first ∷ rest) t e = idle-update handed refl states first t e
-
-pub idle-all-notified : (states : ℕ → ThreadState) (waiters : List ℕ) (t : ℕ) → states t ≡ Idle → all-notified-states states waiters t ≡ Idle
-idle-all-notified states waiters t e = at (above-zero (count t waiters))
-  where
-    at : (b : Bool) → pick b (notified (states t)) (states t) ≡ Idle
-    at true = ap notified e
+    at : (b : Bool) → pick b (change (states t)) (states t) ≡ Idle
+    at true = ap change e ∙ fixed
     at false = e
 
 module _ (states : ℕ → ThreadState) (o : ListObject) (ghost : Ghost) (inv : Invariant states o ghost) where
-  pub idle-admitted : (t : ℕ) → states t ≡ Idle → admitted-states states (o .contention) t ≡ Idle
-  idle-admitted t e = let a : ThreadOk t Idle o (ghost .logs t) (ghost .woken t) (ghost .saved t) = rw e at (inv .threads t) in rw (a .placed .contention) e
-
   pub first-queued : (first : ℕ) (rest : List ℕ) → o .entry ≡ first ∷ rest → (first ≢ 0) × (in-entry (states first) ≡ suc (count first rest))
   first-queued first rest e =
       let c : in-entry (states first) ≡ suc (count first rest) = sym (inv .threads first .placed .entry) ∙ (ap (count first) e ∙ count-same first rest) in
       (λ q. (let b : in-entry (states 0) ≡ suc (count 0 rest) = rw q at c in absurd (omega (arith, rw (inv .whole .nobody) at b))), c)
-
-  pub contender-busy : (first : ℕ) (rest : List ℕ) → o .contention ≡ first ∷ rest → (t : ℕ) → states t ≡ Idle → first ≢ t
-  contender-busy first rest e t i q =
-      let c : in-contention (states first) ≡ suc (count first rest) = sym (inv .threads first .placed .contention) ∙ (ap (count first) e ∙ count-same first
-      rest) in
-      let b : in-contention (states t) ≡ suc (count t rest) = rw q at c in
-      omega (arith, rw i at b)
 
 -- two plain monitors with the same waiting, woken and saved
 pub same-monitor : {owner owner′ depth depth′ : ℕ} {waiting : List ℕ} {woken : ℕ → Bool} {saved : ℕ → Suspension} → owner ≡ owner′ → depth ≡ depth′

@@ -7,6 +7,7 @@ use native.Mathlib.Omega.{arith}
 use lib.Dec.{eqb, ltb}
 use Rattle.laws.specs.Choice.{pick, both}
 use Rattle.laws.proofs.Choice.{by-equal, by-below}
+use Rattle.chains.specs.declared.named.Chain.{Chain}
 use Rattle.lock_rules.specs.Limits.{depth-limit, count-limit}
 use Rattle.lock_word.specs.Meaning.{owner-of}
 use Rattle.lock_rules.specs.Actions.{keep-object, go-on, finish-word, finish-depth, let-go, inflate, raise-flag}
@@ -27,9 +28,9 @@ use Rattle.lock_word.specs.declared.meaning.WordSeen.the-variants.{Free, Anonym
 use Rattle.lock_rules.specs.declared.WordChange.{WordChange}
 use Rattle.lock_rules.specs.declared.WordChange.the-variants.{Unchanged, Freed, OwnFlat, OwnReserved, Cancelled, Inflated}
 use Rattle.lock_rules.specs.declared.Sight.{Sight}
-use Rattle.lock_rules.specs.declared.ChainAction.{ChainAction}
-use Rattle.lock_rules.specs.declared.ChainAction.the-variants.{Stay, JoinEntry, Contend, GiveUp, HandOver, AdmitContenders, TellFirst, WakeFirst}
-use Rattle.lock_rules.specs.declared.ChainAction.the-variants.{WakeAll, SendBack}
+use Rattle.lock_rules.specs.declared.Taken.the-variants.{First, All}
+use Rattle.lock_rules.specs.declared.ChainWork.{ChainWork}
+use Rattle.lock_rules.specs.declared.ChainWork.the-variants.{Stay, Join, JoinAndHand, Hand, Move, SendBack}
 use Rattle.lock_rules.specs.declared.Answer.{Answer}
 use Rattle.lock_rules.specs.declared.Answer.the-variants.{GoneOn, Finished, Parked, NotOwner, TooDeep}
 use Rattle.lock_rules.specs.declared.Effect.{Effect}
@@ -43,29 +44,28 @@ abbrev pub InNone : ThreadState → Type 0
 InNone state = (in-entry state ≡ 0) × (in-contention state ≡ 0) × (in-waiting state ≡ 0)
 
 -- the chain that the thread joins is the one that its next state names
-abbrev pub Joins : ChainAction → ThreadState → Type 0
+abbrev Names : Chain → ThreadState → Type 0
+Names Chain.Entry state = (in-entry state ≡ 1) × (in-contention state ≡ 0) × (in-waiting state ≡ 0)
+Names Chain.Contention state = (in-entry state ≡ 0) × (in-contention state ≡ 1) × (in-waiting state ≡ 0)
+Names Chain.Waiting state = (in-entry state ≡ 0) × (in-contention state ≡ 0) × (in-waiting state ≡ 1)
+
+abbrev pub Joins : ChainWork → ThreadState → Type 0
 Joins Stay state = InNone state
-Joins JoinEntry state = (in-entry state ≡ 1) × (in-contention state ≡ 0) × (in-waiting state ≡ 0)
-Joins Contend state = (in-entry state ≡ 0) × (in-contention state ≡ 1) × (in-waiting state ≡ 0)
-Joins GiveUp state = (in-entry state ≡ 0) × (in-contention state ≡ 0) × (in-waiting state ≡ 1)
-Joins HandOver state = InNone state
-Joins AdmitContenders state = InNone state
-Joins TellFirst state = InNone state
-Joins WakeFirst state = InNone state
-Joins WakeAll state = InNone state
+Joins (Join chain) state = Names chain state
+Joins (JoinAndHand chain) state = Names chain state
+Joins Hand state = InNone state
+Joins (Move from which) state = InNone state
 Joins (SendBack u) state = InNone state
 
--- threads are in the entry chain only while there is a holder; `was` was the holder, `holder` is
-abbrev pub EntryHeld : ChainAction → ℕ → ℕ → Type 0
+-- threads are in the entry chain only while there is a holder, so nobody hands over and joins it; `was` was the holder, `holder` is
+abbrev pub EntryHeld : ChainWork → ℕ → ℕ → Type 0
 EntryHeld Stay was holder = holder ≡ 0 → was ≡ 0
-EntryHeld JoinEntry was holder = holder ≢ 0
-EntryHeld Contend was holder = Unit {0}
-EntryHeld GiveUp was holder = Unit {0}
-EntryHeld HandOver was holder = Unit {0}
-EntryHeld AdmitContenders was holder = holder ≢ 0
-EntryHeld TellFirst was holder = holder ≢ 0
-EntryHeld WakeFirst was holder = holder ≢ 0
-EntryHeld WakeAll was holder = holder ≢ 0
+EntryHeld (Join chain) was holder = holder ≢ 0
+EntryHeld (JoinAndHand Chain.Entry) was holder = ⊥
+EntryHeld (JoinAndHand Chain.Contention) was holder = Unit {0}
+EntryHeld (JoinAndHand Chain.Waiting) was holder = Unit {0}
+EntryHeld Hand was holder = Unit {0}
+EntryHeld (Move from which) was holder = holder ≢ 0
 EntryHeld (SendBack u) was holder = holder ≡ 0 → was ≡ 0
 
 -- a count that is written is at most 63
@@ -82,8 +82,8 @@ pub record EffectFine (thread was : ℕ) (effect : Effect) : Type 0 where
   pub word : ChangeFine (effect .word)
   pub deep : effect .depth ≤ depth-limit
   pub shallow : effect .holder ≡ 0 → effect .depth ≡ 0
-  pub joins : Joins (effect .chains) (effect .state)
-  pub entry : EntryHeld (effect .chains) was (effect .holder)
+  pub joins : Joins (effect .work) (effect .state)
+  pub entry : EntryHeld (effect .work) was (effect .holder)
   pub holder : (effect .holder ≡ was) ⊎ (effect .holder ≡ thread)
 
 abbrev pub ActionFine : ℕ → ℕ → Action → Type 0
@@ -100,9 +100,9 @@ module _ (threads thread : ℕ) (sight : Sight) (real : thread ≢ 0) (deep : si
   Fine action = ActionFine thread (sight .holder) action
 
   -- the shapes of rules
-  keep-fine : (chains : ChainAction) (state : ThreadState) (answer : Answer) (commits : Bool) → StateFine state → Joins chains state
-      → EntryHeld chains (sight .holder) (sight .holder) → Fine (keep-object sight chains state answer commits)
-  keep-fine chains state answer commits fine joins entry =
+  keep-fine : (work : ChainWork) (state : ThreadState) (answer : Answer) (commits : Bool) → StateFine state → Joins work state
+      → EntryHeld work (sight .holder) (sight .holder) → Fine (keep-object sight work state answer commits)
+  keep-fine work state answer commits fine joins entry =
       record { state = fine; word = tt; deep = deep; shallow = shallow; joins = joins; entry = entry; holder = inl refl }
 
   go-on-fine : (next : Doing) → DoingFine next → Fine (go-on sight next)
@@ -178,7 +178,7 @@ module _ (threads thread : ℕ) (sight : Sight) (real : thread ≢ 0) (deep : si
   notify-owned-fine Free own = idle-fine NotOwner true
   notify-owned-fine Anonymous own = idle-fine NotOwner true
   notify-owned-fine Fat own =
-      either-way Fine (eqb (sight .waiters) 0) (idle-fine (Finished 0) true) (keep-fine WakeFirst Idle (Finished 1) true tt (refl, refl, refl) (held own))
+      either-way Fine (eqb (sight .waiters) 0) (idle-fine (Finished 0) true) (keep-fine (Move Chain.Waiting First) Idle (Finished 1) true tt (refl, refl, refl) (held own))
   notify-owned-fine (Flat owner c) own = idle-fine (Finished 0) true
   notify-owned-fine (Reserved owner c) own = idle-fine (Finished 0) true
 
@@ -186,7 +186,7 @@ module _ (threads thread : ℕ) (sight : Sight) (real : thread ≢ 0) (deep : si
   unfolding notify-all-owned
   notify-all-owned-fine Free own = idle-fine NotOwner true
   notify-all-owned-fine Anonymous own = idle-fine NotOwner true
-  notify-all-owned-fine Fat own = keep-fine WakeAll Idle (Finished (sight .waiters)) true tt (refl, refl, refl) (held own)
+  notify-all-owned-fine Fat own = keep-fine (Move Chain.Waiting All) Idle (Finished (sight .waiters)) true tt (refl, refl, refl) (held own)
   notify-all-owned-fine (Flat owner c) own = idle-fine (Finished 0) true
   notify-all-owned-fine (Reserved owner c) own = idle-fine (Finished 0) true
 
@@ -232,7 +232,7 @@ module _ (threads thread : ℕ) (sight : Sight) (real : thread ≢ 0) (deep : si
         holder = inr refl;
       })
       (λ e. either-way Fine (eqb (sight .holder) thread) (go-in-again-fine carried e)
-      (keep-fine JoinEntry (Queued carried) Parked false fine (refl, refl, refl) e))
+      (keep-fine (Join Chain.Entry) (Queued carried) Parked false fine (refl, refl, refl) e))
 
   raise-flag-fine : Fine (raise-flag sight)
   raise-flag-fine = record { state = tt; word = tt; deep = deep; shallow = shallow; joins = (refl, refl, refl); entry = λ e. e; holder = inl refl }
@@ -251,7 +251,7 @@ module _ (threads thread : ℕ) (sight : Sight) (real : thread ≢ 0) (deep : si
   enter-try-fine Free held = inflate-fine 1 Idle (Finished 0) true (omega arith) held tt (refl, refl, refl)
   enter-try-fine Anonymous held = tt
   enter-try-fine Fat held = tt
-  enter-try-fine (Flat owner c) held = either-way Fine (eqb owner thread) tt (keep-fine Contend Contending Parked false tt (refl, refl, refl) tt)
+  enter-try-fine (Flat owner c) held = either-way Fine (eqb owner thread) tt (keep-fine (JoinAndHand Chain.Contention) Contending Parked false tt (refl, refl, refl) tt)
   enter-try-fine (Reserved owner c) held = tt
 
   exit-test-fine : Fine (exit-test sight)
@@ -262,12 +262,12 @@ module _ (threads thread : ℕ) (sight : Sight) (real : thread ≢ 0) (deep : si
   unfolding exit-tell
   exit-tell-fine held =
       either-way Fine (sight .flag)
-      (either-way Fine (sight .contentionempty) (go-on-fine ExitLeave tt) (keep-fine TellFirst (Running ExitLeave) GoneOn false tt (refl, refl, refl) held))
+      (either-way Fine (sight .contentionempty) (go-on-fine ExitLeave tt) (keep-fine (Move Chain.Contention First) (Running ExitLeave) GoneOn false tt (refl, refl, refl) held))
       (go-on-fine ExitLeave tt)
 
   exit-leave-fine : Fine (exit-leave sight)
   unfolding exit-leave
-  exit-leave-fine = either-way Fine (eqb (sight .depth) 0) (keep-fine HandOver Idle (Finished 0) false tt (refl, refl, refl) tt) tt
+  exit-leave-fine = either-way Fine (eqb (sight .depth) 0) (keep-fine Hand Idle (Finished 0) false tt (refl, refl, refl) tt) tt
 
   wait-inflate-fine : (word : WordSeen) → WordFine threads word → sight .holder ≢ 0 → Fine (wait-inflate thread sight word)
   unfolding wait-inflate
@@ -284,7 +284,7 @@ module _ (threads thread : ℕ) (sight : Sight) (real : thread ≢ 0) (deep : si
   wait-give-up-fine Anonymous = tt
   wait-give-up-fine Fat =
       by-equal Fine (sight .depth) 0 (λ e. tt)
-      (λ e. keep-fine GiveUp (Waiting (record { depth = sight .depth })) Parked true (omega (arith, e), deep)
+      (λ e. keep-fine (JoinAndHand Chain.Waiting) (Waiting (record { depth = sight .depth })) Parked true (omega (arith, e), deep)
       (refl, refl, refl) tt)
   wait-give-up-fine (Flat owner c) = tt
   wait-give-up-fine (Reserved owner c) = tt

@@ -17,7 +17,7 @@ use Rattle.lock_rules.specs.Operations.{Enter, Exit, Wait, Notify, Notif
 use Rattle.lock_rules.specs.declared.Doing.{Doing}
 use Rattle.lock_rules.specs.declared.ThreadState.{ThreadState}
 use Rattle.lock_rules.specs.declared.ThreadState.the-variants.{Idle, Running}
-use Rattle.lock_rules.specs.Events.{Event}
+use Rattle.lock_rules.specs.declared.event.Event.{Event}
 use Rattle.lock_rules.proofs.Objects.{empty, sight-of}
 use Rattle.lock_rules.proofs.Perform.{Performed}
 use Rattle.lock_rules.proofs.Turns.{by-event}
@@ -28,7 +28,8 @@ use Rattle.lock_rules.proofs.Lift.{seen-there, seen-as-before}
 use Rattle.lock_rules.proofs.ListSound.{StateFine, WordFine, SoundObject, InTable, SoundTable}
 use Rattle.lock_rules.proofs.SoundEffects.{ActionFine, either-way, decide-fine}
 use Rattle.lock_rules.proofs.SoundPerform.{performed-idle, performed-fine, performed-sound}
-use Rattle.lock_rules.proofs.ListChains.{entry-chain, member-in}
+use Rattle.chains.specs.declared.named.Chain.{Chain}
+use Rattle.lock_rules.proofs.ListChains.{member-in}
 
 seen-fine : (o : ℕ) (thread : ListThread) → StateFine (thread .state) → StateFine (seen-from o thread)
 seen-fine o thread fine = either-way StateFine (eqb (thread .object) o) fine tt
@@ -133,7 +134,7 @@ module _ (threads objects : ℕ) (table : ListTable) (sound : SoundTable threads
         rw q
         (subst₂ (SoundObject threads) (fun-ext (seen-there table home result elsewhere)) (sym (update-same (table .objects) home (result .object)))
         (performed-sound threads t (states-at table home) (table .objects home) (sound .sound home) doing here real low
-        (decide t (sight-of (table .objects home)) doing) owes (member-in threads objects table sound entry-chain home)))
+        (decide t (sight-of (table .objects home)) doing) owes (member-in threads objects table sound Chain.Entry home)))
     step-sound b (inr n) =
         subst₂ (SoundObject threads) (fun-ext (seen-as-before table home result b n)) (sym (update-other (table .objects) home (result .object) b n))
         (sound .sound b)
@@ -143,7 +144,7 @@ module _ (threads objects : ℕ) (table : ListTable) (sound : SoundTable threads
 
   pub sound-turn : (event : Event) → SoundTable threads objects (turn threads objects table event .table)
   sound-turn =
-      by-event list-kind threads objects table (λ event result. SoundTable threads objects (result .table)) (λ event number. sound)
+      by-event list-kind threads objects table (λ event result. SoundTable threads objects (result .table)) (λ event refusal high. sound)
       (λ number operation t o asked real low oreal olow idle. sound-begin operation t o real low oreal olow idle)
       (λ t doing real low running. sound-step t doing real low running)
 

@@ -1,9 +1,9 @@
 -- Another kind of table that stands for tables with lists, event by event: what it owes, and that then a whole schedule shows the same on both.
 use Prim.Native.Nat.{ℕ, _≤_}
-use mathlib.Core.Path.{_≡_, refl}
-use mathlib.Core.Bool.{Bool, true, false}
+use mathlib.Core.Path.{_≡_, refl, sym, ap}
+use mathlib.Core.Bool.{true}
 use mathlib.Core.List.{List, [], _∷_}
-use Rattle.laws.specs.Choice.{pick, within}
+use Rattle.laws.proofs.Choice.{false≢true}
 use Rattle.lock_rules.specs.Numbers.{asked-for}
 use Rattle.lock_rules.specs.Operations.{Operation}
 use Rattle.lock_rules.specs.Operations.{Asked}
@@ -11,8 +11,12 @@ use Rattle.lock_rules.specs.Operations.{Unknown, Known}
 use Rattle.lock_rules.specs.declared.Doing.{Doing}
 use Rattle.lock_rules.specs.declared.ThreadState.{ThreadState}
 use Rattle.lock_rules.specs.declared.ThreadState.the-variants.{Idle, Running, Queued, Contending, Waiting}
-use Rattle.lock_rules.specs.Events.{Event, Begin, Step}
-use Rattle.lock_rules.proofs.Turns.{TurnOf, Kind, refuse, begin-thread, begin-asked, step-thread, turn-on, final-on, shown-on, Within, within-says}
+use Rattle.lock_rules.specs.declared.event.Event.{Event}
+use Rattle.lock_rules.specs.declared.event.Event.the-variants.{Begin, Step}
+use Rattle.lock_rules.specs.declared.event.Gate.the-variants.{Open}
+use Rattle.lock_rules.specs.Gate.{event-thread}
+use Rattle.lock_rules.proofs.Gate.{Passed, within-says, by-gate, gate-same}
+use Rattle.lock_rules.proofs.Turns.{TurnOf, Kind, status-of, status-idle, begin-asked, step-thread, through, turn-on, final-on, shown-on}
 use Rattle.lock_rules.proofs.Tables.{ListTable, begin-at, step-at, list-kind, turn, final, shown}
 
 -- R relates a table of the kind to the table with lists that it stands for; W holds of every table with lists that matters
@@ -33,46 +37,31 @@ module _ (kind : Kind) (threads objects : ℕ) (R : kind .Table → ListTable �
     pub stands-turn : (x : kind .Table) (table : ListTable) → R x table → W table → (event : Event)
         → R (turn-on kind threads objects x event .table) (turn threads objects table event .table)
         × (turn-on kind threads objects x event .reply ≡ turn threads objects table event .reply)
-    stands-turn x table r w (Begin number t o) = ranged (within 1 threads t) (within-says 1 threads t)
+    stands-turn x table r w event =
+        rw (gate-same true threads objects event (status-of (kind .state x (event-thread event))) (status-of (table .threads (event-thread event) .state))
+        (λ inside. let (low, high) = within-says inside in ap status-of (standing .state x table r w (event-thread event) low high)))
+        (by-gate true threads objects (λ gate. SameTurn (through kind gate x event) (through list-kind gate table event)) (λ unsound. false≢true (sym unsound))
+        (λ refusal sound high. (r, refl)) event (status-of (table .threads (event-thread event) .state)) (λ sound. at event))
       where
-        idle : (operation : Operation) (state : ThreadState) → table .threads t .state ≡ state → 1 ≤ t → t ≤ threads → 1 ≤ o → o ≤ objects
-            → SameTurn (begin-thread kind x operation t o state) (begin-thread list-kind table operation t o state)
-        idle operation Idle e a b c d = (standing .begins x table r w operation t o a b c d e, refl)
-        idle operation (Running doing) e a b c d = (r, refl)
-        idle operation (Queued carried) e a b c d = (r, refl)
-        idle operation Contending e a b c d = (r, refl)
-        idle operation (Waiting saved) e a b c d = (r, refl)
+        known : (thread object : ℕ) (asked : Asked) → 1 ≤ thread → thread ≤ threads → 1 ≤ object → object ≤ objects → table .threads thread .state ≡ Idle
+            → SameTurn (begin-asked kind x asked thread object) (begin-asked list-kind table asked thread object)
+        known thread object Unknown low high real small idle = (r, refl)
+        known thread object (Known operation) low high real small idle = (standing .begins x table r w operation thread object low high real small idle, refl)
 
-        on : (operation : Operation) (test : Bool) → Within test 1 objects o → 1 ≤ t → t ≤ threads
-            → SameTurn (pick test (begin-thread kind x operation t o (kind .state x t)) (refuse kind x 13))
-            (pick test (begin-thread list-kind table operation t o (table .threads t .state)) (refuse list-kind table 13))
-        on operation true (c, d) a b = rw (standing .state x table r w t a b) (idle operation (table .threads t .state) refl a b c d)
-        on operation false z a b = (r, refl)
+        running : (thread : ℕ) (state : ThreadState) → table .threads thread .state ≡ state → 1 ≤ thread → thread ≤ threads
+            → SameTurn (step-thread kind x thread state) (step-thread list-kind table thread state)
+        running thread Idle is low high = (r, refl)
+        running thread (Running doing) is low high = standing .steps x table r w thread doing low high is
+        running thread (Queued carried) is low high = (r, refl)
+        running thread Contending is low high = (r, refl)
+        running thread (Waiting suspension) is low high = (r, refl)
 
-        known : (asked : Asked) → 1 ≤ t → t ≤ threads → SameTurn (begin-asked kind objects x asked t o) (begin-asked list-kind objects table asked t o)
-        known Unknown a b = (r, refl)
-        known (Known operation) a b = on operation (within 1 objects o) (within-says 1 objects o) a b
-
-        ranged : (test : Bool) → Within test 1 threads t
-            → SameTurn (pick test (begin-asked kind objects x (asked-for number) t o) (refuse kind x 12))
-            (pick test (begin-asked list-kind objects table (asked-for number) t o) (refuse list-kind table 12))
-        ranged true (a, b) = known (asked-for number) a b
-        ranged false z = (r, refl)
-    stands-turn x table r w (Step t) = ranged (within 1 threads t) (within-says 1 threads t)
-      where
-        running : (state : ThreadState) → table .threads t .state ≡ state → 1 ≤ t → t ≤ threads
-            → SameTurn (step-thread kind x t state) (step-thread list-kind table t state)
-        running Idle e a b = (r, refl)
-        running (Running doing) e a b = standing .steps x table r w t doing a b e
-        running (Queued carried) e a b = (r, refl)
-        running Contending e a b = (r, refl)
-        running (Waiting saved) e a b = (r, refl)
-
-        ranged : (test : Bool) → Within test 1 threads t
-            → SameTurn (pick test (step-thread kind x t (kind .state x t)) (refuse kind x 12))
-            (pick test (step-thread list-kind table t (table .threads t .state)) (refuse list-kind table 12))
-        ranged true (a, b) = rw (standing .state x table r w t a b) (running (table .threads t .state) refl a b)
-        ranged false z = (r, refl)
+        at : (event : Event) → Passed threads objects event (status-of (table .threads (event-thread event) .state))
+            → SameTurn (through kind Open x event) (through list-kind Open table event)
+        at (Begin number thread object) (low, high, operation, real, small, idle) =
+            known thread object (asked-for number) low high real small (status-idle (table .threads thread .state) idle)
+        at (Step thread) (low, high, ready) =
+            rw (standing .state x table r w thread low high) (running thread (table .threads thread .state) refl low high)
 
     -- over a whole schedule it goes on standing for it, and the same is shown
     pub stands-run : (events : List Event) (x : kind .Table) (table : ListTable) → R x table → W table

@@ -15,7 +15,8 @@ use Rattle.lock_rules.specs.declared.ThreadState.{ThreadState}
 use Rattle.lock_rules.specs.declared.ThreadState.the-variants.{Idle, Running}
 use Rattle.lock_word.specs.declared.meaning.WordSeen.{WordSeen}
 use Rattle.lock_word.specs.declared.meaning.WordSeen.the-variants.{Free, Anonymous}
-use Rattle.lock_rules.specs.Events.{Event, Answered, Shown}
+use Rattle.lock_rules.specs.declared.event.Event.{Event}
+use Rattle.lock_rules.specs.Events.{Answered, Shown}
 use Rattle.lock_rules.proofs.Objects.{ListObject, object-of, sight-of}
 use Rattle.lock_rules.proofs.Perform.{Performed, perform}
 use Rattle.lock_rules.proofs.Turns.{TurnOf, Kind, turn-on, final-on, shown-on}
@@ -74,9 +75,11 @@ abbrev pub fresh-word : Bool → WordSeen
 fresh-word true = Anonymous
 fresh-word false = Free
 
+abbrev pub fresh-object : Bool → ListObject
+fresh-object reserved = object-of (fresh-word reserved) false 0 0 [] [] []
+
 abbrev pub fresh : Bool → ListTable
-fresh reserved =
-    record { threads = λ t. record { object = 0; state = Idle }; objects = λ o. object-of (fresh-word reserved) false 0 0 [] [] [] }
+fresh reserved = record { threads = λ t. record { object = 0; state = Idle }; objects = λ o. fresh-object reserved }
 
 -- reading a thread from an object
 pub seen-idle : (o : ℕ) (thread : ListThread) → thread .state ≡ Idle → seen-from o thread ≡ Idle

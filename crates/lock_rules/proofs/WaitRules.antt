@@ -1,13 +1,14 @@
 -- Phases 12, inflate, 13, wait, and 15, resume, of wait.
-use Prim.Native.Nat.{ℕ, suc, _+_}
+use Prim.Native.Nat.{suc, _+_}
 use mathlib.Core.Path.{refl, sym, ap, _∙_}
-use mathlib.Core.Bool.{Bool, true, false}
-use mathlib.Core.List.{List, [], _∷_, _++_}
+use mathlib.Core.Bool.{true, false}
+use mathlib.Core.List.{[], _∷_, _++_}
 use native.Mathlib.Omega.{arith}
 use Rattle.laws.specs.Update.{update}
 use Rattle.laws.proofs.Choice.{by-equal}
 use Rattle.laws.proofs.Update.{update-same, update-other}
 use Rattle.laws.proofs.Count.{count-joined}
+use Rattle.chains.specs.declared.named.Chain.{Chain}
 use Rattle.lock_rules.specs.Rules.{wait-inflate, wait-give-up, wait-resume}
 use Rattle.lock_rules.specs.Operations.{Wait}
 use Rattle.lock_rules.specs.declared.Suspension.{Suspension}
@@ -18,23 +19,22 @@ use Rattle.lock_word.specs.declared.meaning.WordSeen.the-variants.{Free, Anonym
 use Rattle.lock_rules.specs.declared.Answer.the-variants.{GoneOn, Parked}
 use Rattle.lock_rules.specs.PlainMonitor.{finished, give-up}
 use Rattle.lock_rules.proofs.Commits.{commit-give-up, commit-resume}
-use Rattle.lock_rules.proofs.Objects.{with-waiting, object-of, sight-of}
-use Rattle.lock_rules.proofs.OtherThreads.{others-joined-waiting, others-ghost}
+use Rattle.lock_rules.proofs.Objects.{ListObject, with-word, with-waiting, sight-of}
+use Rattle.lock_rules.proofs.OtherThreads.{others-joined, others-ghost}
 use Rattle.lock_rules.proofs.SharedFacts.{fat-owner, fat-unowned, first-commit, second-commit, same-monitor}
 use Rattle.lock_rules.proofs.Refinement.{plain-at, Actor, Stepping, Right, nothing-committed}
 use Rattle.lock_rules.proofs.RuleShapes.{depth-refines, hand-refines, inflate-refines}
 
 module _ (actor : Actor) where
-  pub wait-inflate-refines : (word : WordSeen) (flag : Bool) (holder depth : ℕ) (entry contention waiting : List ℕ)
-      → let o = object-of word flag holder depth entry contention waiting in
+  pub wait-inflate-refines : (it : ListObject) (word : WordSeen) → let o = with-word it word in
       Stepping actor WaitInflate o → Right actor Wait o (wait-inflate (actor .thread) (sight-of o) word)
   unfolding wait-inflate
-  wait-inflate-refines Free flag holder depth entry contention waiting step = absurd (step .self .relies)
-  wait-inflate-refines Anonymous flag holder depth entry contention waiting step = absurd (step .self .relies)
-  wait-inflate-refines Fat flag holder depth entry contention waiting step = absurd (step .self .relies)
-  wait-inflate-refines (Flat owner c) flag holder depth entry contention waiting step =
-      by-equal (Right actor Wait (object-of (Flat owner c) flag holder depth entry contention waiting)) owner (actor .thread)
-      (λ q. inflate-refines actor Wait (Flat owner c) flag holder depth (c + 1) entry contention waiting step (step .self .seated .0)
+  wait-inflate-refines it Free step = absurd (step .self .relies)
+  wait-inflate-refines it Anonymous step = absurd (step .self .relies)
+  wait-inflate-refines it Fat step = absurd (step .self .relies)
+  wait-inflate-refines it (Flat owner c) step =
+      by-equal (Right actor Wait (with-word it (Flat owner c))) owner (actor .thread)
+      (λ q. inflate-refines actor Wait (with-word it (Flat owner c)) (c + 1) step (step .self .seated .0)
       (record {
         state = Running WaitGiveUp;
         answer = GoneOn;
@@ -57,43 +57,41 @@ module _ (actor : Actor) where
         ended = tt;
       }))
       (λ q. absurd (q (step .self .relies)))
-  wait-inflate-refines (Reserved owner c) flag holder depth entry contention waiting step = absurd (step .self .relies)
+  wait-inflate-refines it (Reserved owner c) step = absurd (step .self .relies)
 
-  pub wait-give-up-refines : (word : WordSeen) (flag : Bool) (holder depth : ℕ) (entry contention waiting : List ℕ)
-      → let o = object-of word flag holder depth entry contention waiting in
+  pub wait-give-up-refines : (it : ListObject) (word : WordSeen) → let o = with-word it word in
       Stepping actor WaitGiveUp o → Right actor Wait o (wait-give-up (sight-of o) word)
   unfolding wait-give-up
-  wait-give-up-refines Free flag holder depth entry contention waiting step = absurd (step .self .relies .0)
-  wait-give-up-refines Anonymous flag holder depth entry contention waiting step = absurd (step .self .relies .0)
-  wait-give-up-refines Fat flag holder depth entry contention waiting step =
-      by-equal (Right actor Wait (object-of Fat flag holder depth entry contention waiting)) depth 0
-      (λ e. absurd (omega (arith, e, step .self .seated .1)))
-      (λ e. let o = object-of Fat flag holder depth entry contention waiting in
-      let saved = update (actor .ghost .saved) (actor .thread) (record { depth = depth }) in
-      hand-refines actor Wait Fat flag holder depth entry contention waiting WaitGiveUp step (step .self .seated .0)
+  wait-give-up-refines it Free step = absurd (step .self .relies .0)
+  wait-give-up-refines it Anonymous step = absurd (step .self .relies .0)
+  wait-give-up-refines it Fat step =
+      by-equal (Right actor Wait (with-word it Fat)) (it .depth) 0 (λ e. absurd (omega (arith, e, step .self .seated .1)))
+      (λ e. let o = with-word it Fat in
+      let saved = update (actor .ghost .saved) (actor .thread) (record { depth = it .depth }) in
+      hand-refines actor Wait o WaitGiveUp step (step .self .seated .0)
       (record {
-        contenders = contention;
-        waiters = waiting ++ (actor .thread ∷ []);
-        state = Waiting (record { depth = depth });
+        contenders = it .contention;
+        waiters = it .waiting ++ (actor .thread ∷ []);
+        state = Waiting (record { depth = it .depth });
         answer = Parked;
         commits = true;
         committed = give-up (actor .thread) (plain-at actor o);
         saved = saved;
-        does = λ k. commit-give-up (actor .thread) (plain-at actor o) (step .self .woken) (fat-owner holder depth (step .self .seated .1)
+        does = λ k. commit-give-up (actor .thread) (plain-at actor o) (step .self .woken) (fat-owner (it .holder) (it .depth) (step .self .seated .1)
             ∙ step .self .seated .0);
-        others = others-ghost (actor .thread) (actor .states) (with-waiting o (waiting ++ (actor .thread ∷ []))) (actor .ghost) (actor .ghost .woken) saved
-            (λ t n. refl) (λ t n. update-other (actor .ghost .saved) (actor .thread) (record { depth = depth }) t n)
-            (others-joined-waiting (actor .thread) (actor .states) o (actor .ghost) (λ t n. step .inv .threads t));
+        others = others-ghost (actor .thread) (actor .states) (with-waiting o (it .waiting ++ (actor .thread ∷ []))) (actor .ghost) (actor .ghost .woken) saved
+            (λ t n. refl) (λ t n. update-other (actor .ghost .saved) (actor .thread) (record { depth = it .depth }) t n)
+            (others-joined (actor .thread) (actor .states) o (actor .ghost) Chain.Waiting (λ t n. step .inv .threads t));
         self = λ next rest seated gone. record {
           seated = (λ x. omega (arith, seated x (actor .real)), actor .real);
           placed = record {
             entry = gone;
             contention = step .self .placed .contention;
-            waiting = count-joined (actor .thread) waiting ∙ ap suc (step .self .placed .waiting);
+            waiting = count-joined (actor .thread) (it .waiting) ∙ ap suc (step .self .placed .waiting);
           };
           relies = tt;
           logged = (step .self .logged .0, first-commit (step .self .logged .1));
-          saved = (update-same (actor .ghost .saved) (actor .thread) (record { depth = depth }), step .self .seated .1, step .inv .whole .monitor .0);
+          saved = (update-same (actor .ghost .saved) (actor .thread) (record { depth = it .depth }), step .self .seated .1, step .inv .whole .monitor .0);
           woken = step .self .woken;
         };
         flag = step .inv .whole .flag;
@@ -101,23 +99,22 @@ module _ (actor : Actor) where
         shows = λ next rest. refl;
         ended = tt;
       }))
-  wait-give-up-refines (Flat owner c) flag holder depth entry contention waiting step = absurd (step .self .relies .0)
-  wait-give-up-refines (Reserved owner c) flag holder depth entry contention waiting step = absurd (step .self .relies .0)
+  wait-give-up-refines it (Flat owner c) step = absurd (step .self .relies .0)
+  wait-give-up-refines it (Reserved owner c) step = absurd (step .self .relies .0)
 
-  pub wait-resume-refines : (word : WordSeen) (flag : Bool) (holder depth : ℕ) (suspension : Suspension) (entry contention waiting : List ℕ)
-      → let o = object-of word flag holder depth entry contention waiting in
+  pub wait-resume-refines : (it : ListObject) (word : WordSeen) (suspension : Suspension) → let o = with-word it word in
       Stepping actor (WaitResume suspension) o → Right actor Wait o (wait-resume (sight-of o) suspension word)
   unfolding wait-resume
-  wait-resume-refines Free flag holder depth suspension entry contention waiting step = absurd (step .self .relies .0)
-  wait-resume-refines Anonymous flag holder depth suspension entry contention waiting step = absurd (step .self .relies .0)
-  wait-resume-refines Fat flag holder depth suspension entry contention waiting step =
-      by-equal (Right actor Wait (object-of Fat flag holder depth entry contention waiting)) depth 0
-      (λ e. let o = object-of Fat flag holder depth entry contention waiting in
-      depth-refines actor Wait flag holder depth (suspension .depth) entry contention waiting step (step .self .seated .0)
+  wait-resume-refines it Free suspension step = absurd (step .self .relies .0)
+  wait-resume-refines it Anonymous suspension step = absurd (step .self .relies .0)
+  wait-resume-refines it Fat suspension step =
+      by-equal (Right actor Wait (with-word it Fat)) (it .depth) 0
+      (λ e. let o = with-word it Fat in
+      depth-refines actor Wait it (suspension .depth) step (step .self .seated .0)
       (record {
         woken = update (actor .ghost .woken) (actor .thread) false;
         does = commit-resume (actor .thread) (plain-at actor o) (step .self .woken)
-            (fat-unowned holder depth e) ∙ ap finished (same-monitor refl (ap (λ (k : Suspension). k .depth) (step .self .saved .0)));
+            (fat-unowned (it .holder) (it .depth) e) ∙ ap finished (same-monitor refl (ap (λ (k : Suspension). k .depth) (step .self .saved .0)));
         others = λ t n. update-other (actor .ghost .woken) (actor .thread) false t n;
         asleep = update-same (actor .ghost .woken) (actor .thread) false;
         above = step .self .saved .1;
@@ -125,5 +122,5 @@ module _ (actor : Actor) where
         ended = (second-commit (step .self .logged .1), refl);
       }))
       (λ e. absurd (e (step .self .seated .1)))
-  wait-resume-refines (Flat owner c) flag holder depth suspension entry contention waiting step = absurd (step .self .relies .0)
-  wait-resume-refines (Reserved owner c) flag holder depth suspension entry contention waiting step = absurd (step .self .relies .0)
+  wait-resume-refines it (Flat owner c) suspension step = absurd (step .self .relies .0)
+  wait-resume-refines it (Reserved owner c) suspension step = absurd (step .self .relies .0)

@@ -8,19 +8,21 @@ use Rattle.lock_rules.specs.declared.ThreadState.the-variants.{Idle, Run
 use Rattle.lock_rules.specs.declared.WordChange.{WordChange}
 use Rattle.lock_rules.specs.declared.WordChange.the-variants.{Unchanged, Cancelled, Inflated}
 use Rattle.lock_rules.specs.declared.Sight.{Sight}
-use Rattle.lock_rules.specs.declared.ChainAction.{ChainAction}
-use Rattle.lock_rules.specs.declared.ChainAction.the-variants.{Stay, AdmitContenders}
+use Rattle.chains.specs.declared.named.Chain.the-variants.{Contention}
+use Rattle.lock_rules.specs.declared.Taken.the-variants.{All}
+use Rattle.lock_rules.specs.declared.ChainWork.{ChainWork}
+use Rattle.lock_rules.specs.declared.ChainWork.the-variants.{Stay, Move}
 use Rattle.lock_rules.specs.declared.Answer.{Answer}
 use Rattle.lock_rules.specs.declared.Answer.the-variants.{GoneOn, Finished, NotOwner}
 use Rattle.lock_rules.specs.declared.Action.{Action}
 use Rattle.lock_rules.specs.declared.Action.the-variants.{Do}
 
--- the chains, the thread's state and the answer, with word and monitor as they are
-abbrev pub keep-object : Sight → ChainAction → ThreadState → Answer → Bool → Action
-keep-object sight chains state answer commits =
+-- the work on chains, the thread's state and the answer, with word and monitor as they are
+abbrev pub keep-object : Sight → ChainWork → ThreadState → Answer → Bool → Action
+keep-object sight work state answer commits =
     Do
     (record {
-      chains = chains;
+      work = work;
       state = state;
       word = Unchanged;
       flag = sight .flag;
@@ -47,7 +49,7 @@ abbrev pub finish-word : Sight → WordChange → Action
 finish-word sight word =
     Do
     (record {
-      chains = Stay;
+      work = Stay;
       state = Idle;
       word = word;
       flag = sight .flag;
@@ -62,7 +64,7 @@ abbrev pub finish-depth : Sight → ℕ → Action
 finish-depth sight depth =
     Do
     (record {
-      chains = Stay;
+      work = Stay;
       state = Idle;
       word = Unchanged;
       flag = sight .flag;
@@ -77,7 +79,7 @@ abbrev pub let-go : Sight → WordChange → ℕ → Doing → Action
 let-go sight word depth doing =
     Do
     (record {
-      chains = Stay;
+      work = Stay;
       state = Running doing;
       word = word;
       flag = sight .flag;
@@ -92,7 +94,7 @@ abbrev pub inflate : Sight → ℕ → ThreadState → Answer → Bool → Actio
 inflate sight depth state answer commits =
     Do
     (record {
-      chains = AdmitContenders;
+      work = Move Contention All;
       state = state;
       word = Inflated;
       flag = false;
@@ -103,11 +105,11 @@ inflate sight depth state answer commits =
     })
 
 -- the reservation is cancelled
-abbrev pub cancel-word : Sight → ChainAction → Doing → Action
-cancel-word sight chains look =
+abbrev pub cancel-word : Sight → ChainWork → Doing → Action
+cancel-word sight work look =
     Do
     (record {
-      chains = chains;
+      work = work;
       state = Running look;
       word = Cancelled;
       flag = sight .flag;
@@ -122,7 +124,7 @@ abbrev pub become-holder : ℕ → Sight → Doing → Action
 become-holder thread sight doing =
     Do
     (record {
-      chains = Stay;
+      work = Stay;
       state = Running doing;
       word = Unchanged;
       flag = sight .flag;
@@ -137,7 +139,7 @@ abbrev pub raise-flag : Sight → Action
 raise-flag sight =
     Do
     (record {
-      chains = Stay;
+      work = Stay;
       state = Running EnterTry;
       word = Unchanged;
       flag = true;

@@ -1,8 +1,8 @@
--- What an effect does to the lock word, and what the chain actions do to the threads that they move: document 01, "Steps".
+-- What an effect does to the lock word, and what the work on chains does to the threads that it moves: document 01, "Steps".
 use Prim.Native.Nat.{ℕ}
 use Rattle.lock_word.specs.Meaning.{cancelled}
 use Rattle.lock_rules.specs.Rules.{onward}
-use Rattle.lock_rules.specs.declared.Carried.the-variants.{ToResume}
+use Rattle.lock_rules.specs.declared.Carried.the-variants.{ToCheck, ToResume}
 use Rattle.lock_rules.specs.declared.Doing.{Doing}
 use Rattle.lock_rules.specs.declared.Doing.the-variants.{EnterLook, EnterStore, EnterCancel, EnterGoIn, EnterCheck, EnterTry, ExitLook}
 use Rattle.lock_rules.specs.declared.Doing.the-variants.{ExitStore, ExitGoIn, ExitTest, ExitTell, ExitLeave, WaitLook, WaitCancel, WaitGoIn}
@@ -15,13 +15,13 @@ use Rattle.lock_rules.specs.declared.WordChange.{WordChange}
 use Rattle.lock_rules.specs.declared.WordChange.the-variants.{Unchanged, Freed, OwnFlat, OwnReserved, Cancelled, Inflated}
 
 -- the word after a step of `thread`
-abbrev pub word-after : ℕ → WordChange → WordSeen → WordSeen
-word-after thread Unchanged word = word
-word-after thread Freed word = Free
-word-after thread (OwnFlat count) word = Flat thread count
-word-after thread (OwnReserved count) word = Reserved thread count
-word-after thread Cancelled word = cancelled word
-word-after thread Inflated word = Fat
+abbrev pub seen-after : ℕ → WordChange → WordSeen → WordSeen
+seen-after thread Unchanged word = word
+seen-after thread Freed word = Free
+seen-after thread (OwnFlat count) word = Flat thread count
+seen-after thread (OwnReserved count) word = Reserved thread count
+seen-after thread Cancelled word = cancelled word
+seen-after thread Inflated word = Fat
 
 -- the first of the entry chain takes its carried phase
 abbrev pub handed : ThreadState → ThreadState
@@ -31,13 +31,13 @@ handed (Queued carried) = Running (onward carried)
 handed Contending = Contending
 handed (Waiting suspension) = Waiting suspension
 
--- a waiter is woken: queued, carrying 15
-abbrev pub notified : ThreadState → ThreadState
-notified Idle = Idle
-notified (Running doing) = Running doing
-notified (Queued carried) = Queued carried
-notified Contending = Contending
-notified (Waiting suspension) = Queued (ToResume suspension)
+-- moved contenders and waiters take phase 5; contenders carry 6, waiters 15
+abbrev pub moved : ThreadState → ThreadState
+moved Idle = Idle
+moved (Running doing) = Running doing
+moved (Queued carried) = Queued carried
+moved Contending = Queued ToCheck
+moved (Waiting suspension) = Queued (ToResume suspension)
 
 -- a thread in phase 2 goes back to 1
 abbrev pub look-again : Doing → Doing

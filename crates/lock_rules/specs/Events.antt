@@ -1,15 +1,10 @@
--- Events, what each returns, and what a schedule shows of them. Nothing of a table is shown.
+-- What each event returns, and what a schedule shows of it. Nothing of a table is shown.
 use Prim.Native.Nat.{ℕ}
 use mathlib.Core.Bool.{Bool}
 use Rattle.lock_rules.specs.declared.Answer.{Answer}
 use Rattle.lock_rules.specs.declared.Answer.the-variants.{GoneOn}
+use Rattle.lock_rules.specs.declared.event.Event.{Event}
 use Rattle.lock_rules.specs.Numbers.{returned-of, woken-of}
-
-pub data Event : Type 0 where
-  -- operation's number, thread, object
-  Begin : ℕ → ℕ → ℕ → Event
-  -- one step of a thread
-  Step : ℕ → Event
 
 pub data Reply : Type 0 where
   Begun : Reply

@@ -12,7 +12,9 @@ use Rattle.lock_rules.specs.Operations.{Asked}
 use Rattle.lock_rules.specs.Operations.{Unknown, Known}
 use Rattle.lock_rules.specs.declared.Answer.{Answer}
 use Rattle.lock_rules.specs.declared.Answer.the-variants.{GoneOn, Finished, Parked, NotOwner, TooDeep, NoRule}
-use Rattle.lock_rules.specs.Events.{Event, Begin, Step, Reply, Begun, Refused, Answered, Shown}
+use Rattle.lock_rules.specs.declared.event.Event.{Event}
+use Rattle.lock_rules.specs.declared.event.Event.the-variants.{Begin, Step}
+use Rattle.lock_rules.specs.Events.{Reply, Begun, Refused, Answered, Shown}
 use Rattle.lock_rules.specs.PlainMonitor.{PlainMonitor, unowned, commit}
 
 -- a thread's last begin that returned 0: operation and object, how often it has committed since, and the plain answer of its last commit

@@ -4,6 +4,7 @@ pub mod Operations
 pub mod Numbers
 pub mod Actions
 pub mod Rules
+pub mod Gate
 pub mod Changes
 pub mod Status
 pub mod Events

@@ -11,6 +11,16 @@ use Rattle.lock_rules.specs.declared.Doing.the-variants.{ExitStore, Exit
 use Rattle.lock_rules.specs.declared.Doing.the-variants.{WaitInflate, WaitGiveUp, WaitResume, NotifyLook, NotifyAllLook}
 use Rattle.lock_rules.specs.declared.ThreadState.{ThreadState}
 use Rattle.lock_rules.specs.declared.ThreadState.the-variants.{Idle, Running, Queued, Contending, Waiting}
+use Rattle.lock_rules.specs.declared.event.Refusal.{Refusal}
+use Rattle.lock_rules.specs.declared.event.Refusal.the-variants.{
+  NotSound,
+  NoSuchThread,
+  NoSuchObject,
+  NotIdle,
+  ThreadIdle,
+  ThreadParked,
+  NoSuchOperation,
+}
 use Rattle.lock_rules.specs.declared.Answer.{Answer}
 use Rattle.lock_rules.specs.declared.Answer.the-variants.{GoneOn, Finished, Parked, NotOwner, TooDeep, NoRule}
 
@@ -53,7 +63,19 @@ phase-of (Queued carried) = 5
 phase-of Contending = 8
 phase-of (Waiting suspension) = 14
 
--- document 01, "Returned first"
+-- document 01, "Returned first": an event is refused with any number from this one up
+abbrev pub first-refusal : ℕ
+first-refusal = 11
+
+unfoldable pub refusal-number : Refusal → ℕ
+refusal-number NotSound = first-refusal
+refusal-number NoSuchThread = 12
+refusal-number NoSuchObject = 13
+refusal-number NotIdle = 14
+refusal-number ThreadIdle = 15
+refusal-number ThreadParked = 16
+refusal-number NoSuchOperation = 17
+
 abbrev pub returned-of : Answer → ℕ
 returned-of GoneOn = 0
 returned-of (Finished woken) = 1

@@ -22,8 +22,9 @@ use Rattle.lock_word.specs.declared.meaning.WordSeen.the-variants.{Free, Anonym
 use Rattle.lock_rules.specs.declared.WordChange.{WordChange}
 use Rattle.lock_rules.specs.declared.WordChange.the-variants.{Unchanged, Freed, OwnFlat, OwnReserved}
 use Rattle.lock_rules.specs.declared.Sight.{Sight}
-use Rattle.lock_rules.specs.declared.ChainAction.the-variants.{Stay, JoinEntry, Contend, GiveUp, HandOver, TellFirst, WakeFirst, WakeAll}
-use Rattle.lock_rules.specs.declared.ChainAction.the-variants.{SendBack}
+use Rattle.chains.specs.declared.named.Chain.{Chain}
+use Rattle.lock_rules.specs.declared.Taken.the-variants.{First, All}
+use Rattle.lock_rules.specs.declared.ChainWork.the-variants.{Stay, Join, JoinAndHand, Hand, Move, SendBack}
 use Rattle.lock_rules.specs.declared.Answer.the-variants.{GoneOn, Finished, Parked, TooDeep}
 use Rattle.lock_rules.specs.declared.Action.{Action}
 use Rattle.lock_rules.specs.declared.Action.the-variants.{Unruled}
@@ -91,7 +92,7 @@ wait-owned sight (Reserved owner count) = go-on sight WaitCancel
 unfoldable pub notify-owned : Sight → WordSeen → Action
 notify-owned sight Free = not-owner sight
 notify-owned sight Anonymous = not-owner sight
-notify-owned sight Fat = pick (eqb (sight .waiters) 0) (finish sight) (keep-object sight WakeFirst Idle (Finished 1) true)
+notify-owned sight Fat = pick (eqb (sight .waiters) 0) (finish sight) (keep-object sight (Move Chain.Waiting First) Idle (Finished 1) true)
 notify-owned sight (Flat owner count) = finish sight
 notify-owned sight (Reserved owner count) = finish sight
 
@@ -99,7 +100,7 @@ notify-owned sight (Reserved owner count) = finish sight
 unfoldable pub notify-all-owned : Sight → WordSeen → Action
 notify-all-owned sight Free = not-owner sight
 notify-all-owned sight Anonymous = not-owner sight
-notify-all-owned sight Fat = keep-object sight WakeAll Idle (Finished (sight .waiters)) true
+notify-all-owned sight Fat = keep-object sight (Move Chain.Waiting All) Idle (Finished (sight .waiters)) true
 notify-all-owned sight (Flat owner count) = finish sight
 notify-all-owned sight (Reserved owner count) = finish sight
 
@@ -131,7 +132,7 @@ go-in-again sight (ToResume suspension) = Unruled
 unfoldable pub go-in : ℕ → Sight → Carried → Action
 go-in thread sight carried =
     pick (eqb (sight .holder) 0) (become-holder thread sight (onward carried))
-    (pick (eqb (sight .holder) thread) (go-in-again sight carried) (keep-object sight JoinEntry (Queued carried) Parked false))
+    (pick (eqb (sight .holder) thread) (go-in-again sight carried) (keep-object sight (Join Chain.Entry) (Queued carried) Parked false))
 
 -- 6 check: fat and depth 0, depth 1, finish (c). Flat own, inflate to count + 2, finish (c). Free or flat of another, flag 1, to 7. Else 20.
 unfoldable pub enter-check : ℕ → Sight → WordSeen → Action
@@ -146,7 +147,7 @@ unfoldable pub enter-try : ℕ → Sight → WordSeen → Action
 enter-try thread sight Free = inflate sight 1 Idle (Finished 0) true
 enter-try thread sight Anonymous = Unruled
 enter-try thread sight Fat = Unruled
-enter-try thread sight (Flat owner count) = pick (eqb owner thread) Unruled (keep-object sight Contend Contending Parked false)
+enter-try thread sight (Flat owner count) = pick (eqb owner thread) Unruled (keep-object sight (JoinAndHand Chain.Contention) Contending Parked false)
 enter-try thread sight (Reserved owner count) = Unruled
 
 -- 9 test: flag 0, finish; flag 1, to 4
@@ -156,12 +157,12 @@ exit-test sight = pick (sight .flag) (go-on sight ExitGoIn) (keep-object sight S
 -- 10 tell: if the flag is 1, the first contender, if any, goes to entry carrying 6. To 11.
 unfoldable pub exit-tell : Sight → Action
 exit-tell sight =
-    pick (sight .flag) (pick (sight .contentionempty) (go-on sight ExitLeave) (keep-object sight TellFirst (Running ExitLeave) GoneOn false))
+    pick (sight .flag) (pick (sight .contentionempty) (go-on sight ExitLeave) (keep-object sight (Move Chain.Contention First) (Running ExitLeave) GoneOn false))
     (go-on sight ExitLeave)
 
 -- 11 leave: depth 0, hand, finish; else 20
 unfoldable pub exit-leave : Sight → Action
-exit-leave sight = pick (eqb (sight .depth) 0) (keep-object sight HandOver Idle (Finished 0) false) Unruled
+exit-leave sight = pick (eqb (sight .depth) 0) (keep-object sight Hand Idle (Finished 0) false) Unruled
 
 -- 12 inflate: flat own, inflate to count + 1, to 13; else 20
 unfoldable pub wait-inflate : ℕ → Sight → WordSeen → Action
@@ -176,7 +177,7 @@ unfoldable pub wait-give-up : Sight → WordSeen → Action
 wait-give-up sight Free = Unruled
 wait-give-up sight Anonymous = Unruled
 wait-give-up sight Fat =
-    pick (eqb (sight .depth) 0) Unruled (keep-object sight GiveUp (Waiting (record { depth = sight .depth })) Parked true)
+    pick (eqb (sight .depth) 0) Unruled (keep-object sight (JoinAndHand Chain.Waiting) (Waiting (record { depth = sight .depth })) Parked true)
 wait-give-up sight (Flat owner count) = Unruled
 wait-give-up sight (Reserved owner count) = Unruled
 

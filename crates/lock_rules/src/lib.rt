@@ -1,5 +1,12 @@
 // What a thread is doing, what it sees of its object, and what a step decides: document 01, "The table" and "Steps".
 // Nothing here knows of tables or of the links of a chain.
+mod event;
+
+use chains::Chain;
+pub use event::Event;
+pub use event::Gate;
+pub use event::Refusal;
+pub use event::ThreadStatus;
 use lock_word::Depth;
 use lock_word::WordSeen;
 
@@ -70,17 +77,19 @@ pub struct Sight {
     pub waiters: u8, // how many are in the waiting chain
 }
 
-// What a step does with the chains of its object.
-pub enum ChainAction {
+// Which threads of a chain a move takes.
+pub enum Taken {
+    First, // the first, if there is one
+    All, // all, in order
+}
+
+// What a step does with the chains of its object. A moved thread goes to the end of entry and is queued: a contender carries 6, a waiter 15.
+pub enum ChainWork {
     Stay, // nothing
-    JoinEntry, // the thread joins entry
-    Contend, // the thread joins contention, then hands the monitor over
-    GiveUp, // the thread joins waiting, then hands the monitor over
-    HandOver, // the first of entry leaves it and becomes holder at depth 0
-    AdmitContenders, // all contenders move in order to entry, carrying 6
-    TellFirst, // the first contender moves to entry, carrying 6
-    WakeFirst, // the first waiter moves to entry, carrying 15
-    WakeAll, // all waiters move in order to entry, carrying 15
+    Join(Chain), // the thread joins that chain
+    JoinAndHand(Chain), // the thread hands the monitor over and joins that chain, which is not entry
+    Hand, // the first of entry leaves it and becomes holder at depth 0
+    Move(Chain, Taken), // these threads of that chain move to entry
     SendBack(u16), // that thread, if it is at its store, goes back to its look
 }
 
@@ -94,10 +103,10 @@ pub enum Answer {
     NoRule, // 20
 }
 
-// What a rule does: the chains, the thread's next state, the word, flag, holder and depth after it, the answer, and whether it commits.
-// Where the chain action hands the monitor over, holder and depth are set by the handing.
+// What a rule does: the work on chains, the thread's next state, the word, flag, holder and depth after it, the answer, and whether it commits.
+// Where the work hands the monitor over, holder and depth are set by the handing.
 pub struct Effect {
-    pub chains: ChainAction,
+    pub work: ChainWork,
     pub state: ThreadState,
     pub word: WordChange,
     pub flag: bool,

@@ -1,49 +1,47 @@
--- A run goes on by one event, ends where fewer than three bytes are left, and comes to a table of which demand 3 holds.
+-- A run goes on by one event, ends where none is left, and comes to a table of which demand 3 holds.
 use Prim.Native.Nat.{ℕ, _+_, _-_, _≤_, _<_}
 use mathlib.Core.Path.{_≡_, sym, ap, _∙_, subst}
 use mathlib.Core.Bool.{Bool}
 use mathlib.Core.List.{List}
-use lib.ListN.{length, getD, drop}
-use Rattle.lock_rules.specs.Events.{Event}
-use Rattle.lock_table.specs.Fresh.{freshOf}
+use Rattle.lock_rules.specs.declared.event.Event.{Event}
+use Rattle.lock_table.specs.Fresh.{fresh-of}
 use Rattle.lock_table.specs.declared.record.Table.{Table}
 use Rattle.lock_table.specs.declared.fresh_table.FreshAnswer.{FreshAnswer}
 use Rattle.lock_table.specs.declared.fresh_table.FreshAnswer.the-variants.{Made}
 use Rattle.lock_table.specs.declared.fresh_table.FreshTable.{FreshTable}
 use Rattle.lock_records.proofs.FreshRecords.{fresh-made}
-use Rattle.lock_schedule.specs.Schedule.{finalOf}
+use Rattle.lock_schedule.specs.Schedule.{final-of}
 use Rattle.lock_schedule.specs.Demand.{Claim}
-use Rattle.lock_schedule.specs.Encoding.{eventsOf}
-use Rattle.lock_schedule.specs.Runs.{runEventOf, runFreshOf, runOf, ClaimOfRun}
+use Rattle.event_bytes.specs.Encoding.{event-size, event-at, events-from}
+use Rattle.event_bytes.proofs.Encoding.{events-next, events-end}
+use Rattle.lock_engine.specs.Handle.{handle}
+use Rattle.lock_engine.specs.declared.outcome.Outcome.{Outcome}
+use Rattle.lock_schedule.specs.Runs.{run-fresh, run-of, ClaimOfRun}
 use Rattle.lock_schedule.specs.declared.running.RunResult.{RunResult}
-use Rattle.lock_schedule.proofs.Encoding.{events-end, events-next}
 use Rattle.lock_schedule.proofs.Theorem.{demand-three}
 
-module _ (bytes : List ℕ) (at : ℕ) (table : Table) where
-  pub run-ends : length bytes - at < 3 → finalOf table (eventsOf (drop at bytes)) ≡ table
-  run-ends few = ap (finalOf table) (events-end at bytes few)
+module _ (bytes : List ℕ) (at : ℕ) (table : Table) {left : ℕ} where
+  pub run-ends : left ≤ 0 → final-of table (events-from left bytes at) ≡ table
+  run-ends none = ap (final-of table) (events-end none bytes at)
 
-  pub run-goes-on : {next : Table} → at ≤ length bytes → 3 ≤ length bytes - at
-      → next ≡ runEventOf table (getD bytes at 0) (getD bytes (at + 1) 0) (getD bytes (at + 2) 0)
-      → finalOf table (eventsOf (drop at bytes)) ≡ finalOf next (eventsOf (drop (at + 3) bytes))
-  unfolding runEventOf
-  run-goes-on inside three gave =
-      ap (finalOf table) (events-next at bytes inside three) ∙ ap (λ (t : Table). finalOf t (eventsOf (drop (at + 3) bytes))) (sym gave)
+  pub run-goes-on : {event : Event} {outcome : Outcome} → 0 < left → event ≡ event-at bytes at → outcome ≡ handle table event
+      → final-of table (events-from left bytes at) ≡ final-of (outcome .table) (events-from (left - 1) bytes (at + event-size))
+  run-goes-on some is gave = rw (gave, is) (ap (final-of table) (events-next some bytes at))
 
 -- with a table made the run is that of the schedule
 made-runs : (events : List Event) (fresh : FreshTable) → fresh .answer ≡ Made
-    → runFreshOf (fresh .answer) (fresh .table) events .table ≡ finalOf (fresh .table) events
-unfolding runFreshOf
-made-runs events fresh made = ap (λ (answer : FreshAnswer). runFreshOf answer (fresh .table) events .table) made
+    → run-fresh (fresh .answer) (fresh .table) events .table ≡ final-of (fresh .table) events
+unfolding run-fresh
+made-runs events fresh made = ap (λ (answer : FreshAnswer). run-fresh answer (fresh .table) events .table) made
 
 module _ (threads objects : ℕ) (reserved : Bool) (events : List Event) {result : RunResult} where
-  pub run-same : {fresh : FreshTable} → fresh ≡ freshOf threads objects reserved → result ≡ runFreshOf (fresh .answer) (fresh .table) events
-      → result ≡ runOf threads objects reserved events
-  run-same gave ran = ran ∙ ap (λ (fresh : FreshTable). runFreshOf (fresh .answer) (fresh .table) events) gave
+  pub run-same : {fresh : FreshTable} → fresh ≡ fresh-of threads objects reserved → result ≡ run-fresh (fresh .answer) (fresh .table) events
+      → result ≡ run-of threads objects reserved events
+  run-same gave ran = ran ∙ ap (λ (fresh : FreshTable). run-fresh (fresh .answer) (fresh .table) events) gave
 
-  pub run-claimed : result ≡ runOf threads objects reserved events → ClaimOfRun threads objects reserved events result
+  pub run-claimed : result ≡ run-of threads objects reserved events → ClaimOfRun threads objects reserved events result
   run-claimed same some-threads thread-room some-objects object-room =
-      let fresh = freshOf threads objects reserved in
+      let fresh = fresh-of threads objects reserved in
       let made = fresh-made threads objects reserved some-threads thread-room some-objects object-room in
       subst (Claim (fresh .table) events)
       (sym (ap (λ (r : RunResult). r .table) same ∙ made-runs events fresh (ap (λ (f : FreshTable). f .answer) made)))

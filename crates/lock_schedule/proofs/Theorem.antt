@@ -1,17 +1,20 @@
--- Demand 3, and that every event on any sound table gives a sound table.
+-- Demand 3, and that every event on any sound table gives a sound table, whole as the code's tables are.
 use Prim.Native.Nat.{ℕ, _≤_}
 use mathlib.Core.Path.{_≡_, refl, sym, ap, _∙_, subst, subst₂}
 use mathlib.Core.Bool.{Bool, true}
 use mathlib.Core.List.{List, [], _∷_}
-use Rattle.lock_rules.specs.Events.{Event, Shown}
+use Rattle.lock_rules.specs.declared.event.Event.{Event}
+use Rattle.lock_rules.specs.Events.{Shown}
 use Rattle.lock_rules.specs.Feed.{feed-all, blank}
 use Rattle.lock_rules.proofs.Turns.{TurnOf, turn-on, final-on, shown-on}
 use Rattle.lock_rules.proofs.Tables.{ListTable, turn, fresh}
 use Rattle.lock_rules.proofs.ListSound.{SoundTable}
 use Rattle.lock_rules.proofs.SoundKept.{sound-fresh}
-use Rattle.lock_table.specs.Fresh.{freshOf}
+use Rattle.lock_table.specs.Whole.{Whole}
+use Rattle.lock_table.specs.Fresh.{fresh-of}
 use Rattle.lock_table.specs.declared.record.Table.{Table}
-use Rattle.lock_soundness.specs.Sound.{soundOf}
+use Rattle.lock_soundness.specs.Sound.{sound-of}
+use Rattle.lock_engine.specs.Handle.{handle}
 use Rattle.lock_soundness.proofs.Reading.{sound-reads}
 use Rattle.lock_records.specs.Agrees.{Agrees, Ruled}
 use Rattle.lock_records.proofs.Represents.{Represents}
@@ -19,37 +22,38 @@ use Rattle.lock_records.proofs.RecordKind.{record-kind, turn-represents}
 use Rattle.lock_records.proofs.FreshRecords.{fresh-represents}
 use Rattle.lock_records.proofs.Claim.{schedule-represents, schedule-agrees}
 use Rattle.lock_records.proofs.Ruled.{schedule-ruled}
-use Rattle.record_soundness.proofs.RepresentedSound.{represented-sound}
-use Rattle.record_soundness.proofs.SoundRepresents.{sound-represents}
-use Rattle.lock_schedule.specs.Schedule.{eventOf, finalOf, shownOf}
+use Rattle.lock_records.proofs.RepresentedSound.{represented-sound}
+use Rattle.lock_records.proofs.SoundRepresents.{sound-represents}
+use Rattle.lock_schedule.specs.Schedule.{final-of, shown-of}
 use Rattle.lock_schedule.specs.Demand.{DemandThree, SoundKept}
 use Rattle.lock_schedule.proofs.Turns.{turn-of, event-is-turn}
+use Rattle.lock_schedule.proofs.FreshWhole.{represented-whole}
 
 module _ (threads objects : ℕ) (some-threads : 1 ≤ threads) (some-objects : 1 ≤ objects) where
   -- one event of the engine, on a table that represents a sound one
   event-same : (t : Table) (lists : ListTable) → Represents threads objects t lists → SoundTable threads objects lists → (event : Event)
-      → turn-of (eventOf t event) ≡ turn-on record-kind threads objects t event
+      → turn-of (handle t event) ≡ turn-on record-kind threads objects t event
   event-same t lists represents sound event =
       event-is-turn t (represented-sound threads objects t lists some-threads some-objects represents sound) event
       ∙ (λ j. turn-on record-kind (represents .threadcount j) (represents .objectcount j) t event)
 
   -- a whole schedule: the same table, and the same is shown
   schedule-same : (events : List Event) (t : Table) (lists : ListTable) → Represents threads objects t lists → SoundTable threads objects lists
-      → (finalOf t events ≡ final-on record-kind threads objects t events) × (shownOf t events ≡ shown-on record-kind threads objects t events)
+      → (final-of t events ≡ final-on record-kind threads objects t events) × (shown-of t events ≡ shown-on record-kind threads objects t events)
   schedule-same [] t lists represents sound = (refl, refl)
   schedule-same (event ∷ rest) t lists represents sound =
       let same = event-same t lists represents sound event in
-      let table : eventOf t event .table ≡ turn-on record-kind threads objects t event .table = ap (λ (x : TurnOf Table). x .table) same in
+      let table : handle t event .table ≡ turn-on record-kind threads objects t event .table = ap (λ (x : TurnOf Table). x .table) same in
       let (after, sound-after, reply) = turn-represents threads objects t lists represents sound event in
       let (last, shown) = schedule-same rest (turn-on record-kind threads objects t event .table) (turn threads objects lists event .table) after sound-after in (
-        ap (λ (x : Table). finalOf x rest) table ∙ last,
-        λ j. record { event = event; reply = same j .reply } ∷ (ap (λ (x : Table). shownOf x rest) table ∙ shown) j,
+        ap (λ (x : Table). final-of x rest) table ∙ last,
+        λ j. record { event = event; reply = same j .reply } ∷ (ap (λ (x : Table). shown-of x rest) table ∙ shown) j,
       )
 
 pub demand-three : DemandThree
 demand-three threads objects some-threads thread-room some-objects object-room reserved events =
     let (last, shown) =
-    schedule-same threads objects some-threads some-objects events (freshOf threads objects reserved .table) (fresh reserved)
+    schedule-same threads objects some-threads some-objects events (fresh-of threads objects reserved .table) (fresh reserved)
     (fresh-represents threads objects reserved some-threads thread-room some-objects object-room) (sound-fresh threads objects reserved) in (
       subst₂ (λ (x : Table) (y : List Shown). Agrees x (feed-all blank y)) (sym last) (sym shown)
           (schedule-agrees threads objects some-threads thread-room some-objects object-room reserved events),
@@ -57,21 +61,34 @@ demand-three threads objects some-threads thread-room some-objects object-room r
     )
 
 pub reached-sound : (threads objects : ℕ) → 1 ≤ threads → threads ≤ 32 → 1 ≤ objects → objects ≤ 64 → (reserved : Bool) (events : List Event)
-    → soundOf (finalOf (freshOf threads objects reserved .table) events) ≡ true
+    → sound-of (final-of (fresh-of threads objects reserved .table) events) ≡ true
 reached-sound threads objects some-threads thread-room some-objects object-room reserved events =
     let (represents, sound, same) = schedule-represents threads objects some-threads thread-room some-objects object-room reserved events in
     let (last, shown) =
-    schedule-same threads objects some-threads some-objects events (freshOf threads objects reserved .table) (fresh reserved)
+    schedule-same threads objects some-threads some-objects events (fresh-of threads objects reserved .table) (fresh reserved)
     (fresh-represents threads objects reserved some-threads thread-room some-objects object-room) (sound-fresh threads objects reserved) in
     rw last (represented-sound threads objects _ _ some-threads some-objects represents sound)
+
+-- what an event makes of a sound table represents sound lists again
+event-represents : (t : Table) → Whole t → sound-of t ≡ true → (event : Event)
+    → (lists : ListTable) × Represents (t .threadcount) (t .objectcount) (handle t event .table) lists × SoundTable (t .threadcount) (t .objectcount) lists
+event-represents t whole sound event =
+    let (lists, represents, fine) = sound-represents t (whole .threads) (whole .objects) (λ o real inside. whole .depths o) sound in
+    let (after, fine-after, reply) = turn-represents (t .threadcount) (t .objectcount) t lists represents fine event in (
+      turn (t .threadcount) (t .objectcount) lists event .table,
+      rw (ap (λ (x : TurnOf Table). x .table) (event-is-turn t sound event)) after,
+      fine-after,
+    )
 
 -- a sound table stays sound
 pub sound-kept : SoundKept
 sound-kept t whole sound event =
-    let (lists, represents, fine) = sound-represents t (whole .threads) (whole .objects) (λ o real inside. whole .depths o) sound in
+    let (lists, represents, fine) = event-represents t whole sound event in
     let (threads, objects) = sound-reads t sound .sizes in
-    let (after, fine-after, reply) = turn-represents (t .threadcount) (t .objectcount) t lists represents fine event in
-    let same = event-is-turn t sound event in
-    rw (ap (λ (x : TurnOf Table). x .table) same)
-    (represented-sound (t .threadcount) (t .objectcount) (turn-on record-kind (t .threadcount) (t .objectcount) t event .table)
-    (turn (t .threadcount) (t .objectcount) lists event .table) (threads .0) (objects .0) after fine-after)
+    represented-sound (t .threadcount) (t .objectcount) (handle t event .table) lists (threads .0) (objects .0) represents fine
+
+-- and whole
+pub whole-kept : (t : Table) → Whole t → sound-of t ≡ true → (event : Event) → Whole (handle t event .table)
+whole-kept t whole sound event =
+    let (lists, represents, fine) = event-represents t whole sound event in
+    represented-whole (t .threadcount) (t .objectcount) (handle t event .table) lists represents fine

@@ -1,114 +1,230 @@
--- On a sound table an event of the engine is the event of the kind of record tables, to which the list machine's laws apply.
-use Prim.Native.Nat.{ℕ}
-use mathlib.Core.Path.{_≡_, refl, sym, ap, _∙_}
+-- An event of the engine on a sound table is the turn of the tables of records: what the gate lets through is the begin or the step there.
+use Prim.Native.Nat.{ℕ, zero, suc, _≤_}
+use mathlib.Core.Path.{_≡_, refl, sym, ap, _∙_, subst}
 use mathlib.Core.Bool.{Bool, true, false}
+use native.Mathlib.Omega.{arith}
+use lib.Dec.{T, leb}
+use borrow.Author.Tests.{le-leb, lt-leb}
 use Rattle.laws.specs.Choice.{pick, within}
-use Rattle.lock_word.specs.Read.{decodeOf}
+use Rattle.laws.proofs.Choice.{false≢true}
+use Rattle.lock_word.specs.Read.{read-word}
 use Rattle.lock_word.specs.declared.reading.Decoded.{Decoded}
 use Rattle.lock_word.specs.declared.reading.Decoded.the-variants.{Valid, Invalid}
-use Rattle.lock_rules.specs.Numbers.{asked-for}
+use Rattle.lock_rules.specs.Gate.{gate, event-thread}
+use Rattle.lock_rules.specs.Operations.{operation-limit}
+use Rattle.lock_rules.specs.Numbers.{asked-for, refusal-number}
+use Rattle.lock_rules.specs.Operations.{Asked}
 use Rattle.lock_rules.specs.Rules.{decide}
-use Rattle.lock_rules.specs.Operations.{Asked, Operation as AskedOperation}
-use Rattle.lock_rules.specs.Operations.{Enter as AskEnter, Exit as AskExit, Wait as AskWait, Notify as AskNotify, NotifyAll as AskNotifyAll}
-use Rattle.lock_rules.specs.Events.{Event, Begin, Step}
+use Rattle.lock_rules.specs.Status.{unfinished}
+use Rattle.lock_rules.specs.declared.event.Event.{Event}
+use Rattle.lock_rules.specs.declared.event.Event.the-variants.{Begin, Step}
+use Rattle.lock_rules.specs.declared.event.ThreadStatus.{ThreadStatus}
+use Rattle.lock_rules.specs.declared.event.ThreadStatus.the-variants.{Ready}
+use Rattle.lock_rules.specs.declared.event.Refusal.the-variants.{NotSound}
+use Rattle.lock_rules.specs.declared.event.Gate.{Gate}
+use Rattle.lock_rules.specs.declared.event.Gate.the-variants.{Open}
+use Rattle.lock_rules.specs.declared.Carried.the-variants.{ToCheck, ToTell, ToInflate, ToResume}
 use Rattle.lock_rules.specs.declared.Doing.{Doing}
+use Rattle.lock_rules.specs.declared.Doing.the-variants.{EnterLook, EnterStore, EnterCancel, EnterGoIn, EnterCheck, EnterTry, ExitLook}
+use Rattle.lock_rules.specs.declared.Doing.the-variants.{ExitStore, ExitGoIn, ExitTest, ExitTell, ExitLeave, WaitLook, WaitCancel, WaitGoIn}
+use Rattle.lock_rules.specs.declared.Doing.the-variants.{WaitInflate, WaitGiveUp, WaitResume, NotifyLook, NotifyAllLook}
 use Rattle.lock_rules.specs.declared.ThreadState.{ThreadState}
 use Rattle.lock_rules.specs.declared.ThreadState.the-variants.{Idle, Running, Queued, Contending, Waiting}
 use Rattle.lock_rules.specs.declared.Action.{Action}
 use Rattle.lock_rules.specs.declared.Action.the-variants.{Unruled, Do}
-use Rattle.lock_rules.proofs.Turns.{TurnOf, refuse, begin-thread, begin-asked, step-thread, turn-on}
-use Rattle.lock_table.specs.Operation.{operationFromOf}
-use Rattle.lock_table.specs.Access.{threadAt, objectAt}
+use Rattle.lock_rules.proofs.Gate.{Passed, by-gate}
+use Rattle.lock_rules.proofs.Turns.{TurnOf, status-of, begin-asked, step-thread, through, turn-on}
+use Rattle.lock_table.specs.Limits.{thread-limit, object-limit}
+use Rattle.lock_table.specs.Operation.{operation-from}
+use Rattle.lock_table.specs.Access.{thread-at, set-thread, object-at, set-object}
 use Rattle.lock_table.specs.declared.operation.Operation.{Operation}
 use Rattle.lock_table.specs.declared.operation.Operation.the-variants.{Idle as NoOperation, Enter, Exit, Wait, Notify, NotifyAll}
+use Rattle.lock_table.specs.declared.record.ThreadRecord.{ThreadRecord}
 use Rattle.lock_table.specs.declared.record.ObjectRecord.{ObjectRecord}
 use Rattle.lock_table.specs.declared.record.Table.{Table}
-use Rattle.lock_perform.specs.State.{stateOf}
-use Rattle.lock_perform.specs.Sight.{sightOf}
-use Rattle.lock_soundness.specs.Sound.{soundOf}
-use Rattle.lock_records.proofs.Operations.{operation-of, asked-of, asked-from}
+use Rattle.lock_table.proofs.Records.{object-unchanged}
+use Rattle.lock_perform.specs.State.{read-thread, write-thread, doing-record, carried-record}
+use Rattle.lock_perform.specs.Sight.{sight-at}
+use Rattle.lock_perform.specs.Perform.{stays}
+use Rattle.lock_soundness.specs.Sound.{sound-of}
+use Rattle.lock_soundness.proofs.Reading.{sound-reads}
+use Rattle.lock_records.proofs.Operations.{asked-of, asked-from}
 use Rattle.lock_records.proofs.RecordKind.{record-kind, step-acts, step-reads}
-use Rattle.lock_engine.specs.Outcome.{refusalNumberOf}
-use Rattle.lock_engine.specs.Begin.{beginOf, beginTrusting, beginRanged, beginOperation, beginObject, beginThread}
-use Rattle.lock_engine.specs.Step.{stepOf, stepTrusting, stepRanged, stepThread, stepWord, settleOf}
+use Rattle.lock_records.proofs.Settled.{settled-performs}
+use Rattle.lock_records.proofs.ReadBack.{IsWritten, state-back}
+use Rattle.lock_records.proofs.EveryNumber.{written-at}
+use Rattle.lock_engine.specs.Turn.{begun, begin-turn, action-turn, word-turn, state-turn, step-turn, open-turn, gate-turn, refused}
+use Rattle.lock_gate.specs.Status.{thread-status}
+use Rattle.lock_engine.specs.Handle.{event-object, waiters-of, trusted, outcome-of, handle-with, handle-trusting, handle}
 use Rattle.lock_engine.specs.declared.outcome.Outcome.{Outcome}
-use Rattle.lock_schedule.specs.Schedule.{eventOf, replyShown}
+use Rattle.lock_engine.specs.declared.turning.Turn.{Turn}
+use Rattle.lock_engine.proofs.Refused.{refused-stays}
+use Rattle.lock_table.proofs.Records.{thread-unchanged, object-beside-thread}
+use Rattle.lock_engine.proofs.Narrow.{sizes}
+use Rattle.lock_schedule.specs.Schedule.{reply-shown}
 
 -- an outcome, as the list machine has it
 abbrev pub turn-of : Outcome → TurnOf Table
-turn-of outcome = record { table = outcome .table; reply = replyShown (outcome .reply) (outcome .commits) }
+turn-of outcome = record { table = outcome .table; reply = reply-shown (outcome .reply) (outcome .commits) }
+
+abbrev is-none : Operation → Bool
+is-none NoOperation = true
+is-none Enter = false
+is-none Exit = false
+is-none Wait = false
+is-none Notify = false
+is-none NotifyAll = false
+
+-- a number that is an operation's gives one
+known-operation : (number : ℕ) → within 1 operation-limit number ≡ true → operation-from number ≡ NoOperation → ⊥
+unfolding operation-from
+known-operation zero inside none = false≢true inside
+known-operation (suc zero) inside none = false≢true (ap is-none none)
+known-operation (suc (suc zero)) inside none = false≢true (ap is-none none)
+known-operation (suc (suc (suc zero))) inside none = false≢true (ap is-none none)
+known-operation (suc (suc (suc (suc zero)))) inside none = false≢true (ap is-none none)
+known-operation (suc (suc (suc (suc (suc zero))))) inside none = false≢true (ap is-none none)
+known-operation (suc (suc (suc (suc (suc (suc more)))))) inside none =
+    let number = suc (suc (suc (suc (suc (suc more))))) in
+    false≢true (rw (le-leb 1 number (omega arith), lt-leb number operation-limit (omega arith)) at inside)
+
+-- the status of a record that is written is that of its state
+status-doing : (n o : ℕ) (doing : Doing) (next : ℕ) → thread-status (doing-record n o doing next .phase) ≡ Ready
+unfolding thread-status doing-record
+status-doing n o EnterLook next = refl
+status-doing n o (EnterStore count) next = refl
+status-doing n o EnterCancel next = refl
+status-doing n o EnterGoIn next = refl
+status-doing n o EnterCheck next = refl
+status-doing n o EnterTry next = refl
+status-doing n o ExitLook next = refl
+status-doing n o (ExitStore count) next = refl
+status-doing n o ExitGoIn next = refl
+status-doing n o ExitTest next = refl
+status-doing n o ExitTell next = refl
+status-doing n o ExitLeave next = refl
+status-doing n o WaitLook next = refl
+status-doing n o WaitCancel next = refl
+status-doing n o WaitGoIn next = refl
+status-doing n o WaitInflate next = refl
+status-doing n o WaitGiveUp next = refl
+status-doing n o (WaitResume suspension) next = refl
+status-doing n o NotifyLook next = refl
+status-doing n o NotifyAllLook next = refl
+
+status-written : (n o : ℕ) (state : ThreadState) (next : ℕ) → thread-status (write-thread n o state next .phase) ≡ status-of state
+unfolding thread-status write-thread carried-record
+status-written n o Idle next = refl
+status-written n o (Running doing) next = status-doing n o doing next
+status-written n o (Queued ToCheck) next = refl
+status-written n o (Queued ToTell) next = refl
+status-written n o (Queued ToInflate) next = refl
+status-written n o (Queued (ToResume suspension)) next = refl
+status-written n o Contending next = refl
+status-written n o (Waiting suspension) next = refl
 
 module _ (t : Table) where
-  -- begin: 14
-  thread-begins : (operation : AskedOperation) (thread object : ℕ) (state : ThreadState)
-      → turn-of (beginThread t thread (operation-of operation) object state) ≡ begin-thread record-kind t operation thread object state
-  unfolding beginThread refusalNumberOf
-  thread-begins operation thread object Idle = refl
-  thread-begins operation thread object (Running doing) = refl
-  thread-begins operation thread object (Queued carried) = refl
-  thread-begins operation thread object Contending = refl
-  thread-begins operation thread object (Waiting suspension) = refl
+  -- a begin: the object is written as it stands
+  begin-settles : (n o : ℕ) (operation : Operation)
+      → outcome-of t n o (begin-turn (object-at t o) operation o) .table ≡ set-thread t n (begun operation o)
+  unfolding stays
+  begin-settles n o operation =
+      let after = set-thread t n (begun operation o) in
+      subst (λ (object : ObjectRecord). set-object after o object ≡ after) (object-beside-thread t n o (begun operation o)) (object-unchanged after o)
 
-  -- 13
-  object-begins : (operation : AskedOperation) (thread object : ℕ) (inrange : Bool)
-      → turn-of (beginObject t thread (operation-of operation) object inrange)
-      ≡ pick inrange (begin-thread record-kind t operation thread object (stateOf (threadAt t thread))) (refuse record-kind t 13)
-  unfolding beginObject refusalNumberOf
-  object-begins operation thread object true = thread-begins operation thread object (stateOf (threadAt t thread))
-  object-begins operation thread object false = refl
-
-  -- 17
-  operation-begins : (operation : Operation) (thread object : ℕ)
-      → turn-of (beginOperation t thread operation object (within 1 (t .objectcount) object))
-      ≡ begin-asked record-kind (t .objectcount) t (asked-of operation) thread object
-  unfolding beginOperation refusalNumberOf
-  operation-begins NoOperation thread object = refl
-  operation-begins Enter thread object = object-begins AskEnter thread object (within 1 (t .objectcount) object)
-  operation-begins Exit thread object = object-begins AskExit thread object (within 1 (t .objectcount) object)
-  operation-begins Wait thread object = object-begins AskWait thread object (within 1 (t .objectcount) object)
-  operation-begins Notify thread object = object-begins AskNotify thread object (within 1 (t .objectcount) object)
-  operation-begins NotifyAll thread object = object-begins AskNotifyAll thread object (within 1 (t .objectcount) object)
+  begins-so : (n o number : ℕ) → within 1 operation-limit number ≡ true
+      → turn-of (outcome-of t n o (begin-turn (object-at t o) (operation-from number) o)) ≡ begin-asked record-kind t (asked-for number) n o
+  begins-so n o number inside =
+      rw (asked-from number) (at (operation-from number) (known-operation number inside))
+    where
+      at : (operation : Operation) → (operation ≡ NoOperation → ⊥)
+          → turn-of (outcome-of t n o (begin-turn (object-at t o) operation o)) ≡ begin-asked record-kind t (asked-of operation) n o
+      at NoOperation known = absurd (known refl)
+      at Enter known = rw (begin-settles n o Enter) refl
+      at Exit known = rw (begin-settles n o Exit) refl
+      at Wait known = rw (begin-settles n o Wait) refl
+      at Notify known = rw (begin-settles n o Notify) refl
+      at NotifyAll known = rw (begin-settles n o NotifyAll) refl
 
   -- a step's rule
-  rule-acts : (thread number : ℕ) (object : ObjectRecord) (action : Action)
-      → turn-of (settleOf t thread number object action) ≡ step-acts t thread number object action
-  unfolding settleOf
-  rule-acts thread number object Unruled = refl
-  rule-acts thread number object (Do effect) = refl
+  rule-acts : (n : ℕ) (action : Action)
+      → let own = thread-at t n in
+      turn-of (outcome-of t n (own .object) (action-turn n own (object-at t (own .object)) action))
+      ≡ step-acts t n (own .object) (object-at t (own .object)) action
+  unfolding action-turn
+  rule-acts n Unruled = unfold stays in rw (thread-unchanged t n, object-unchanged t (thread-at t n .object)) refl
+  rule-acts n (Do effect) = rw (settled-performs t n (thread-at t n .object) (object-at t (thread-at t n .object)) effect) refl
 
-  word-reads : (thread number : ℕ) (object : ObjectRecord) (doing : Doing) (decoded : Decoded)
-      → turn-of (stepWord t thread number object doing decoded) ≡ step-reads t thread number object doing decoded
-  unfolding stepWord refusalNumberOf
-  word-reads thread number object doing Invalid = refl
-  word-reads thread number object doing (Valid word) = rule-acts thread number object (decide thread (sightOf t object word) doing)
+  word-reads : (n : ℕ) (doing : Doing) (decoded : Decoded)
+      → let own = thread-at t n in
+      let object = object-at t (own .object) in
+      turn-of (outcome-of t n (own .object) (word-turn n own object (waiters-of t object) doing decoded)) ≡ step-reads t n (own .object) object doing decoded
+  unfolding word-turn refusal-number
+  word-reads n doing Invalid = ap turn-of (refused-stays t n (thread-at t n .object) NotSound)
+  word-reads n doing (Valid word) = rule-acts n (decide n (sight-at t (object-at t (thread-at t n .object)) word) doing)
 
-  -- 15, 16
-  thread-steps : (thread : ℕ) (state : ThreadState)
-      → turn-of (stepThread t thread (threadAt t thread .object) state) ≡ step-thread record-kind t thread state
-  unfolding stepThread refusalNumberOf
-  thread-steps thread Idle = refl
-  thread-steps thread (Running doing) =
-      let object = objectAt t (threadAt t thread .object) in
-      word-reads thread (threadAt t thread .object) object doing (decodeOf (object .word))
-  thread-steps thread (Queued carried) = refl
-  thread-steps thread Contending = refl
-  thread-steps thread (Waiting suspension) = refl
+  module _ (sound : sound-of t ≡ true) where
+    -- each record is the state that it is read as, written
+    pub status-read : (n : ℕ) → thread-status (thread-at t n .phase) ≡ status-of (read-thread (thread-at t n))
+    status-read n =
+        let is : IsWritten (t .objectcount) n (thread-at t n) = written-at t (sound-reads t sound) n in
+        ap (λ (own : ThreadRecord). thread-status (own .phase)) (is .written)
+        ∙ (status-written n (thread-at t n .object) (is .state) (thread-at t n .next) ∙ ap status-of (sym (state-back (t .objectcount) n (thread-at t n) is)))
 
-  -- 12, and 11 does not apply
-  pub event-is-turn : soundOf t ≡ true → (event : Event) → turn-of (eventOf t event) ≡ turn-on record-kind (t .threadcount) (t .objectcount) t event
-  unfolding beginOf beginTrusting beginRanged stepOf stepTrusting stepRanged refusalNumberOf
-  event-is-turn sound (Begin number thread object) =
-      ap (λ (b : Bool). turn-of (beginTrusting t thread number object b)) sound ∙ ranged (within 1 (t .threadcount) thread)
-    where
-      ranged : (b : Bool) → turn-of (beginRanged t thread number object b)
-          ≡ pick b (begin-asked record-kind (t .objectcount) t (asked-for number) thread object) (refuse record-kind t 12)
-      ranged true =
-          operation-begins (operationFromOf number) thread object
-          ∙ ap (λ (asked : Asked). begin-asked record-kind (t .objectcount) t asked thread object) (sym (asked-from number))
-      ranged false = refl
-  event-is-turn sound (Step thread) = ap (λ (b : Bool). turn-of (stepTrusting t thread b)) sound ∙ ranged (within 1 (t .threadcount) thread)
-    where
-      ranged : (b : Bool) → turn-of (stepRanged t thread b)
-          ≡ pick b (step-thread record-kind t thread (stateOf (threadAt t thread))) (refuse record-kind t 12)
-      ranged true = thread-steps thread (stateOf (threadAt t thread))
-      ranged false = refl
+    -- a busy thread is at an object that has a record
+    pub home-inside : (n : ℕ) → T (unfinished (read-thread (thread-at t n))) → within 1 object-limit (thread-at t n .object) ≡ true
+    home-inside n busy =
+        let is : IsWritten (t .objectcount) n (thread-at t n) = written-at t (sound-reads t sound) n in
+        let (low, high) = is .home (subst (λ (state : ThreadState). T (unfinished state)) (state-back (t .objectcount) n (thread-at t n) is) busy) in
+        let few = sizes t sound .1 in
+        rw (le-leb 1 (thread-at t n .object) low, le-leb (thread-at t n .object) object-limit (omega (arith, high, few))) refl
+
+    steps-so : (n : ℕ) → status-of (read-thread (thread-at t n)) ≡ Ready
+        → let own = thread-at t n in
+        let object = object-at t (own .object) in
+        turn-of (outcome-of t n (own .object) (step-turn n own object (waiters-of t object))) ≡ step-thread record-kind t n (read-thread own)
+    unfolding step-turn state-turn
+    steps-so n ready = at (read-thread (thread-at t n)) refl ready
+      where
+        at : (state : ThreadState) → read-thread (thread-at t n) ≡ state → status-of state ≡ Ready
+            → let own = thread-at t n in
+            let object = object-at t (own .object) in
+            turn-of (outcome-of t n (own .object)
+            (pick (within 1 object-limit (own .object)) (state-turn n own object (waiters-of t object) state) (refused own object NotSound)))
+            ≡ step-thread record-kind t n state
+        at Idle is ready = cc
+        at (Running doing) is ready =
+            rw (home-inside n (rw is tt)) (word-reads n doing (read-word (object-at t (thread-at t n .object) .word)))
+        at (Queued carried) is ready = cc
+        at Contending is ready = cc
+        at (Waiting suspension) is ready = cc
+
+    -- what the gate gives, and 11 does not apply
+    through-gate : (event : Event)
+        → let own = thread-at t (event-thread event) in
+        let number = event-object event (own .object) in
+        let object = object-at t number in
+        let gated = gate true (t .threadcount) (t .objectcount) event (status-of (read-thread own)) in
+        turn-of (outcome-of t (event-thread event) number (gate-turn gated event own object (waiters-of t object))) ≡ through record-kind gated t event
+    unfolding gate-turn open-turn
+    through-gate event =
+        let own = thread-at t (event-thread event) in
+        let number = event-object event (own .object) in
+        let object = object-at t number in
+        by-gate true (t .threadcount) (t .objectcount)
+        (λ (gated : Gate). turn-of (outcome-of t (event-thread event) number (gate-turn gated event own object (waiters-of t object))) ≡ through record-kind gated t event)
+        (λ unsound. false≢true (sym unsound)) (λ refusal is high. ap turn-of (refused-stays t (event-thread event) number refusal)) event
+        (status-of (read-thread own)) (λ is. opened event)
+      where
+        opened : (event : Event) → Passed (t .threadcount) (t .objectcount) event (status-of (read-thread (thread-at t (event-thread event))))
+            → let own = thread-at t (event-thread event) in
+            let number = event-object event (own .object) in
+            let object = object-at t number in
+            turn-of (outcome-of t (event-thread event) number (open-turn event own object (waiters-of t object))) ≡ through record-kind Open t event
+        opened (Begin number thread object) (low, high, operation, real, small, idle) = begins-so thread object number operation
+        opened (Step thread) (low, high, ready) = steps-so thread ready
+
+    pub event-is-turn : (event : Event) → turn-of (handle t event) ≡ turn-on record-kind (t .threadcount) (t .objectcount) t event
+    unfolding handle handle-trusting
+    event-is-turn event =
+        rw (sound, le-leb (t .threadcount) thread-limit (sizes t sound .0), status-read (event-thread event)) (through-gate event)

@@ -1,5 +1,4 @@
 -- What is claimed of every schedule, and the runs of encoded ones.
 pub mod Schedule
 pub mod Demand
-pub mod Encoding
 pub mod Runs

@@ -1,10 +1,13 @@
-// Runs a schedule given in bytes from a fresh table: three bytes for each event, the operation's number (0: a step), the thread and the object.
+// Runs a schedule given in bytes from a fresh table; event_bytes says how its events are written.
+use event_bytes::EVENT_SIZE;
+use event_bytes::event_from;
+use lock_engine::handle;
 use lock_table::FreshAnswer;
 use lock_table::Table;
 ghost use mathlib.Core.Path.{_≡_};
-ghost use Rattle.lock_schedule.specs.Encoding.{eventsOf};
-ghost use Rattle.lock_schedule.specs.Schedule.{finalOf};
-ghost use Rattle.lock_schedule.specs.Runs.{runEventOf, runFreshOf, runOf, ClaimOfRun};
+ghost use Rattle.event_bytes.specs.Encoding.{events-of};
+ghost use Rattle.lock_schedule.specs.Schedule.{final-of};
+ghost use Rattle.lock_schedule.specs.Runs.{run-fresh, run-of, ClaimOfRun};
 
 pub struct RunResult {
     // whether a table was made
@@ -13,31 +16,25 @@ pub struct RunResult {
     pub table: Table,
 }
 
-// One event; what it returns is not kept.
-fn run_event(table: Table, operation: u8, thread: u8, object: u8) -> Table
-    ensures { λ r. ⌜ r ≡ runEventOf table operation thread object ⌝ }
-{
-    if operation == 0 {
-        return lock_engine::step(table, thread).table;
-    }
-    lock_engine::begin(table, thread, operation, object).table
-}
-
-// The whole schedule; one or two bytes left at the end are no event.
+// The whole schedule; fewer bytes than an event has, left at the end, are none.
 fn run_events(table: Table, events: &[u8]) -> Table
-    ensures { λ r. ⌜ r ≡ finalOf table (eventsOf (now (events .entry))) ⌝ }
+    ensures { λ r. ⌜ r ≡ final-of table (events-of (now (events .entry))) ⌝ }
 {
     let mut current = table;
-    let mut at = 0;
-    while 3 <= events.len() - at {
-        current = run_event(current, events[at], events[at + 1], events[at + 2]);
-        at += 3;
+    let mut at: usize = 0;
+    let mut left = events.len() / EVENT_SIZE;
+    while 0 < left {
+        let event = event_from(events[at], events[at + 1], events[at + 2], events[at + 3]);
+        let outcome = handle(current, event);
+        current = outcome.table;
+        at += EVENT_SIZE;
+        left -= 1;
     }
     current
 }
 
 fn run_fresh(answer: FreshAnswer, table: Table, events: &[u8]) -> RunResult
-    ensures { λ r. ⌜ r ≡ runFreshOf answer table (eventsOf (now (events .entry))) ⌝ }
+    ensures { λ r. ⌜ r ≡ run-fresh answer table (events-of (now (events .entry))) ⌝ }
 {
     match answer {
         FreshAnswer::Made => RunResult {
@@ -53,8 +50,8 @@ fn run_fresh(answer: FreshAnswer, table: Table, events: &[u8]) -> RunResult
 
 // The schedule from a fresh table of these sizes, its words anonymously reserved or free as asked.
 pub fn run(threads: u16, objects: u16, reserved: bool, events: &[u8]) -> RunResult
-    ensures same { λ r. ⌜ r ≡ runOf threads objects reserved (eventsOf (now (events .entry))) ⌝ }
-    ensures claimed { λ r. ⌜ ClaimOfRun threads objects reserved (eventsOf (now (events .entry))) r ⌝ }
+    ensures same { λ r. ⌜ r ≡ run-of threads objects reserved (events-of (now (events .entry))) ⌝ }
+    ensures claimed { λ r. ⌜ ClaimOfRun threads objects reserved (events-of (now (events .entry))) r ⌝ }
 {
     let made = lock_table::fresh(threads, objects, reserved);
     let answer = made.answer;

@@ -12,8 +12,12 @@ use Rattle.laws.proofs.Choice.{Equal, equal}
 use Rattle.chains.specs.Chain.{members, chain-test}
 use Rattle.chains.proofs.Chain.{Chain, chain-without-zero}
 use Rattle.chains.proofs.Test.{chain-test-reads, chain-test-of}
-use Rattle.lock_soundness.specs.Meaning.{follow}
 use Rattle.laws.proofs.Facts.{Reads}
+
+-- the thread that so many links lead to
+unfoldable pub follow : ℕ → (ℕ → ℕ) → ℕ → ℕ
+follow zero next n = n
+follow (suc links) next n = follow links next (next n)
 
 -- from 0 all links lead to 0
 pub follow-none : (links : ℕ) (next : ℕ → ℕ) → next 0 ≡ 0 → follow links next 0 ≡ 0

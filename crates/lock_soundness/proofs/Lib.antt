@@ -1,9 +1,8 @@
 -- Laws of the definitions in specs/.
 pub mod Chained
-pub mod RecordReading
 pub mod Reading
-pub mod Walks
+pub mod Marks
 pub mod Turns
-pub mod Fused
+pub mod OnePass
 pub mod Exactly
 pub mod FreshSound

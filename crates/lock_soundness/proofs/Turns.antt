@@ -1,51 +1,65 @@
--- What a turn of the loops over all records reads.
-use Prim.Native.Nat.{ℕ, _-_, _≤_, _<_}
-use mathlib.Core.Path.{_≡_, ap}
-use mathlib.Core.Bool.{Bool, true, false}
+-- What a turn of a walk along the thread records reads, and what a turn of the loop over the objects does: to an empty record, and to the marks.
+use Prim.Native.Nat.{ℕ, zero, suc, _-_, _≤_, _<_}
+use mathlib.Core.Path.{_≡_, refl, ap}
+use mathlib.Core.Logic.{_≢_}
+use mathlib.Core.Bool.{Bool, true}
+use mathlib.Core.List.{List}
 use native.Mathlib.Omega.{arith}
-use lib.Dec.{eqb, ltb}
 use lib.ListN.{getD}
-use Rattle.laws.specs.Choice.{pick, both}
-use Rattle.laws.proofs.Choice.{Equal, equal, Below, below}
-use Rattle.lock_table.specs.Limits.{thread-limit, object-limit}
-use Rattle.lock_table.specs.Record.{noThread, noObject}
-use Rattle.lock_table.specs.Parked.{threadChain}
+use borrow.Author.Tests.{ne-eqb, le-ltb}
+use Rattle.laws.specs.Choice.{pick}
+use Rattle.chains.specs.Chain.{chain-test}
+use Rattle.lock_table.specs.Limits.{thread-limit}
+use Rattle.lock_table.specs.Record.{no-thread}
+use Rattle.lock_table.specs.Access.{object-at}
+use Rattle.lock_table.specs.Empty.{empty-object}
 use Rattle.lock_table.specs.declared.record.ThreadRecord.{ThreadRecord}
 use Rattle.lock_table.specs.declared.record.ObjectRecord.{ObjectRecord}
 use Rattle.lock_table.specs.declared.record.Table.{Table}
-use Rattle.lock_table.proofs.Records.{thread-in, object-in}
-use Rattle.lock_soundness.specs.Sound.{foundIn}
-use Rattle.lock_soundness.specs.Fused.{threadFits, objectFits, nextIn, chainsPass, objectPlace, threadPasses, objectPasses}
+use Rattle.sound_records.specs.Records.{names-chain}
+use Rattle.sound_records.proofs.Reading.{reads-empty-object}
+use Rattle.lock_soundness.specs.OnePass.{thread-in, next-in, member-fits, chain-passes, chains-pass, chain-marks, chains-marks, object-passes}
+use Rattle.lock_soundness.specs.OnePass.{object-turn, objects-marks}
+use Rattle.lock_soundness.proofs.Marks.{marked-none}
 
--- the record in place is that of the number
-pub thread-turn : (t : Table) (n : ℕ) → 0 < n → n ≤ thread-limit
-    → let thread = getD (t .threads) (n - 1) noThread in
-    threadPasses t n
-    ≡ both (threadFits (t .threadcount) (t .objectcount) n thread)
-    (foundIn (t .threadcount) (nextIn (t .threads)) n (threadChain thread) (getD (t .objects) (objectPlace (thread .object)) noObject .monitor))
-unfolding threadPasses
-thread-turn t n low high =
-    ap
-    (λ (thread : ThreadRecord). both (threadFits (t .threadcount) (t .objectcount) n thread)
-    (foundIn (t .threadcount) (nextIn (t .threads)) n (threadChain thread) (getD (t .objects) (objectPlace (thread .object)) noObject .monitor)))
-    (thread-in t n (λ e. omega (arith, e, low)) high)
+-- a record in place is that of its number
+pub thread-here : (threads : List ThreadRecord) (n : ℕ) → n ≢ 0 → n ≤ thread-limit → thread-in threads n ≡ getD threads (n - 1) no-thread
+unfolding thread-in
+thread-here threads n some high = simp (ne-eqb n 0 some, le-ltb thread-limit n high)
 
-pub object-turn : (t : Table) (o : ℕ) → 0 < o → o ≤ object-limit
-    → let object = getD (t .objects) (o - 1) noObject in
-    objectPasses t o ≡ both (objectFits (t .threadcount) (t .objectcount) o object) (chainsPass (t .threads) (t .threadcount) o (object .monitor))
-unfolding objectPasses
-object-turn t o low high =
-    ap
-    (λ (object : ObjectRecord). both (objectFits (t .threadcount) (t .objectcount) o object)
-    (chainsPass (t .threads) (t .threadcount) o (object .monitor)))
-    (object-in t o (λ e. omega (arith, e, low)) high)
+pub next-here : (threads : List ThreadRecord) (n : ℕ) → n ≢ 0 → n ≤ thread-limit → next-in threads n ≡ getD threads (n - 1) no-thread .next
+next-here threads n some high = ap (λ (thread : ThreadRecord). thread .next) (thread-here threads n some high)
 
--- any number's place is one of the table's
-pub place-inside : (o : ℕ) → objectPlace o < object-limit
-unfolding objectPlace
-place-inside o = at (eqb o 0) (equal o 0) (ltb object-limit o) (below object-limit o)
-  where
-    at : (none : Bool) → Equal none o 0 → (past : Bool) → Below past object-limit o → pick none 0 (pick past 0 (o - 1)) < object-limit
-    at true e past b = omega arith
-    at false e true b = omega arith
-    at false e false b = omega (arith, b)
+pub member-here : (threads : List ThreadRecord) (count o chain n : ℕ) → n ≢ 0 → n ≤ thread-limit → n ≤ count
+    → member-fits threads count o chain n ≡ names-chain o chain (getD threads (n - 1) no-thread)
+unfolding member-fits
+member-here threads count o chain n some high inside =
+    simp (le-ltb count n inside, le-ltb thread-limit n high, thread-here threads n some high)
+
+-- an empty chain passes any test
+pub empty-passes : (fuel : ℕ) (next : ℕ → ℕ) (ok : ℕ → Bool) → chain-test fuel next ok 0 ≡ true
+unfolding chain-test
+empty-passes zero next ok = refl
+empty-passes (suc fuel) next ok = refl
+
+pub empty-object-turn : (threads : List ThreadRecord) (count objects o : ℕ) (object : ObjectRecord) (met : List Bool) → empty-object object ≡ true
+    → (true ≡ object-passes threads count objects o object) × (met ≡ chains-marks threads count o (object .monitor) met)
+unfolding object-passes chains-pass chain-passes chains-marks chain-marks
+empty-object-turn threads count objects o object met empty =
+    rw empty (rw (reads-empty-object object .read empty) (simp (empty-passes, marked-none) (refl, refl)))
+
+abbrev marks-at : Table → ℕ → List Bool → List Bool
+marks-at t o met = chains-marks (t .threads) (t .threadcount) o (object-at t o .monitor) met
+
+pub objects-marks-step : {left : ℕ} → 0 < left → (t : Table) (met : List Bool)
+    → objects-marks t left met ≡ pick (object-turn t left) (objects-marks t (left - 1) (marks-at t left met)) (marks-at t left met)
+unfolding objects-marks
+objects-marks-step {left} h t met =
+    let one : left ≡ suc (left - 1) = omega arith in
+    let step : (k : ℕ) → left ≡ suc k → objects-marks t left met ≡ pick (object-turn t left) (objects-marks t k (marks-at t left met)) (marks-at t left met) =
+    λ k e. rw e refl in
+    step (left - 1) one
+
+pub objects-marks-end : {left : ℕ} → left ≤ 0 → (t : Table) (met : List Bool) → objects-marks t left met ≡ met
+unfolding objects-marks
+objects-marks-end {left} h t met = let none : left ≡ 0 = omega arith in ap (λ (k : ℕ). objects-marks t k met) none

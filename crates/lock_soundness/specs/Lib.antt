@@ -1,4 +1,3 @@
--- When a table is sound: document 01's clauses as tests and as propositions; and the order in which the code finds out.
+-- When a table is sound: document 01's clauses as tests, and the order in which the code finds out.
 pub mod Sound
-pub mod Meaning
-pub mod Fused
+pub mod OnePass

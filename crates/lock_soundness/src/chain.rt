@@ -1,37 +1,11 @@
-// Walks along chains, of at most as many links as the table has threads. They take the thread records and nothing else of the table, since what
-// is passed on is copied.
-use crate::thread::thread_chain;
+// Walks along chains, of at most as many links as the table has threads, which mark the threads that they meet. They take the thread records and
+// nothing else of the table, since what is passed on is copied.
 use lock_table::Monitor;
 use lock_table::THREADS;
 use lock_table::ThreadRecord;
+use sound_records::names_chain;
 ghost use mathlib.Core.Path.{_≡_};
-ghost use Rattle.chains.specs.Chain.{in-chain};
-ghost use Rattle.lock_table.specs.Parked.{firstIn};
-ghost use Rattle.lock_soundness.specs.Sound.{foundIn, namesChain};
-ghost use Rattle.lock_soundness.specs.Fused.{nextIn, chainPasses, chainsPass};
-
-// The first thread of a chain: 1 entry, 2 contention, 3 waiting.
-fn first_in(monitor: Monitor, chain: u8) -> u8
-    ensures { λ r. ⌜ r ≡ firstIn monitor chain ⌝ }
-{
-    if chain == 1 {
-        return monitor.entry;
-    }
-    if chain == 2 {
-        return monitor.contention;
-    }
-    if chain == 3 {
-        return monitor.waiting;
-    }
-    0
-}
-
-// The thread is parked in this chain of the object.
-fn names_chain(object: u8, chain: u8, thread: ThreadRecord) -> bool
-    ensures { λ r. ⌜ r ≡ namesChain object chain thread ⌝ }
-{
-    (thread.object == object) & (thread_chain(thread) == chain)
-}
+ghost use Rattle.lock_soundness.specs.OnePass.{chain-passes, chains-pass, chain-marks, chains-marks};
 
 // The chain ends in time, and all of its threads are parked in it.
 fn walk_passes(
@@ -40,8 +14,10 @@ fn walk_passes(
     object: u8,
     chain: u8,
     first: u8,
+    met: &mut [bool; 32],
 ) -> bool
-    ensures { λ r. ⌜ r ≡ chainPasses threads threadcount object chain first ⌝ }
+    ensures { λ r. ⌜ r ≡ chain-passes threads threadcount object chain first ⌝ }
+    ensures marks { λ _. ⌜ now (met .exit) ≡ chain-marks threads threadcount object chain first (now (met .entry)) ⌝ }
 {
     let mut at = first;
     let mut left = threadcount;
@@ -61,6 +37,7 @@ fn walk_passes(
         if !names {
             return false;
         }
+        met[place] = true;
         at = thread.next;
         left = left - 1;
     }
@@ -74,13 +51,15 @@ fn chain_passes(
     object: u8,
     chain: u8,
     first: u8,
+    met: &mut [bool; 32],
 ) -> bool
-    ensures { λ r. ⌜ r ≡ chainPasses threads threadcount object chain first ⌝ }
+    ensures { λ r. ⌜ r ≡ chain-passes threads threadcount object chain first ⌝ }
+    ensures marks { λ _. ⌜ now (met .exit) ≡ chain-marks threads threadcount object chain first (now (met .entry)) ⌝ }
 {
     if first == 0 {
         return true;
     }
-    walk_passes(threads, threadcount, object, chain, first)
+    walk_passes(threads, threadcount, object, chain, first, met)
 }
 
 // The three chains of an object.
@@ -89,51 +68,13 @@ pub fn chains_pass(
     threadcount: u8,
     object: u8,
     monitor: Monitor,
+    met: &mut [bool; 32],
 ) -> bool
-    ensures { λ r. ⌜ r ≡ chainsPass threads threadcount object monitor ⌝ }
+    ensures { λ r. ⌜ r ≡ chains-pass threads threadcount object monitor ⌝ }
+    ensures marks { λ _. ⌜ now (met .exit) ≡ chains-marks threads threadcount object monitor (now (met .entry)) ⌝ }
 {
-    let entry = chain_passes(threads, threadcount, object, 1, monitor.entry);
-    let contention = chain_passes(threads, threadcount, object, 2, monitor.contention);
-    let waiting = chain_passes(threads, threadcount, object, 3, monitor.waiting);
+    let entry = chain_passes(threads, threadcount, object, 1, monitor.entry, met);
+    let contention = chain_passes(threads, threadcount, object, 2, monitor.contention, met);
+    let waiting = chain_passes(threads, threadcount, object, 3, monitor.waiting, met);
     entry & (contention & waiting)
-}
-
-// Whether the thread is in the chain from `first` on.
-fn is_in_chain(threads: [ThreadRecord; 32], threadcount: u8, number: u8, first: u8) -> bool
-    ensures { λ r. ⌜ r ≡ in-chain threadcount (nextIn threads) number first ⌝ }
-{
-    let mut at = first;
-    let mut left = threadcount;
-    while 0 < left {
-        if at == 0 {
-            return false;
-        }
-        if at == number {
-            return true;
-        }
-        if THREADS < at {
-            return false;
-        }
-        let place = (at as usize) - 1;
-        let thread = threads[place];
-        at = thread.next;
-        left = left - 1;
-    }
-    false
-}
-
-// Whether the thread is in this chain of the monitor; one that is in no chain is not looked for.
-pub fn found_in(
-    threads: [ThreadRecord; 32],
-    threadcount: u8,
-    number: u8,
-    chain: u8,
-    monitor: Monitor,
-) -> bool
-    ensures { λ r. ⌜ r ≡ foundIn threadcount (nextIn threads) number chain monitor ⌝ }
-{
-    if chain == 0 {
-        return true;
-    }
-    is_in_chain(threads, threadcount, number, first_in(monitor, chain))
 }

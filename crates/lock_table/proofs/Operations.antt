@@ -3,12 +3,12 @@ use Prim.Native.Nat.{ℕ, _≤_}
 use mathlib.Core.Path.{_≡_}
 use native.Mathlib.Omega.{arith}
 use borrow.Author.Tests.{ne-eqb}
-use Rattle.lock_table.specs.Operation.{operationFromOf}
+use Rattle.lock_table.specs.Operation.{operation-from}
 use Rattle.lock_table.specs.declared.operation.Operation.the-variants.{Idle as NoOperation}
 
 -- the operations are 1 to 5
-pub no-operation : (number : ℕ) → 6 ≤ number → operationFromOf number ≡ NoOperation
-unfolding operationFromOf
+pub no-operation : (number : ℕ) → 6 ≤ number → operation-from number ≡ NoOperation
+unfolding operation-from
 no-operation number high =
     rw (
       ne-eqb number 1 (λ is. omega (arith, is, high)),

@@ -12,8 +12,8 @@ use denote.Shadow.{shadow}
 use denote.Array.{each}
 use Rattle.laws.proofs.Choice.{by-test}
 use Rattle.lock_table.specs.Limits.{depth-limit, object-limit}
-use Rattle.lock_table.specs.Record.{noObject}
-use Rattle.lock_table.specs.Access.{objectAt}
+use Rattle.lock_table.specs.Record.{no-object}
+use Rattle.lock_table.specs.Access.{object-at}
 use Rattle.lock_table.specs.Whole.{Whole}
 use Rattle.lock_table.specs.declared.record.ObjectRecord.{ObjectRecord}
 use Rattle.lock_table.specs.declared.record.Table.{Table}
@@ -40,7 +40,7 @@ object-depth object vs owned =
     omega arith
 
 pub owned-whole : (table : Table) (vs : List Val) → Is table-row table vs → Whole table
-unfolding objectAt
+unfolding object-at
 owned-whole table vs owned =
     let arrays = owned .1 .1 .1 .1 in
     let objects = arrays .1 .0 in
@@ -50,5 +50,5 @@ owned-whole table vs owned =
       depths = λ o.
           by-test DepthFits (eqb o 0) (λ none. omega arith)
           (λ some. by-test DepthFits (ltb object-limit o) (λ past. omega arith)
-          (λ inside. element-owned object-field DepthFits object-depth (table .objects) (objects .0) (objects .1 .1) (o - 1) noObject (omega arith)));
+          (λ inside. element-owned object-field DepthFits object-depth (table .objects) (objects .0) (objects .1 .1) (o - 1) no-object (omega arith)));
     }

@@ -9,74 +9,97 @@ use lib.Dec.{eqb}
 use lib.ListN.{getD, set}
 use borrow.Author.Tests.{eq-eqb, ne-eqb}
 use Rattle.laws.specs.Choice.{pick}
-use Rattle.chains.specs.Chain.{last-of}
-use Rattle.chains.proofs.Turn.{last-of-step}
 use Rattle.lock_table.specs.Limits.{thread-limit}
-use Rattle.lock_table.specs.Record.{noThread}
-use Rattle.lock_table.specs.Access.{threadAt, setThread, nextOf}
-use Rattle.lock_table.specs.Chain.{queuedOf, queueAllOf}
-use Rattle.lock_table.specs.declared.phase.Onward.{Onward}
+use Rattle.lock_table.specs.Record.{no-thread, with-next}
+use Rattle.lock_table.specs.Access.{thread-at, set-thread, next-of}
+use Rattle.lock_table.specs.Chain.{hang, moved, move-all}
 use Rattle.lock_table.specs.declared.record.ThreadRecord.{ThreadRecord}
 use Rattle.lock_table.specs.declared.record.Table.{Table}
 use Rattle.lock_table.proofs.Records.{thread-in, set-thread-in, thread-none, thread-past, set-thread-out}
 
-pub next-none : (t : Table) → nextOf t 0 ≡ 0
+pub next-none : (t : Table) → next-of t 0 ≡ 0
 next-none t = ap (λ (thread : ThreadRecord). thread .next) (thread-none t)
 
-pub next-past : (t : Table) (n : ℕ) → thread-limit < n → nextOf t n ≡ 0
+pub next-past : (t : Table) (n : ℕ) → thread-limit < n → next-of t n ≡ 0
 next-past t n past = ap (λ (thread : ThreadRecord). thread .next) (thread-past t n past)
 
--- a walk to the last thread stops where the next index is 0
-pub last-stops : {left : ℕ} → 0 < left → (t : Table) (n : ℕ) → nextOf t n ≡ 0 → last-of left (nextOf t) n ≡ n
-last-stops h t n ends = last-of-step h (nextOf t) n ∙ rw (eq-eqb (nextOf t n) 0 ends)
+-- one turn of each walk
+pub move-all-step : {left : ℕ} → 0 < left → (t : Table) (first : ℕ)
+    → move-all left t first ≡ pick (eqb first 0) t (move-all (left - 1) (set-thread t first (moved (thread-at t first))) (next-of t first))
+unfolding move-all
+move-all-step {left = zero} h t first = absurd (not-suc-le-zero h)
+move-all-step {left = suc left} h t first = simp sub-one
 
-pub queue-all-step : {left : ℕ} → 0 < left → (t : Table) (first : ℕ) (onward : Onward)
-    → queueAllOf left t first onward
-    ≡ pick (eqb first 0) t (queueAllOf (left - 1) (setThread t first (queuedOf (threadAt t first) onward)) (nextOf t first) onward)
-unfolding queueAllOf
-queue-all-step {left = zero} h t first onward = absurd (not-suc-le-zero h)
-queue-all-step {left = suc left} h t first onward = simp sub-one
+pub hang-step : {left : ℕ} → 0 < left → (t : Table) (front back : ℕ)
+    → hang left t front back
+    ≡ pick (eqb front 0) t
+    (pick (eqb (next-of t front) 0) (set-thread t front (with-next (thread-at t front) back)) (hang (left - 1) t (next-of t front) back))
+unfolding hang
+hang-step {left = zero} h t front back = absurd (not-suc-le-zero h)
+hang-step {left = suc left} h t front back = simp sub-one
 
-pub queue-all-end : {left : ℕ} → left ≤ 0 → (t : Table) (first : ℕ) (onward : Onward) → queueAllOf left t first onward ≡ t
-unfolding queueAllOf
-queue-all-end {left = zero} h t first onward = refl
-queue-all-end {left = suc left} h t first onward = absurd (not-suc-le-zero h)
+-- and its end
+pub move-all-end : {left : ℕ} → left ≤ 0 → (t : Table) (first : ℕ) → move-all left t first ≡ t
+unfolding move-all
+move-all-end {left = zero} h t first = refl
+move-all-end {left = suc left} h t first = absurd (not-suc-le-zero h)
 
-queue-none : (left : ℕ) (t : Table) (onward : Onward) → queueAllOf left t 0 onward ≡ t
-unfolding queueAllOf
-queue-none zero t onward = refl
-queue-none (suc left) t onward = refl
+pub hang-end : {left : ℕ} → left ≤ 0 → (t : Table) (front back : ℕ) → hang left t front back ≡ t
+unfolding hang
+hang-end {left = zero} h t front back = refl
+hang-end {left = suc left} h t front back = absurd (not-suc-le-zero h)
+
+-- of an empty chain nobody moves, and nothing hangs behind it
+pub move-none : (left : ℕ) (t : Table) → move-all left t 0 ≡ t
+unfolding move-all
+move-none zero t = refl
+move-none (suc left) t = refl
+
+pub hang-none : (left : ℕ) (t : Table) (back : ℕ) → hang left t 0 back ≡ t
+unfolding hang
+hang-none zero t back = refl
+hang-none (suc left) t back = refl
 
 -- a number past the end has no thread: nothing is written, and the walk ends
-pub queue-all-past : {left : ℕ} → 0 < left → (t : Table) (first : ℕ) (onward : Onward) → thread-limit < first → queueAllOf left t first onward ≡ t
-queue-all-past {left} h t first onward past =
-    queue-all-step h t first onward
-    ∙ rw (ne-eqb first 0 (λ q. omega (arith, q, past)), set-thread-out t first (queuedOf (threadAt t first) onward) (inr past), next-past t first past)
-    (queue-none (left - 1) t onward)
+pub move-all-past : {left : ℕ} → 0 < left → (t : Table) (first : ℕ) → thread-limit < first → move-all left t first ≡ t
+move-all-past {left} h t first past =
+    move-all-step h t first
+    ∙ rw (ne-eqb first 0 (λ q. omega (arith, q, past)), set-thread-out t first (moved (thread-at t first)) (inr past), next-past t first past)
+    (move-none (left - 1) t)
+
+pub hang-past : {left : ℕ} → 0 < left → (t : Table) (front back : ℕ) → thread-limit < front → hang left t front back ≡ t
+hang-past {left} h t front back past =
+    hang-step h t front back
+    ∙ rw (ne-eqb front 0 (λ q. omega (arith, q, past)), next-past t front past)
+    (set-thread-out t front (with-next (thread-at t front) back) (inr past))
 
 -- a number in range: its record is read and written in place
-pub queue-all-turn : {left : ℕ} → 0 < left → (t : Table) (first : ℕ) (onward : Onward) → first ≢ 0 → first ≤ thread-limit
-    → let thread = getD (t .threads) (first - 1) noThread in
-    queueAllOf left t first onward
-    ≡ queueAllOf (left - 1)
-    (record {
-      threadcount = t .threadcount;
-      objectcount = t .objectcount;
-      threads = set (t .threads) (first - 1) (queuedOf thread onward);
-      objects = t .objects;
-    })
-    (thread .next) onward
-queue-all-turn {left} h t first onward some high =
-    queue-all-step h t first onward
+abbrev written : Table → ℕ → ThreadRecord → Table
+written t n thread =
+    record { threadcount = t .threadcount; objectcount = t .objectcount; threads = set (t .threads) (n - 1) thread; objects = t .objects }
+
+abbrev read : Table → ℕ → ThreadRecord
+read t n = getD (t .threads) (n - 1) no-thread
+
+pub move-all-turn : {left : ℕ} → 0 < left → (t : Table) (first : ℕ) → first ≢ 0 → first ≤ thread-limit
+    → move-all left t first ≡ move-all (left - 1) (written t first (moved (read t first))) (read t first .next)
+move-all-turn {left} h t first some high =
+    move-all-step h t first
     ∙ rw (ne-eqb first 0 some)
-    (ap (λ (u : Table). queueAllOf (left - 1) u (nextOf t first) onward) (set-thread-in t first (queuedOf (threadAt t first) onward) some high)
-    ∙ ap
-    (λ (thread : ThreadRecord). queueAllOf (left - 1)
-    (record {
-      threadcount = t .threadcount;
-      objectcount = t .objectcount;
-      threads = set (t .threads) (first - 1) (queuedOf thread onward);
-      objects = t .objects;
-    })
-    (thread .next) onward)
-    (thread-in t first some high))
+    (ap (λ (u : Table). move-all (left - 1) u (next-of t first)) (set-thread-in t first (moved (thread-at t first)) some high)
+    ∙ ap (λ (thread : ThreadRecord). move-all (left - 1) (written t first (moved thread)) (thread .next)) (thread-in t first some high))
+
+pub hang-turn : {left : ℕ} → 0 < left → (t : Table) (front back : ℕ) → front ≢ 0 → front ≤ thread-limit → read t front .next ≢ 0
+    → hang left t front back ≡ hang (left - 1) t (read t front .next) back
+hang-turn {left} h t front back some high more =
+    let same : next-of t front ≡ read t front .next = ap (λ (thread : ThreadRecord). thread .next) (thread-in t front some high) in
+    hang-step h t front back ∙ rw (ne-eqb front 0 some, same, ne-eqb (read t front .next) 0 more)
+
+pub hang-last : {left : ℕ} → 0 < left → (t : Table) (front back : ℕ) → front ≢ 0 → front ≤ thread-limit → read t front .next ≡ 0
+    → hang left t front back ≡ written t front (with-next (read t front) back)
+hang-last {left} h t front back some high last =
+    let same : next-of t front ≡ 0 = ap (λ (thread : ThreadRecord). thread .next) (thread-in t front some high) ∙ last in
+    hang-step h t front back
+    ∙ rw (ne-eqb front 0 some, eq-eqb (next-of t front) 0 same)
+    (set-thread-in t front (with-next (thread-at t front) back) some high
+    ∙ ap (λ (thread : ThreadRecord). written t front (with-next thread back)) (thread-in t front some high))

@@ -5,37 +5,37 @@ use lib.Dec.{eqb, ltb}
 use lib.ListN.{getD, set}
 use Rattle.laws.specs.Choice.{pick}
 use Rattle.lock_table.specs.Limits.{thread-limit, object-limit}
-use Rattle.lock_table.specs.Phase.{phaseNumberOf, carriedNumberOf}
-use Rattle.lock_table.specs.Record.{noThread, noObject}
+use Rattle.lock_table.specs.Phase.{phase-number, carried-number}
+use Rattle.lock_table.specs.Record.{no-thread, no-object}
 use Rattle.lock_table.specs.declared.record.ThreadRecord.{ThreadRecord}
 use Rattle.lock_table.specs.declared.record.ObjectRecord.{ObjectRecord}
 use Rattle.lock_table.specs.declared.record.Table.{Table}
 
-unfoldable pub threadAt : Table → ℕ → ThreadRecord
-threadAt table number = pick (eqb number 0) noThread (pick (ltb thread-limit number) noThread (getD (table .threads) (number - 1) noThread))
+unfoldable pub thread-at : Table → ℕ → ThreadRecord
+thread-at table number = pick (eqb number 0) no-thread (pick (ltb thread-limit number) no-thread (getD (table .threads) (number - 1) no-thread))
 
-unfoldable pub setThread : Table → ℕ → ThreadRecord → Table
-setThread table number thread =
+unfoldable pub set-thread : Table → ℕ → ThreadRecord → Table
+set-thread table number thread =
     pick (eqb number 0) table
     (pick (ltb thread-limit number) table
     (record { threadcount = table .threadcount; objectcount = table .objectcount; threads = set (table .threads) (number - 1) thread; objects = table .objects }))
 
-unfoldable pub objectAt : Table → ℕ → ObjectRecord
-objectAt table number = pick (eqb number 0) noObject (pick (ltb object-limit number) noObject (getD (table .objects) (number - 1) noObject))
+unfoldable pub object-at : Table → ℕ → ObjectRecord
+object-at table number = pick (eqb number 0) no-object (pick (ltb object-limit number) no-object (getD (table .objects) (number - 1) no-object))
 
-unfoldable pub setObject : Table → ℕ → ObjectRecord → Table
-setObject table number object =
+unfoldable pub set-object : Table → ℕ → ObjectRecord → Table
+set-object table number object =
     pick (eqb number 0) table
     (pick (ltb object-limit number) table
     (record { threadcount = table .threadcount; objectcount = table .objectcount; threads = table .threads; objects = set (table .objects) (number - 1) object }))
 
 -- the next indexes, by which chains go on
-abbrev pub nextOf : Table → ℕ → ℕ
-nextOf table number = threadAt table number .next
+abbrev pub next-of : Table → ℕ → ℕ
+next-of table number = thread-at table number .next
 
 -- a thread's phase, and the phase that it carries if it is queued
-abbrev pub phaseAt : Table → ℕ → ℕ
-phaseAt table number = phaseNumberOf (threadAt table number .phase)
+abbrev pub phase-number-at : Table → ℕ → ℕ
+phase-number-at table number = phase-number (thread-at table number .phase)
 
-abbrev pub carriedAt : Table → ℕ → ℕ
-carriedAt table number = carriedNumberOf (threadAt table number .phase)
+abbrev pub carried-at : Table → ℕ → ℕ
+carried-at table number = carried-number (thread-at table number .phase)

@@ -2,12 +2,10 @@
 use Prim.Native.Nat.{ℕ, zero, suc}
 use lib.Dec.{eqb}
 use Rattle.laws.specs.Choice.{pick}
-use Rattle.chains.specs.Chain.{last-of}
-use Rattle.lock_table.specs.Limits.{thread-limit}
-use Rattle.lock_table.specs.Phase.{onwardPhaseOf}
-use Rattle.lock_table.specs.Record.{withPhase, withNext}
-use Rattle.lock_table.specs.Access.{threadAt, setThread, nextOf}
-use Rattle.lock_table.specs.declared.phase.Onward.{Onward}
+use Rattle.lock_table.specs.Phase.{onward-phase}
+use Rattle.lock_table.specs.Record.{with-phase, with-next}
+use Rattle.lock_table.specs.Access.{thread-at, set-thread, next-of}
+use Rattle.lock_table.specs.declared.phase.Onward.the-variants.{ToCheck, ToResume}
 use Rattle.lock_table.specs.declared.phase.Phase.{Phase}
 use Rattle.lock_table.specs.declared.phase.Phase.the-variants.{
   Idle,
@@ -30,48 +28,60 @@ use Rattle.lock_table.specs.declared.phase.Phase.the-variants.{
 use Rattle.lock_table.specs.declared.record.ThreadRecord.{ThreadRecord}
 use Rattle.lock_table.specs.declared.record.Table.{Table}
 
--- chain `back` hung behind chain `front`: the next index of the last thread of `front` is the first of `back`
-unfoldable pub hangOf : Table → ℕ → ℕ → Table
-hangOf table front back =
+-- chain `back` hung behind the chain from `front` on: the next index of the last thread is the first of `back`. Behind an empty chain hangs nothing.
+unfoldable pub hang : ℕ → Table → ℕ → ℕ → Table
+hang zero table front back = table
+hang (suc fuel) table front back =
     pick (eqb front 0) table
-    (setThread table (last-of thread-limit (nextOf table) front) (withNext (threadAt table (last-of thread-limit (nextOf table) front)) back))
+    (pick (eqb (next-of table front) 0) (set-thread table front (with-next (thread-at table front) back)) (hang fuel table (next-of table front) back))
 
 -- a queued thread that is handed the monitor takes the phase that it carries
-unfoldable pub carriedOf : Phase → Phase
-carriedOf Idle = Idle
-carriedOf Look = Look
-carriedOf Store = Store
-carriedOf Cancel = Cancel
-carriedOf GoIn = GoIn
-carriedOf (Queued onward) = onwardPhaseOf onward
-carriedOf Check = Check
-carriedOf Try = Try
-carriedOf Contending = Contending
-carriedOf Test = Test
-carriedOf Tell = Tell
-carriedOf Leave = Leave
-carriedOf Inflate = Inflate
-carriedOf GiveUp = GiveUp
-carriedOf Waiting = Waiting
-carriedOf Resume = Resume
+unfoldable pub carried-of : Phase → Phase
+carried-of Idle = Idle
+carried-of Look = Look
+carried-of Store = Store
+carried-of Cancel = Cancel
+carried-of GoIn = GoIn
+carried-of (Queued onward) = onward-phase onward
+carried-of Check = Check
+carried-of Try = Try
+carried-of Contending = Contending
+carried-of Test = Test
+carried-of Tell = Tell
+carried-of Leave = Leave
+carried-of Inflate = Inflate
+carried-of GiveUp = GiveUp
+carried-of Waiting = Waiting
+carried-of Resume = Resume
 
--- the first of a chain, having left it: handed the monitor, or on its way to the entry chain
-abbrev pub handedOf : ThreadRecord → ThreadRecord
-handedOf thread = withNext (withPhase thread (carriedOf (thread .phase))) 0
+-- the first of the entry chain, having left it with the monitor
+abbrev pub handed-of : ThreadRecord → ThreadRecord
+handed-of thread = with-next (with-phase thread (carried-of (thread .phase))) 0
 
-abbrev pub handFirstOf : Table → ℕ → Table
-handFirstOf table first = setThread table first (handedOf (threadAt table first))
+-- moved contenders and waiters take phase 5; contenders carry 6, waiters 15
+unfoldable pub moved-phase : Phase → Phase
+moved-phase Idle = Idle
+moved-phase Look = Look
+moved-phase Store = Store
+moved-phase Cancel = Cancel
+moved-phase GoIn = GoIn
+moved-phase (Queued onward) = Queued onward
+moved-phase Check = Check
+moved-phase Try = Try
+moved-phase Contending = Queued ToCheck
+moved-phase Test = Test
+moved-phase Tell = Tell
+moved-phase Leave = Leave
+moved-phase Inflate = Inflate
+moved-phase GiveUp = GiveUp
+moved-phase Waiting = Queued ToResume
+moved-phase Resume = Resume
 
--- moved contenders and waiters take phase 5
-abbrev pub queuedOf : ThreadRecord → Onward → ThreadRecord
-queuedOf thread onward = withPhase thread (Queued onward)
+abbrev pub moved : ThreadRecord → ThreadRecord
+moved thread = with-phase thread (moved-phase (thread .phase))
 
-abbrev pub queueFirstOf : Table → ℕ → Onward → Table
-queueFirstOf table first onward = setThread table first (withNext (queuedOf (threadAt table first) onward) 0)
-
--- all of the chain from `first` on, at most `fuel`
-unfoldable pub queueAllOf : ℕ → Table → ℕ → Onward → Table
-queueAllOf zero table first onward = table
-queueAllOf (suc fuel) table first onward =
-    pick (eqb first 0) table
-    (queueAllOf fuel (setThread table first (queuedOf (threadAt table first) onward)) (nextOf table first) onward)
+-- all of the chain from `first` on, at most `fuel`; their next indexes stay
+unfoldable pub move-all : ℕ → Table → ℕ → Table
+move-all zero table first = table
+move-all (suc fuel) table first =
+    pick (eqb first 0) table (move-all fuel (set-thread table first (moved (thread-at table first))) (next-of table first))

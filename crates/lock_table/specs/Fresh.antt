@@ -5,9 +5,9 @@ use mathlib.Core.List.{List, _++_}
 use lib.Dec.{eqb, ltb}
 use lib.ListN.{replicate}
 use Rattle.laws.specs.Choice.{pick}
-use Rattle.lock_word.specs.Write.{freeWord, anonymousWord}
+use Rattle.lock_word.specs.Write.{free-word, anonymous-word}
 use Rattle.lock_table.specs.Limits.{thread-limit, object-limit}
-use Rattle.lock_table.specs.Record.{noThread, noObject, withWord}
+use Rattle.lock_table.specs.Record.{no-thread, no-object, with-word}
 use Rattle.lock_table.specs.declared.record.ObjectRecord.{ObjectRecord}
 use Rattle.lock_table.specs.declared.record.Table.{Table}
 use Rattle.lock_table.specs.declared.fresh_table.FreshAnswer.{FreshAnswer}
@@ -15,33 +15,33 @@ use Rattle.lock_table.specs.declared.fresh_table.FreshAnswer.the-variant
 use Rattle.lock_table.specs.declared.fresh_table.FreshTable.{FreshTable}
 
 -- every word anonymously reserved or free, as asked
-unfoldable pub firstWordOf : Bool → ℕ
-firstWordOf reserved = pick reserved anonymousWord freeWord
+unfoldable pub first-word : Bool → ℕ
+first-word reserved = pick reserved anonymous-word free-word
 
 -- the objects in use, and empty records past them
-abbrev pub freshObjectsOf : ℕ → ℕ → List ObjectRecord
-freshObjectsOf count word = replicate count (withWord noObject word) ++ replicate (object-limit - count) noObject
+abbrev pub fresh-objects : ℕ → ℕ → List ObjectRecord
+fresh-objects count word = replicate count (with-word no-object word) ++ replicate (object-limit - count) no-object
 
-abbrev pub tableOf : ℕ → ℕ → ℕ → Table
-tableOf threads objects word =
-    record { threadcount = threads; objectcount = objects; threads = replicate thread-limit noThread; objects = freshObjectsOf objects word }
+abbrev pub table-of : ℕ → ℕ → ℕ → Table
+table-of threads objects word =
+    record { threadcount = threads; objectcount = objects; threads = replicate thread-limit no-thread; objects = fresh-objects objects word }
 
-abbrev pub madeOf : ℕ → ℕ → ℕ → FreshTable
-madeOf threads objects word = record { answer = Made; table = tableOf threads objects word }
+abbrev pub made-of : ℕ → ℕ → ℕ → FreshTable
+made-of threads objects word = record { answer = Made; table = table-of threads objects word }
 
 -- 22: none made
-abbrev pub refusedOf : FreshTable
-refusedOf = record { answer = SizeOutOfRange; table = tableOf 0 0 freeWord }
+abbrev pub refused-of : FreshTable
+refused-of = record { answer = SizeOutOfRange; table = table-of 0 0 free-word }
 
 -- T from 1 to 32 and N from 1 to 64, or 22
-unfoldable pub freshOf : ℕ → ℕ → Bool → FreshTable
-freshOf threads objects reserved =
-    pick (eqb threads 0) refusedOf
-    (pick (ltb thread-limit threads) refusedOf
-    (pick (eqb objects 0) refusedOf
-    (pick (ltb object-limit objects) refusedOf (madeOf threads objects (firstWordOf reserved)))))
+unfoldable pub fresh-of : ℕ → ℕ → Bool → FreshTable
+fresh-of threads objects reserved =
+    pick (eqb threads 0) refused-of
+    (pick (ltb thread-limit threads) refused-of
+    (pick (eqb objects 0) refused-of
+    (pick (ltb object-limit objects) refused-of (made-of threads objects (first-word reserved)))))
 
 -- document 01's number for the answer
-unfoldable pub freshReturnedOf : FreshAnswer → ℕ
-freshReturnedOf Made = 0
-freshReturnedOf SizeOutOfRange = 22
+unfoldable pub fresh-returned : FreshAnswer → ℕ
+fresh-returned Made = 0
+fresh-returned SizeOutOfRange = 22

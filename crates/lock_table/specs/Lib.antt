@@ -4,6 +4,7 @@ pub mod Operation
 pub mod Phase
 pub mod Record
 pub mod Access
+pub mod Place
 pub mod Whole
 pub mod Empty
 pub mod Parked

@@ -1,51 +1,40 @@
 -- What is done to a monitor (document 01, "Steps": going in, handing, inflating and moving each take a monitor and give it back altered).
 use Prim.Native.Nat.{ℕ}
 use Rattle.chains.specs.Chain.{first-with}
+use Rattle.chains.specs.declared.named.Chain.{Chain}
 use Rattle.lock_table.specs.declared.record.Monitor.{Monitor}
 use Rattle.lock_table.specs.declared.monitor.Handed.{Handed}
 
 -- becoming holder
-abbrev pub heldBy : Monitor → ℕ → Monitor
-heldBy m thread = record { depth = m .depth; holder = thread; entry = m .entry; contention = m .contention; waiting = m .waiting }
+abbrev pub held-by : Monitor → ℕ → Monitor
+held-by m thread = record { depth = m .depth; holder = thread; entry = m .entry; contention = m .contention; waiting = m .waiting }
 
-abbrev pub withDepth : Monitor → ℕ → Monitor
-withDepth m depth = record { depth = depth; holder = m .holder; entry = m .entry; contention = m .contention; waiting = m .waiting }
+abbrev pub with-depth : Monitor → ℕ → Monitor
+with-depth m depth = record { depth = depth; holder = m .holder; entry = m .entry; contention = m .contention; waiting = m .waiting }
 
 -- hand: the first of the entry chain leaves it and becomes holder at depth 0; with nobody there holder and depth are 0
-abbrev pub handOf : Monitor → ℕ → Handed
-handOf m next =
+abbrev pub hand-of : Monitor → ℕ → Handed
+hand-of m next =
     record { monitor = record { depth = 0; holder = m .entry; entry = next; contention = m .contention; waiting = m .waiting }; thread = m .entry }
 
+-- the first of a chain, and the chain with another first
+abbrev pub first-in : Monitor → Chain → ℕ
+first-in m Chain.Entry = m .entry
+first-in m Chain.Contention = m .contention
+first-in m Chain.Waiting = m .waiting
+
+abbrev pub with-first : Monitor → Chain → ℕ → Monitor
+with-first m Chain.Entry first =
+    record { depth = m .depth; holder = m .holder; entry = first; contention = m .contention; waiting = m .waiting }
+with-first m Chain.Contention first =
+    record { depth = m .depth; holder = m .holder; entry = m .entry; contention = first; waiting = m .waiting }
+with-first m Chain.Waiting first =
+    record { depth = m .depth; holder = m .holder; entry = m .entry; contention = m .contention; waiting = first }
+
 -- a thread, or a chain from its first thread on, joins a chain at the end
-abbrev pub joinEntry : Monitor → ℕ → Monitor
-joinEntry m first =
-    record { depth = m .depth; holder = m .holder; entry = first-with (m .entry) first; contention = m .contention; waiting = m .waiting }
+abbrev pub join : Monitor → Chain → ℕ → Monitor
+join m chain first = with-first m chain (first-with (first-in m chain) first)
 
-abbrev pub joinContention : Monitor → ℕ → Monitor
-joinContention m thread =
-    record { depth = m .depth; holder = m .holder; entry = m .entry; contention = first-with (m .contention) thread; waiting = m .waiting }
-
-abbrev pub joinWaiting : Monitor → ℕ → Monitor
-joinWaiting m thread =
-    record { depth = m .depth; holder = m .holder; entry = m .entry; contention = m .contention; waiting = first-with (m .waiting) thread }
-
--- the chains left by their first, or by all
-abbrev pub withContention : Monitor → ℕ → Monitor
-withContention m first = record { depth = m .depth; holder = m .holder; entry = m .entry; contention = first; waiting = m .waiting }
-
-abbrev pub withWaiting : Monitor → ℕ → Monitor
-withWaiting m first = record { depth = m .depth; holder = m .holder; entry = m .entry; contention = m .contention; waiting = first }
-
--- inflating moves all contenders to the entry chain, telling the first of them
-abbrev pub admitContenders : Monitor → Monitor
-admitContenders m = joinEntry (withContention m 0) (m .contention)
-
-abbrev pub tellFirst : Monitor → ℕ → Handed
-tellFirst m next = record { monitor = joinEntry (withContention m next) (m .contention); thread = m .contention }
-
--- notify moves the first waiter, notify all moves all of them
-abbrev pub wakeFirst : Monitor → ℕ → Handed
-wakeFirst m next = record { monitor = joinEntry (withWaiting m next) (m .waiting); thread = m .waiting }
-
-abbrev pub wakeAll : Monitor → Monitor
-wakeAll m = joinEntry (withWaiting m 0) (m .waiting)
+-- the first of a chain, or all of it, move to the entry chain: the chain that they leave begins with `left` then
+abbrev pub move-to-entry : Monitor → Chain → ℕ → Monitor
+move-to-entry m from left = join (with-first m from left) Chain.Entry (first-in m from)

@@ -3,5 +3,5 @@ use Prim.Native.Nat.{ℕ}
 use lib.Dec.{ltb}
 use Rattle.laws.specs.Choice.{pick}
 
-unfoldable pub narrowOf : ℕ → ℕ
-narrowOf number = pick (ltb 255 number) 255 number
+unfoldable pub narrow-of : ℕ → ℕ
+narrow-of number = pick (ltb 255 number) 255 number

@@ -5,15 +5,15 @@ use Rattle.laws.specs.Choice.{pick}
 use Rattle.lock_table.specs.declared.operation.Operation.{Operation}
 use Rattle.lock_table.specs.declared.operation.Operation.the-variants.{Idle, Enter, Exit, Wait, Notify, NotifyAll}
 
-unfoldable pub operationNumberOf : Operation → ℕ
-operationNumberOf Idle = 0
-operationNumberOf Enter = 1
-operationNumberOf Exit = 2
-operationNumberOf Wait = 3
-operationNumberOf Notify = 4
-operationNumberOf NotifyAll = 5
+unfoldable pub operation-number : Operation → ℕ
+operation-number Idle = 0
+operation-number Enter = 1
+operation-number Exit = 2
+operation-number Wait = 3
+operation-number Notify = 4
+operation-number NotifyAll = 5
 
 -- a number that is no operation's gives the idle case
-unfoldable pub operationFromOf : ℕ → Operation
-operationFromOf number =
+unfoldable pub operation-from : ℕ → Operation
+operation-from number =
     pick (eqb number 1) Enter (pick (eqb number 2) Exit (pick (eqb number 3) Wait (pick (eqb number 4) Notify (pick (eqb number 5) NotifyAll Idle))))

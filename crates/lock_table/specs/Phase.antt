@@ -22,51 +22,51 @@ use Rattle.lock_table.specs.declared.phase.Phase.the-variants.{
   Resume,
 }
 
-unfoldable pub onwardNumberOf : Onward → ℕ
-onwardNumberOf ToCheck = 6
-onwardNumberOf ToTell = 10
-onwardNumberOf ToInflate = 12
-onwardNumberOf ToResume = 15
+unfoldable pub onward-number : Onward → ℕ
+onward-number ToCheck = 6
+onward-number ToTell = 10
+onward-number ToInflate = 12
+onward-number ToResume = 15
 
-unfoldable pub onwardPhaseOf : Onward → Phase
-onwardPhaseOf ToCheck = Check
-onwardPhaseOf ToTell = Tell
-onwardPhaseOf ToInflate = Inflate
-onwardPhaseOf ToResume = Resume
+unfoldable pub onward-phase : Onward → Phase
+onward-phase ToCheck = Check
+onward-phase ToTell = Tell
+onward-phase ToInflate = Inflate
+onward-phase ToResume = Resume
 
-unfoldable pub phaseNumberOf : Phase → ℕ
-phaseNumberOf Idle = 0
-phaseNumberOf Look = 1
-phaseNumberOf Store = 2
-phaseNumberOf Cancel = 3
-phaseNumberOf GoIn = 4
-phaseNumberOf (Queued onward) = 5
-phaseNumberOf Check = 6
-phaseNumberOf Try = 7
-phaseNumberOf Contending = 8
-phaseNumberOf Test = 9
-phaseNumberOf Tell = 10
-phaseNumberOf Leave = 11
-phaseNumberOf Inflate = 12
-phaseNumberOf GiveUp = 13
-phaseNumberOf Waiting = 14
-phaseNumberOf Resume = 15
+unfoldable pub phase-number : Phase → ℕ
+phase-number Idle = 0
+phase-number Look = 1
+phase-number Store = 2
+phase-number Cancel = 3
+phase-number GoIn = 4
+phase-number (Queued onward) = 5
+phase-number Check = 6
+phase-number Try = 7
+phase-number Contending = 8
+phase-number Test = 9
+phase-number Tell = 10
+phase-number Leave = 11
+phase-number Inflate = 12
+phase-number GiveUp = 13
+phase-number Waiting = 14
+phase-number Resume = 15
 
 -- 0 for a thread that is not queued
-unfoldable pub carriedNumberOf : Phase → ℕ
-carriedNumberOf Idle = 0
-carriedNumberOf Look = 0
-carriedNumberOf Store = 0
-carriedNumberOf Cancel = 0
-carriedNumberOf GoIn = 0
-carriedNumberOf (Queued onward) = onwardNumberOf onward
-carriedNumberOf Check = 0
-carriedNumberOf Try = 0
-carriedNumberOf Contending = 0
-carriedNumberOf Test = 0
-carriedNumberOf Tell = 0
-carriedNumberOf Leave = 0
-carriedNumberOf Inflate = 0
-carriedNumberOf GiveUp = 0
-carriedNumberOf Waiting = 0
-carriedNumberOf Resume = 0
+unfoldable pub carried-number : Phase → ℕ
+carried-number Idle = 0
+carried-number Look = 0
+carried-number Store = 0
+carried-number Cancel = 0
+carried-number GoIn = 0
+carried-number (Queued onward) = onward-number onward
+carried-number Check = 0
+carried-number Try = 0
+carried-number Contending = 0
+carried-number Test = 0
+carried-number Tell = 0
+carried-number Leave = 0
+carried-number Inflate = 0
+carried-number GiveUp = 0
+carried-number Waiting = 0
+carried-number Resume = 0

@@ -4,11 +4,11 @@ use Prim.Native.Nat.{ℕ, _≤_}
 use mathlib.Core.Path.{_≡_}
 use lib.ListN.{length}
 use Rattle.lock_table.specs.Limits.{thread-limit, object-limit, depth-limit}
-use Rattle.lock_table.specs.Access.{objectAt}
+use Rattle.lock_table.specs.Access.{object-at}
 use Rattle.lock_table.specs.declared.record.Table.{Table}
 
 -- its arrays have their lengths, and depths have 16 bits
 pub record Whole (table : Table) : Type 0 where
   pub threads : length (table .threads) ≡ thread-limit
   pub objects : length (table .objects) ≡ object-limit
-  pub depths : (o : ℕ) → objectAt table o .monitor .depth ≤ depth-limit
+  pub depths : (o : ℕ) → object-at table o .monitor .depth ≤ depth-limit

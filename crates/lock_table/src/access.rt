@@ -7,10 +7,11 @@ use crate::record::ThreadRecord;
 use crate::record::no_object;
 use crate::record::no_thread;
 ghost use mathlib.Core.Path.{_≡_};
-ghost use Rattle.lock_table.specs.Access.{threadAt, setThread, objectAt, setObject};
+ghost use Rattle.lock_table.specs.Access.{thread-at, set-thread, object-at, set-object};
+ghost use Rattle.lock_table.specs.Place.{place-within, thread-place, object-place};
 
 pub fn thread_at(table: Table, number: u8) -> ThreadRecord
-    ensures { λ r. ⌜ r ≡ threadAt table number ⌝ }
+    ensures { λ r. ⌜ r ≡ thread-at table number ⌝ }
 {
     if number == 0 {
         return no_thread();
@@ -23,7 +24,7 @@ pub fn thread_at(table: Table, number: u8) -> ThreadRecord
 }
 
 pub fn set_thread(table: Table, number: u8, thread: ThreadRecord) -> Table
-    ensures { λ r. ⌜ r ≡ setThread table number thread ⌝ }
+    ensures { λ r. ⌜ r ≡ set-thread table number thread ⌝ }
 {
     if number == 0 {
         return table;
@@ -38,7 +39,7 @@ pub fn set_thread(table: Table, number: u8, thread: ThreadRecord) -> Table
 }
 
 pub fn object_at(table: Table, number: u8) -> ObjectRecord
-    ensures { λ r. ⌜ r ≡ objectAt table number ⌝ }
+    ensures { λ r. ⌜ r ≡ object-at table number ⌝ }
 {
     if number == 0 {
         return no_object();
@@ -51,7 +52,7 @@ pub fn object_at(table: Table, number: u8) -> ObjectRecord
 }
 
 pub fn set_object(table: Table, number: u8, object: ObjectRecord) -> Table
-    ensures { λ r. ⌜ r ≡ setObject table number object ⌝ }
+    ensures { λ r. ⌜ r ≡ set-object table number object ⌝ }
 {
     if number == 0 {
         return table;
@@ -63,4 +64,30 @@ pub fn set_object(table: Table, number: u8, object: ObjectRecord) -> Table
     let mut changed = table;
     changed.objects[place] = object;
     changed
+}
+
+// Where the record of a number is in an array of `limit` records. A number that has none gets the first place;
+// who reads there makes no use of it.
+fn place_within(limit: u8, number: u8) -> usize
+    ensures { λ r. ⌜ r ≡ place-within limit number ⌝ }
+{
+    if number == 0 {
+        return 0;
+    }
+    if limit < number {
+        return 0;
+    }
+    (number as usize) - 1
+}
+
+pub fn thread_place(number: u8) -> usize
+    ensures { λ r. ⌜ r ≡ thread-place number ⌝ }
+{
+    place_within(THREADS, number)
+}
+
+pub fn object_place(number: u8) -> usize
+    ensures { λ r. ⌜ r ≡ object-place number ⌝ }
+{
+    place_within(OBJECTS, number)
 }

@@ -7,7 +7,7 @@ use crate::record::no_object;
 use crate::record::no_thread;
 ghost use mathlib.Core.Path.{_≡_};
 ghost use Prim.Native.Nat.{_≤_};
-ghost use Rattle.lock_table.specs.Fresh.{freshOf, freshReturnedOf, refusedOf, madeOf, firstWordOf, freshObjectsOf};
+ghost use Rattle.lock_table.specs.Fresh.{fresh-of, fresh-returned, refused-of, made-of, first-word, fresh-objects};
 
 pub enum FreshAnswer {
     Made,
@@ -22,7 +22,7 @@ pub struct FreshTable {
 }
 
 fn first_word(reserved: bool) -> u32
-    ensures { λ r. ⌜ r ≡ firstWordOf reserved ⌝ }
+    ensures { λ r. ⌜ r ≡ first-word reserved ⌝ }
 {
     if reserved {
         return lock_word::anonymous_word();
@@ -33,7 +33,7 @@ fn first_word(reserved: bool) -> u32
 // `count` objects with this word; the records past them are empty.
 fn fresh_objects(count: u8, word: u32) -> [ObjectRecord; 64]
     requires { ⌜ count ≤ 64 ⌝ }
-    ensures { λ r. ⌜ r ≡ freshObjectsOf count word ⌝ }
+    ensures { λ r. ⌜ r ≡ fresh-objects count word ⌝ }
 {
     let empty = no_object();
     let object = empty.with_word(word);
@@ -47,7 +47,7 @@ fn fresh_objects(count: u8, word: u32) -> [ObjectRecord; 64]
 }
 
 fn refused() -> FreshTable
-    ensures { λ r. ⌜ r ≡ refusedOf ⌝ }
+    ensures { λ r. ⌜ r ≡ refused-of ⌝ }
 {
     let table = Table {
         threadcount: 0,
@@ -63,7 +63,7 @@ fn refused() -> FreshTable
 
 fn made(threads: u8, objects: u8, word: u32) -> FreshTable
     requires { ⌜ objects ≤ 64 ⌝ }
-    ensures { λ r. ⌜ r ≡ madeOf threads objects word ⌝ }
+    ensures { λ r. ⌜ r ≡ made-of threads objects word ⌝ }
 {
     let table = Table {
         threadcount: threads,
@@ -79,7 +79,7 @@ fn made(threads: u8, objects: u8, word: u32) -> FreshTable
 
 // A fresh table with this many threads and objects, or 22.
 pub fn fresh(threads: u16, objects: u16, reserved: bool) -> FreshTable
-    ensures { λ r. ⌜ r ≡ freshOf threads objects reserved ⌝ }
+    ensures { λ r. ⌜ r ≡ fresh-of threads objects reserved ⌝ }
 {
     if threads == 0 {
         return refused();
@@ -98,7 +98,7 @@ pub fn fresh(threads: u16, objects: u16, reserved: bool) -> FreshTable
 
 // The number returned.
 pub fn fresh_returned(answer: FreshAnswer) -> u8
-    ensures { λ r. ⌜ r ≡ freshReturnedOf answer ⌝ }
+    ensures { λ r. ⌜ r ≡ fresh-returned answer ⌝ }
 {
     match answer {
         FreshAnswer::Made => 0,

@@ -1,12 +1,13 @@
 // What is done to a monitor: going in, handing it on, joining and moving chains. Each method takes the monitor and gives it back altered.
 // A chain's other threads are reached through the table (chain.rt); a method is told the next index that it needs.
 use crate::record::Monitor;
+use chains::Chain;
 use lock_word::Depth;
 ghost use mathlib.Core.Path.{_≡_};
 ghost use Rattle.chains.specs.Chain.{first-with};
-ghost use Rattle.lock_table.specs.Monitor.{heldBy, withDepth, handOf, joinEntry, joinContention, joinWaiting, admitContenders, tellFirst, wakeFirst, wakeAll};
+ghost use Rattle.lock_table.specs.Monitor.{held-by, with-depth, hand-of, first-in, with-first, join, move-to-entry};
 
-// A monitor, and the thread that was handed it or moved to its entry chain; 0 for nobody.
+// A monitor, and the thread that was handed it; 0 for nobody.
 pub struct Handed {
     pub monitor: Monitor,
     pub thread: u8,
@@ -24,14 +25,14 @@ fn first_of_both(front: u8, back: u8) -> u8
 
 impl Monitor {
     pub fn held_by(mut self, thread: u8) -> Monitor
-        ensures { λ r. ⌜ r ≡ heldBy self thread ⌝ }
+        ensures { λ r. ⌜ r ≡ held-by self thread ⌝ }
     {
         self.holder = thread;
         self
     }
 
     pub fn with_depth(mut self, depth: Depth) -> Monitor
-        ensures { λ r. ⌜ r ≡ withDepth self depth ⌝ }
+        ensures { λ r. ⌜ r ≡ with-depth self depth ⌝ }
     {
         self.depth = depth;
         self
@@ -39,7 +40,7 @@ impl Monitor {
 
     // Hand: the first of the entry chain becomes holder at depth 0. `next` is its next index, 0 if there is nobody.
     pub fn hand(mut self, next: u8) -> Handed
-        ensures { λ r. ⌜ r ≡ handOf self next ⌝ }
+        ensures { λ r. ⌜ r ≡ hand-of self next ⌝ }
     {
         let first = self.entry;
         self.holder = first;
@@ -51,67 +52,49 @@ impl Monitor {
         }
     }
 
-    // A thread, or a chain from its first thread on, joins the entry chain. Whoever joins it comes through here.
-    pub fn join_entry(mut self, first: u8) -> Monitor
-        ensures { λ r. ⌜ r ≡ joinEntry self first ⌝ }
+    // The first thread of a chain, 0 if there is none.
+    pub fn first_in(self, chain: Chain) -> u8
+        ensures { λ r. ⌜ r ≡ first-in self chain ⌝ }
     {
-        self.entry = first_of_both(self.entry, first);
-        self
-    }
-
-    pub fn join_contention(mut self, thread: u8) -> Monitor
-        ensures { λ r. ⌜ r ≡ joinContention self thread ⌝ }
-    {
-        self.contention = first_of_both(self.contention, thread);
-        self
-    }
-
-    pub fn join_waiting(mut self, thread: u8) -> Monitor
-        ensures { λ r. ⌜ r ≡ joinWaiting self thread ⌝ }
-    {
-        self.waiting = first_of_both(self.waiting, thread);
-        self
-    }
-
-    // Inflating: all contenders go to the entry chain, in order.
-    pub fn admit_contenders(mut self) -> Monitor
-        ensures { λ r. ⌜ r ≡ admitContenders self ⌝ }
-    {
-        let first = self.contention;
-        self.contention = 0;
-        self.join_entry(first)
-    }
-
-    // Telling: the first contender goes to the entry chain. `next` is its next index.
-    pub fn tell_first(mut self, next: u8) -> Handed
-        ensures { λ r. ⌜ r ≡ tellFirst self next ⌝ }
-    {
-        let first = self.contention;
-        self.contention = next;
-        Handed {
-            monitor: self.join_entry(first),
-            thread: first,
+        match chain {
+            Chain::Entry => self.entry,
+            Chain::Contention => self.contention,
+            Chain::Waiting => self.waiting,
         }
     }
 
-    // Notify: the first waiter goes to the entry chain. `next` is its next index.
-    pub fn wake_first(mut self, next: u8) -> Handed
-        ensures { λ r. ⌜ r ≡ wakeFirst self next ⌝ }
+    // Another first thread for a chain.
+    pub fn with_first(mut self, chain: Chain, first: u8) -> Monitor
+        ensures { λ r. ⌜ r ≡ with-first self chain first ⌝ }
     {
-        let first = self.waiting;
-        self.waiting = next;
-        Handed {
-            monitor: self.join_entry(first),
-            thread: first,
+        match chain {
+            Chain::Entry => {
+                self.entry = first;
+                self
+            }
+            Chain::Contention => {
+                self.contention = first;
+                self
+            }
+            Chain::Waiting => {
+                self.waiting = first;
+                self
+            }
         }
     }
 
-    // Notify all: all waiters go to the entry chain, in order.
-    pub fn wake_all(mut self) -> Monitor
-        ensures { λ r. ⌜ r ≡ wakeAll self ⌝ }
+    // A thread, or a chain from its first thread on, joins a chain at the end. Whoever joins one comes through here.
+    pub fn join(self, chain: Chain, first: u8) -> Monitor
+        ensures { λ r. ⌜ r ≡ join self chain first ⌝ }
     {
-        let first = self.waiting;
-        self.waiting = 0;
-        self.join_entry(first)
+        self.with_first(chain, first_of_both(self.first_in(chain), first))
+    }
+
+    // The first of a chain, or all of it, move to the entry chain. `left` is who the chain begins with then: the first's next index, or 0.
+    pub fn move_to_entry(self, from: Chain, left: u8) -> Monitor
+        ensures { λ r. ⌜ r ≡ move-to-entry self from left ⌝ }
+    {
+        let first = self.first_in(from);
+        self.with_first(from, left).join(Chain::Entry, first)
     }
 }

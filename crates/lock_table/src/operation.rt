@@ -1,6 +1,6 @@
 // The operations, with document 01's numbers.
 ghost use mathlib.Core.Path.{_≡_};
-ghost use Rattle.lock_table.specs.Operation.{operationNumberOf, operationFromOf};
+ghost use Rattle.lock_table.specs.Operation.{operation-number, operation-from};
 
 pub enum Operation {
     // 0: none, the thread is idle
@@ -18,7 +18,7 @@ pub enum Operation {
 }
 
 pub fn operation_number(operation: Operation) -> u8
-    ensures { λ r. ⌜ r ≡ operationNumberOf operation ⌝ }
+    ensures { λ r. ⌜ r ≡ operation-number operation ⌝ }
 {
     match operation {
         Operation::Idle => 0,
@@ -32,7 +32,7 @@ pub fn operation_number(operation: Operation) -> u8
 
 // The operation of a number; a number that is none of theirs gives the idle case.
 pub fn operation_from(number: u8) -> Operation
-    ensures { λ r. ⌜ r ≡ operationFromOf number ⌝ }
+    ensures { λ r. ⌜ r ≡ operation-from number ⌝ }
 {
     if number == 1 {
         return Operation::Enter;

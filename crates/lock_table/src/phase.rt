@@ -1,6 +1,6 @@
 // The phases of an operation, with document 01's words and numbers.
 ghost use mathlib.Core.Path.{_≡_};
-ghost use Rattle.lock_table.specs.Phase.{phaseNumberOf, onwardNumberOf, carriedNumberOf, onwardPhaseOf};
+ghost use Rattle.lock_table.specs.Phase.{phase-number, onward-number, carried-number, onward-phase};
 
 // What a queued thread goes on with when it becomes the monitor's holder.
 pub enum Onward {
@@ -50,7 +50,7 @@ pub enum Phase {
 }
 
 pub fn onward_number(onward: Onward) -> u8
-    ensures { λ r. ⌜ r ≡ onwardNumberOf onward ⌝ }
+    ensures { λ r. ⌜ r ≡ onward-number onward ⌝ }
 {
     match onward {
         Onward::ToCheck => 6,
@@ -61,7 +61,7 @@ pub fn onward_number(onward: Onward) -> u8
 }
 
 pub fn phase_number(phase: Phase) -> u8
-    ensures { λ r. ⌜ r ≡ phaseNumberOf phase ⌝ }
+    ensures { λ r. ⌜ r ≡ phase-number phase ⌝ }
 {
     match phase {
         Phase::Idle => 0,
@@ -85,7 +85,7 @@ pub fn phase_number(phase: Phase) -> u8
 
 // The number of the phase that a queued thread carries, 0 for any other.
 pub fn carried_number(phase: Phase) -> u8
-    ensures { λ r. ⌜ r ≡ carriedNumberOf phase ⌝ }
+    ensures { λ r. ⌜ r ≡ carried-number phase ⌝ }
 {
     match phase {
         Phase::Idle => 0,
@@ -108,7 +108,7 @@ pub fn carried_number(phase: Phase) -> u8
 }
 
 pub fn onward_phase(onward: Onward) -> Phase
-    ensures { λ r. ⌜ r ≡ onwardPhaseOf onward ⌝ }
+    ensures { λ r. ⌜ r ≡ onward-phase onward ⌝ }
 {
     match onward {
         Onward::ToCheck => Phase::Check,

@@ -3,7 +3,7 @@ use crate::operation::Operation;
 use crate::phase::Phase;
 use lock_word::Depth;
 ghost use mathlib.Core.Path.{_≡_};
-ghost use Rattle.lock_table.specs.Record.{noThread, noMonitor, noObject, withPhase, withNext, withWord, withFlag, withMonitor};
+ghost use Rattle.lock_table.specs.Record.{no-thread, no-monitor, no-object, with-phase, with-next, with-word, with-flag, with-monitor};
 
 // The most threads and objects that a table can have.
 pub const THREADS: u8 = 32;
@@ -46,7 +46,7 @@ pub struct Table {
 }
 
 pub fn no_thread() -> ThreadRecord
-    ensures { λ r. ⌜ r ≡ noThread ⌝ }
+    ensures { λ r. ⌜ r ≡ no-thread ⌝ }
 {
     ThreadRecord {
         kept: 0,
@@ -59,7 +59,7 @@ pub fn no_thread() -> ThreadRecord
 }
 
 pub fn no_monitor() -> Monitor
-    ensures { λ r. ⌜ r ≡ noMonitor ⌝ }
+    ensures { λ r. ⌜ r ≡ no-monitor ⌝ }
 {
     Monitor {
         depth: 0,
@@ -71,7 +71,7 @@ pub fn no_monitor() -> Monitor
 }
 
 pub fn no_object() -> ObjectRecord
-    ensures { λ r. ⌜ r ≡ noObject ⌝ }
+    ensures { λ r. ⌜ r ≡ no-object ⌝ }
 {
     ObjectRecord {
         word: 0,
@@ -82,7 +82,7 @@ pub fn no_object() -> ObjectRecord
 
 impl ThreadRecord {
     pub fn with_phase(self, phase: Phase) -> ThreadRecord
-        ensures { λ r. ⌜ r ≡ withPhase self phase ⌝ }
+        ensures { λ r. ⌜ r ≡ with-phase self phase ⌝ }
     {
         let operation = self.operation;
         ThreadRecord {
@@ -96,7 +96,7 @@ impl ThreadRecord {
     }
 
     pub fn with_next(mut self, next: u8) -> ThreadRecord
-        ensures { λ r. ⌜ r ≡ withNext self next ⌝ }
+        ensures { λ r. ⌜ r ≡ with-next self next ⌝ }
     {
         self.next = next;
         self
@@ -105,21 +105,21 @@ impl ThreadRecord {
 
 impl ObjectRecord {
     pub fn with_word(mut self, word: u32) -> ObjectRecord
-        ensures { λ r. ⌜ r ≡ withWord self word ⌝ }
+        ensures { λ r. ⌜ r ≡ with-word self word ⌝ }
     {
         self.word = word;
         self
     }
 
     pub fn with_flag(mut self, flag: bool) -> ObjectRecord
-        ensures { λ r. ⌜ r ≡ withFlag self flag ⌝ }
+        ensures { λ r. ⌜ r ≡ with-flag self flag ⌝ }
     {
         self.flag = flag;
         self
     }
 
     pub fn with_monitor(mut self, monitor: Monitor) -> ObjectRecord
-        ensures { λ r. ⌜ r ≡ withMonitor self monitor ⌝ }
+        ensures { λ r. ⌜ r ≡ with-monitor self monitor ⌝ }
     {
         self.monitor = monitor;
         self

@@ -8,8 +8,8 @@ use lib.Arith.{mod-mul, digits-div, digits-mod}
 use borrow.Author.Tests.{ne-eqb}
 use Rattle.laws.proofs.Choice.{split, above-zero}
 use Rattle.lock_word.specs.Layout.{first-beyond, number-unit, counts}
-use Rattle.lock_word.specs.Read.{decodeOf}
-use Rattle.lock_word.specs.KindTable.{kind-of, table-count-of, packedOf, byKindOf}
+use Rattle.lock_word.specs.Read.{read-word}
+use Rattle.lock_word.specs.KindTable.{kind-of, table-count-of, packed-of, by-kind}
 use Rattle.lock_word.specs.declared.reading.Decoded.the-variants.{Invalid}
 
 low-kind : (word : ℕ) → kind-of (word % number-unit) ≡ kind-of word
@@ -33,8 +33,8 @@ count-small : (word : ℕ) → table-count-of word < counts
 unfolding table-count-of
 count-small word = split (eqb (word % 2) 0) (λ even. simp even (omega arith)) (λ odd. simp odd (omega arith))
 
-by-bits : (word : ℕ) → word < first-beyond → byKindOf (kind-of word) (table-count-of word) (word / number-unit) ≡ decodeOf word
-unfolding byKindOf decodeOf kind-of table-count-of
+by-bits : (word : ℕ) → word < first-beyond → by-kind (kind-of word) (table-count-of word) (word / number-unit) ≡ read-word word
+unfolding by-kind read-word kind-of table-count-of
 by-bits word h =
     let rest : word / 8388608 ≡ 0 = omega arith in
     let number : word / 256 % 32768 ≡ word / 256 = omega arith in
@@ -45,13 +45,13 @@ by-bits word h =
     (λ odd. split (eqb (word / 2 % 128) 0) (λ fat. simp (rest, number, odd, fat)) (λ none. simp (rest, number, odd, none)))
 
 -- a word with a bit above 22 is no lock word
-pub beyond : (word : ℕ) → first-beyond ≤ word → decodeOf word ≡ Invalid
-unfolding decodeOf
+pub beyond : (word : ℕ) → first-beyond ≤ word → read-word word ≡ Invalid
+unfolding read-word
 beyond word h = simp (ne-eqb (word / 8388608) 0 (λ e. lt-irrefl 0 (omega (arith, e))))
 
 -- a word below bit 23 is read by the entry of its low byte
 pub read-by-entry : (word : ℕ) → word < first-beyond
-    → byKindOf (packedOf (word % number-unit) / counts) (packedOf (word % number-unit) % counts) (word / number-unit) ≡ decodeOf word
-unfolding packedOf
+    → by-kind (packed-of (word % number-unit) / counts) (packed-of (word % number-unit) % counts) (word / number-unit) ≡ read-word word
+unfolding packed-of
 read-by-entry word h =
     simp (low-kind, low-count, digits-div (kind-of word) (count-small word), digits-mod (kind-of word) (count-small word)) (by-bits word h)

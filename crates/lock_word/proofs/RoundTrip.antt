@@ -10,8 +10,8 @@ use borrow.Author.Tests.{eqb-true, eqb-false, ne-eqb}
 use Rattle.laws.specs.Choice.{pick}
 use Rattle.laws.proofs.Choice.{by-test, above-zero}
 use Rattle.lock_word.specs.Layout.{first-beyond, number-unit, count-unit, counts, numbers}
-use Rattle.lock_word.specs.Read.{decodeOf, flatOf, reservedOf, fatOf, threadNumber, monitorNumber}
-use Rattle.lock_word.specs.Write.{encodeOf, IsNumber, InRange}
+use Rattle.lock_word.specs.Read.{read-word, read-flat, read-reserved, fat-of, thread-number, monitor-number}
+use Rattle.lock_word.specs.Write.{write-word, IsNumber, InRange}
 use Rattle.lock_word.specs.declared.reading.ThreadNumber.{ThreadNumber}
 use Rattle.lock_word.specs.declared.reading.LockWord.{LockWord}
 use Rattle.lock_word.specs.declared.reading.LockWord.the-variants.{Free, Flat, Anonymous, Reserved, Fat}
@@ -20,49 +20,49 @@ use Rattle.lock_word.specs.declared.reading.Decoded.the-variants.{Valid,
 
 -- the meaning, if any, is in range and is written as this word
 WrittenAs : ℕ → Decoded → Type 0
-WrittenAs word decoded = (meaning : LockWord) → decoded ≡ Valid meaning → (encodeOf meaning ≡ word) × InRange meaning
+WrittenAs word decoded = (meaning : LockWord) → decoded ≡ Valid meaning → (write-word meaning ≡ word) × InRange meaning
 
 none : (word : ℕ) → WrittenAs word Invalid
 unfolding WrittenAs
 none word meaning e = let z : _≡_ {A = ℕ} 0 1 = cc in absurd (eqb-false 0 1 refl z)
 
-some : (word : ℕ) (meaning : LockWord) → (encodeOf meaning ≡ word) × InRange meaning → WrittenAs word (Valid meaning)
+some : (word : ℕ) (meaning : LockWord) → (write-word meaning ≡ word) × InRange meaning → WrittenAs word (Valid meaning)
 unfolding WrittenAs
 some word meaning known other e =
     let same : meaning ≡ other = cc in
-    subst (λ (x : LockWord). (encodeOf x ≡ word) × InRange x) same known
+    subst (λ (x : LockWord). (write-word x ≡ word) × InRange x) same known
 
 -- a flat or a reserved word: `nobody` is its meaning with number 0 and count 0, `owned` with a thread
 of-thread : (word : ℕ) (nobody : LockWord) (owned : ThreadNumber → ℕ → LockWord) (count number : ℕ)
-    → (number ≡ 0 → count ≡ 0 → (encodeOf nobody ≡ word) × InRange nobody)
-    → (1 ≤ number → (encodeOf (owned (threadNumber number) count) ≡ word) × InRange (owned (threadNumber number) count))
-    → WrittenAs word (pick (eqb number 0) (pick (eqb count 0) (Valid nobody) Invalid) (Valid (owned (threadNumber number) count)))
+    → (number ≡ 0 → count ≡ 0 → (write-word nobody ≡ word) × InRange nobody)
+    → (1 ≤ number → (write-word (owned (thread-number number) count) ≡ word) × InRange (owned (thread-number number) count))
+    → WrittenAs word (pick (eqb number 0) (pick (eqb count 0) (Valid nobody) Invalid) (Valid (owned (thread-number number) count)))
 of-thread word nobody owned count number left right =
     by-test (WrittenAs word) (eqb number 0)
     (λ n. by-test (WrittenAs word) (eqb count 0)
     (λ c. some word nobody (left (eqb-true number 0 n) (eqb-true count 0 c)))
     (λ c. none word))
-    (λ n. some word (owned (threadNumber number) count) (right (above-zero number n)))
+    (λ n. some word (owned (thread-number number) count) (right (above-zero number n)))
 
 written-flat : (word count number : ℕ) → count < counts → number < numbers → word ≡ number * number-unit + count * count-unit
-    → WrittenAs word (flatOf count number)
-unfolding flatOf encodeOf InRange
+    → WrittenAs word (read-flat count number)
+unfolding read-flat write-word InRange
 written-flat word count number c n e =
     of-thread word Free Flat count number (λ p q. (omega arith, tt))
     (λ p. (simp (mod-eq-of-lt n, mod-eq-of-lt c) (omega arith), ((p, n), c)))
 
 written-reserved : (word count number : ℕ) → count < counts → number < numbers → word ≡ number * number-unit + count * count-unit + 2
-    → WrittenAs word (reservedOf count number)
-unfolding reservedOf encodeOf InRange
+    → WrittenAs word (read-reserved count number)
+unfolding read-reserved write-word InRange
 written-reserved word count number c n e =
     of-thread word Anonymous Reserved count number (λ p q. (omega arith, tt))
     (λ p. (simp (mod-eq-of-lt n, mod-eq-of-lt c) (omega arith), ((p, n), c)))
 
-written-fat : (word number : ℕ) → number < numbers → word ≡ number * number-unit + 1 → WrittenAs word (fatOf number)
-unfolding fatOf encodeOf InRange
+written-fat : (word number : ℕ) → number < numbers → word ≡ number * number-unit + 1 → WrittenAs word (fat-of number)
+unfolding fat-of write-word InRange
 written-fat word number n e =
     by-test (WrittenAs word) (eqb number 0) (λ p. none word)
-    (λ p. some word (Fat (monitorNumber number)) (simp (mod-eq-of-lt n) (omega arith), (above-zero number p, n)))
+    (λ p. some word (Fat (monitor-number number)) (simp (mod-eq-of-lt n) (omega arith), (above-zero number p, n)))
 
 -- a word is the sum of its fields
 fields : (word : ℕ) → word ≡ word / 256 * 256 + word / 4 % 64 * 4 + word / 2 % 2 * 2 + word % 2
@@ -71,8 +71,8 @@ fields word = omega (arith, mod-mul word {m = 64} {c = 4} (lit< tt) (lit< tt), m
 fat-fields : (word : ℕ) → word ≡ word / 256 * 256 + word / 2 % 128 * 2 + word % 2
 fat-fields word = omega (arith, mod-mul word {m = 128} {c = 2} (lit< tt) (lit< tt))
 
-decoded-written : (word : ℕ) → WrittenAs word (decodeOf word)
-unfolding decodeOf
+decoded-written : (word : ℕ) → WrittenAs word (read-word word)
+unfolding read-word
 decoded-written word =
     by-test (WrittenAs word) (eqb (word / first-beyond) 0)
     (λ rest.
@@ -89,17 +89,17 @@ decoded-written word =
     (λ rest. none word)
 
 -- a valid word is what its meaning is written as
-pub word-of-meaning : (word : ℕ) (meaning : LockWord) → decodeOf word ≡ Valid meaning → encodeOf meaning ≡ word
+pub word-of-meaning : (word : ℕ) (meaning : LockWord) → read-word word ≡ Valid meaning → write-word meaning ≡ word
 unfolding WrittenAs
 word-of-meaning word meaning e = decoded-written word meaning e .0
 
 -- the numbers and counts that the reader gives out are in range
-pub meaning-in-range : (word : ℕ) (meaning : LockWord) → decodeOf word ≡ Valid meaning → InRange meaning
+pub meaning-in-range : (word : ℕ) (meaning : LockWord) → read-word word ≡ Valid meaning → InRange meaning
 unfolding WrittenAs
 meaning-in-range word meaning e = decoded-written word meaning e .1
 
 -- two valid words with one meaning are the same word
-pub one-word : (left right : ℕ) (meaning : LockWord) → decodeOf left ≡ Valid meaning → decodeOf right ≡ Valid meaning → left ≡ right
+pub one-word : (left right : ℕ) (meaning : LockWord) → read-word left ≡ Valid meaning → read-word right ≡ Valid meaning → left ≡ right
 one-word left right meaning p q = sym (word-of-meaning left meaning p) ∙ word-of-meaning right meaning q
 
 -- a word made of a reserved bit, a count and a number is read as them
@@ -114,15 +114,15 @@ module _ (word number count reserved : ℕ) (n : number < 32768) (c : count < 64
   at-reserved : word / 2 ≡ (number * 64 + count) * 2 + reserved
   at-reserved = omega arith
 
-  read-thread : decodeOf word ≡ pick (eqb reserved 0) (flatOf count number) (reservedOf count number)
-  unfolding decodeOf
+  read-thread : read-word word ≡ pick (eqb reserved 0) (read-flat count number) (read-reserved count number)
+  unfolding read-word
   read-thread =
       let rest : word / 8388608 ≡ 0 = omega arith in
       let even : word % 2 ≡ 0 = omega arith in
       simp (rest, even, at-number, at-count, at-reserved, digits-mod (number * 64 + count) r, digits-mod number c, mod-eq-of-lt n)
 
-read-fat : (word number : ℕ) → number < 32768 → word ≡ number * 256 + 1 → decodeOf word ≡ fatOf number
-unfolding decodeOf
+read-fat : (word number : ℕ) → number < 32768 → word ≡ number * 256 + 1 → read-word word ≡ fat-of number
+unfolding read-word
 read-fat word number n e =
     let rest : word / 8388608 ≡ 0 = omega arith in
     let odd : word % 2 ≡ 1 = omega arith in
@@ -134,8 +134,8 @@ some-number : {n : ℕ} → IsNumber n → eqb n 0 ≡ false
 some-number {n} h = ne-eqb n 0 (λ e. lt-irrefl 0 (omega arith))
 
 -- each meaning in range is read back from the word that it is written as
-pub meaning-of-word : (meaning : LockWord) → InRange meaning → decodeOf (encodeOf meaning) ≡ Valid meaning
-unfolding decodeOf flatOf reservedOf fatOf encodeOf InRange
+pub meaning-of-word : (meaning : LockWord) → InRange meaning → read-word (write-word meaning) ≡ Valid meaning
+unfolding read-word read-flat read-reserved fat-of write-word InRange
 meaning-of-word Free h = refl
 meaning-of-word (Flat thread count) h =
     simp (mod-eq-of-lt (h .0 .1), mod-eq-of-lt (h .1))

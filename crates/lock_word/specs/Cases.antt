@@ -3,8 +3,8 @@
 use Prim.Native.Nat.{ℕ}
 use mathlib.Core.Path.{_≡_}
 use mathlib.Core.List.{List, [], _∷_}
-use Rattle.lock_word.specs.Read.{decodeOf, threadNumber}
-use Rattle.lock_word.specs.Meaning.{seenOf, ownershipOf, cancelOf}
+use Rattle.lock_word.specs.Read.{read-word, thread-number}
+use Rattle.lock_word.specs.Meaning.{seen-word, ownership-of, cancel-of}
 use Rattle.lock_word.specs.declared.reading.LockWord.{LockWord}
 use Rattle.lock_word.specs.declared.reading.LockWord.the-variants.{Flat, Reserved}
 use Rattle.lock_word.specs.declared.reading.Decoded.the-variants.{Valid, Invalid}
@@ -25,19 +25,19 @@ case-numbers (row ∷ rows) = row .number ∷ case-numbers rows
 -- the word means this, and so its thread owns the object at this depth, whatever the monitor says
 abbrev pub Means : ℕ → LockWord → ℕ → ℕ → Type 0
 Means word meaning thread depth =
-    (decodeOf word ≡ Valid meaning)
-    × ((holder deep : ℕ) → ownershipOf (seenOf meaning) holder deep ≡ record { thread = thread; depth = depth })
+    (read-word word ≡ Valid meaning)
+    × ((holder deep : ℕ) → ownership-of (seen-word meaning) holder deep ≡ record { thread = thread; depth = depth })
 
 abbrev pub Cancels : ℕ → ℕ → Type 0
-Cancels word after = cancelOf word ≡ after
+Cancels word after = cancel-of word ≡ after
 
 abbrev pub NoLockWord : ℕ → Type 0
-NoLockWord word = decodeOf word ≡ Invalid
+NoLockWord word = read-word word ≡ Invalid
 
 abbrev pub word-cases : List Case
 word-cases =
-    record { number = 1; states = Means 0x000304 (Flat (threadNumber 3) 1) 3 2 }
-    ∷ record { number = 1; states = Means 0x00030a (Reserved (threadNumber 3) 2) 3 2 }
+    record { number = 1; states = Means 0x000304 (Flat (thread-number 3) 1) 3 2 }
+    ∷ record { number = 1; states = Means 0x00030a (Reserved (thread-number 3) 2) 3 2 }
     ∷ record { number = 2; states = Cancels 0x00030a 0x000304 }
     ∷ record { number = 3; states = Cancels 0x000302 0x000000 }
     ∷ record { number = 4; states = Cancels 0x0003fe 0x0003f8 }

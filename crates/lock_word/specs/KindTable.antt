@@ -3,7 +3,7 @@ use Prim.Native.Nat.{ℕ, _+_, _*_}
 use lib.Dec.{eqb}
 use Rattle.laws.specs.Choice.{pick}
 use Rattle.lock_word.specs.Layout.{counts, shape-field, reserved-field, count-field, below-number-field}
-use Rattle.lock_word.specs.Read.{flatOf, reservedOf, fatOf}
+use Rattle.lock_word.specs.Read.{read-flat, read-reserved, fat-of}
 use Rattle.lock_word.specs.declared.reading.Decoded.{Decoded}
 use Rattle.lock_word.specs.declared.reading.Decoded.the-variants.{Invalid}
 
@@ -16,10 +16,10 @@ unfoldable pub table-count-of : ℕ → ℕ
 table-count-of word = pick (eqb (shape-field word) 0) (count-field word) 0
 
 -- the table's entry for a low byte
-unfoldable pub packedOf : ℕ → ℕ
-packedOf low = kind-of low * counts + table-count-of low
+unfoldable pub packed-of : ℕ → ℕ
+packed-of low = kind-of low * counts + table-count-of low
 
 -- 0 flat, 1 reserved, 2 fat, 3 none
-unfoldable pub byKindOf : ℕ → ℕ → ℕ → Decoded
-byKindOf kind count number =
-    pick (eqb kind 0) (flatOf count number) (pick (eqb kind 1) (reservedOf count number) (pick (eqb kind 2) (fatOf number) Invalid))
+unfoldable pub by-kind : ℕ → ℕ → ℕ → Decoded
+by-kind kind count number =
+    pick (eqb kind 0) (read-flat count number) (pick (eqb kind 1) (read-reserved count number) (pick (eqb kind 2) (fat-of number) Invalid))

@@ -2,8 +2,8 @@
 use Prim.Native.Nat.{ℕ, _+_, _-_}
 use lib.Dec.{eqb}
 use Rattle.laws.specs.Choice.{pick}
-use Rattle.lock_word.specs.Read.{decodeOf}
-use Rattle.lock_word.specs.Write.{freeWord, anonymousWord, flatWord, reservedWord}
+use Rattle.lock_word.specs.Read.{read-word}
+use Rattle.lock_word.specs.Write.{free-word, anonymous-word, flat-word, reserved-word}
 use Rattle.lock_word.specs.declared.reading.LockWord.{LockWord}
 use Rattle.lock_word.specs.declared.reading.LockWord.the-variants.{
   Free as FreeWord,
@@ -19,21 +19,21 @@ use Rattle.lock_word.specs.declared.meaning.WordSeen.the-variants.{Free,
 use Rattle.lock_word.specs.declared.meaning.Ownership.{Ownership}
 
 -- the word as a rule sees it: a fat word's number is its object, which the rule is at anyway
-unfoldable pub seenOf : LockWord → WordSeen
-seenOf FreeWord = Free
-seenOf (FlatWord thread count) = Flat (thread .0) count
-seenOf AnonymousWord = Anonymous
-seenOf (ReservedWord thread count) = Reserved (thread .0) count
-seenOf (FatWord monitor) = Fat
+unfoldable pub seen-word : LockWord → WordSeen
+seen-word FreeWord = Free
+seen-word (FlatWord thread count) = Flat (thread .0) count
+seen-word AnonymousWord = Anonymous
+seen-word (ReservedWord thread count) = Reserved (thread .0) count
+seen-word (FatWord monitor) = Fat
 
 -- the count of a reserved word, which is what a store kept of it; no other word has one
-unfoldable pub keptCountOf : Decoded → ℕ
-keptCountOf Invalid = 0
-keptCountOf (Valid FreeWord) = 0
-keptCountOf (Valid (FlatWord thread count)) = 0
-keptCountOf (Valid AnonymousWord) = 0
-keptCountOf (Valid (ReservedWord thread count)) = count
-keptCountOf (Valid (FatWord monitor)) = 0
+unfoldable pub kept-count : Decoded → ℕ
+kept-count Invalid = 0
+kept-count (Valid FreeWord) = 0
+kept-count (Valid (FlatWord thread count)) = 0
+kept-count (Valid AnonymousWord) = 0
+kept-count (Valid (ReservedWord thread count)) = count
+kept-count (Valid (FatWord monitor)) = 0
 
 -- the owner by the word and by the monitor's holder and depth; 0 is nobody. Flat: "the thread owns it"; reserved: "if count is above 0"; fat: "The
 -- holder owns it if the monitor's depth is above 0."
@@ -55,12 +55,12 @@ depth-of (Reserved thread count) depth = count
 abbrev pub unowned : Ownership
 unowned = record { thread = 0; depth = 0 }
 
-unfoldable pub ownedBy : ℕ → ℕ → Ownership
-ownedBy owner depth = pick (eqb owner 0) unowned (record { thread = owner; depth = depth })
+unfoldable pub owned-by : ℕ → ℕ → Ownership
+owned-by owner depth = pick (eqb owner 0) unowned (record { thread = owner; depth = depth })
 
 -- owner and depth together, "0 and 0 with no owner"
-abbrev pub ownershipOf : WordSeen → ℕ → ℕ → Ownership
-ownershipOf word holder depth = ownedBy (owner-of word holder depth) (depth-of word depth)
+abbrev pub ownership-of : WordSeen → ℕ → ℕ → Ownership
+ownership-of word holder depth = owned-by (owner-of word holder depth) (depth-of word depth)
 
 -- 3 cancel: "a reserved word with count c becomes free if c is 0, else flat for its thread with count c − 1"; "A word not reserved stays."
 abbrev pub cancelled : WordSeen → WordSeen
@@ -71,17 +71,17 @@ cancelled (Flat thread count) = Flat thread count
 cancelled (Reserved thread count) = pick (eqb count 0) Free (Flat thread (count - 1))
 
 -- the bits of a word in place of these; a fat word keeps its number
-unfoldable pub rewrittenOf : ℕ → WordSeen → ℕ
-rewrittenOf word Free = freeWord
-rewrittenOf word Anonymous = anonymousWord
-rewrittenOf word Fat = word
-rewrittenOf word (Flat thread count) = flatWord thread count
-rewrittenOf word (Reserved thread count) = reservedWord thread count
+unfoldable pub rewritten-of : ℕ → WordSeen → ℕ
+rewritten-of word Free = free-word
+rewritten-of word Anonymous = anonymous-word
+rewritten-of word Fat = word
+rewritten-of word (Flat thread count) = flat-word thread count
+rewritten-of word (Reserved thread count) = reserved-word thread count
 
 -- cancelling on the bits; what is no lock word stays
-unfoldable pub cancelReadOf : ℕ → Decoded → ℕ
-cancelReadOf word Invalid = word
-cancelReadOf word (Valid meaning) = rewrittenOf word (cancelled (seenOf meaning))
+unfoldable pub cancel-read : ℕ → Decoded → ℕ
+cancel-read word Invalid = word
+cancel-read word (Valid meaning) = rewritten-of word (cancelled (seen-word meaning))
 
-unfoldable pub cancelOf : ℕ → ℕ
-cancelOf word = cancelReadOf word (decodeOf word)
+unfoldable pub cancel-of : ℕ → ℕ
+cancel-of word = cancel-read word (read-word word)

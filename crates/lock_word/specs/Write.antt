@@ -4,27 +4,27 @@ use Rattle.lock_word.specs.Layout.{reserved-bit, count-unit, number-unit
 use Rattle.lock_word.specs.declared.reading.LockWord.{LockWord}
 use Rattle.lock_word.specs.declared.reading.LockWord.the-variants.{Free, Flat, Anonymous, Reserved, Fat}
 
-abbrev pub freeWord : ℕ
-freeWord = 0
+abbrev pub free-word : ℕ
+free-word = 0
 
-abbrev pub anonymousWord : ℕ
-anonymousWord = reserved-bit
+abbrev pub anonymous-word : ℕ
+anonymous-word = reserved-bit
 
-abbrev pub flatWord : ℕ → ℕ → ℕ
-flatWord thread count = thread % numbers * number-unit + count % counts * count-unit
+abbrev pub flat-word : ℕ → ℕ → ℕ
+flat-word thread count = thread % numbers * number-unit + count % counts * count-unit
 
-abbrev pub reservedWord : ℕ → ℕ → ℕ
-reservedWord thread count = thread % numbers * number-unit + count % counts * count-unit + reserved-bit
+abbrev pub reserved-word : ℕ → ℕ → ℕ
+reserved-word thread count = thread % numbers * number-unit + count % counts * count-unit + reserved-bit
 
-abbrev pub fatWord : ℕ → ℕ
-fatWord object = object % numbers * number-unit + 1
+abbrev pub fat-word : ℕ → ℕ
+fat-word object = object % numbers * number-unit + 1
 
-unfoldable pub encodeOf : LockWord → ℕ
-encodeOf Free = freeWord
-encodeOf (Flat thread count) = flatWord (thread .0) count
-encodeOf Anonymous = anonymousWord
-encodeOf (Reserved thread count) = reservedWord (thread .0) count
-encodeOf (Fat monitor) = fatWord (monitor .0)
+unfoldable pub write-word : LockWord → ℕ
+write-word Free = free-word
+write-word (Flat thread count) = flat-word (thread .0) count
+write-word Anonymous = anonymous-word
+write-word (Reserved thread count) = reserved-word (thread .0) count
+write-word (Fat monitor) = fat-word (monitor .0)
 
 -- a number of fifteen bits, not 0
 abbrev pub IsNumber : ℕ → Type 0

@@ -8,7 +8,7 @@ use crate::writing::flat_word;
 use crate::writing::free_word;
 use crate::writing::reserved_word;
 ghost use mathlib.Core.Path.{_≡_};
-ghost use Rattle.lock_word.specs.Meaning.{seenOf, keptCountOf, owner-of, depth-of, ownedBy, ownershipOf, cancelled, rewrittenOf, cancelOf, cancelReadOf};
+ghost use Rattle.lock_word.specs.Meaning.{seen-word, kept-count, owner-of, depth-of, owned-by, ownership-of, cancelled, rewritten-of, cancel-of, cancel-read};
 
 // A lock word as the rules see it. The numbers are a thread and a count; a fat word's number is its object.
 pub enum WordSeen {
@@ -26,7 +26,7 @@ pub struct Ownership {
 }
 
 pub fn seen_word(word: LockWord) -> WordSeen
-    ensures { λ r. ⌜ r ≡ seenOf word ⌝ }
+    ensures { λ r. ⌜ r ≡ seen-word word ⌝ }
 {
     match word {
         LockWord::Free => WordSeen::Free,
@@ -39,7 +39,7 @@ pub fn seen_word(word: LockWord) -> WordSeen
 
 // The count of a kept word, which in a sound table is reserved.
 pub fn kept_count(decoded: Decoded) -> u8
-    ensures { λ r. ⌜ r ≡ keptCountOf decoded ⌝ }
+    ensures { λ r. ⌜ r ≡ kept-count decoded ⌝ }
 {
     let Decoded::Valid(meaning) = decoded else {
         return 0;
@@ -89,7 +89,7 @@ fn depth_of(word: WordSeen, depth: Depth) -> Depth
 }
 
 fn owned_by(owner: u16, depth: Depth) -> Ownership
-    ensures { λ r. ⌜ r ≡ ownedBy owner depth ⌝ }
+    ensures { λ r. ⌜ r ≡ owned-by owner depth ⌝ }
 {
     if owner == 0 {
         return Ownership {
@@ -105,7 +105,7 @@ fn owned_by(owner: u16, depth: Depth) -> Ownership
 
 // Who owns the object, and how deep. Holder and depth are the monitor's.
 pub fn ownership_of(word: WordSeen, holder: u8, depth: Depth) -> Ownership
-    ensures { λ r. ⌜ r ≡ ownershipOf word holder depth ⌝ }
+    ensures { λ r. ⌜ r ≡ ownership-of word holder depth ⌝ }
 {
     owned_by(owner_of(word, holder, depth), depth_of(word, depth))
 }
@@ -130,7 +130,7 @@ fn cancel_seen(word: WordSeen) -> WordSeen
 }
 
 fn rewritten(word: u32, seen: WordSeen) -> u32
-    ensures { λ r. ⌜ r ≡ rewrittenOf word seen ⌝ }
+    ensures { λ r. ⌜ r ≡ rewritten-of word seen ⌝ }
 {
     match seen {
         WordSeen::Free => free_word(),
@@ -142,7 +142,7 @@ fn rewritten(word: u32, seen: WordSeen) -> u32
 }
 
 fn cancel_read(word: u32, decoded: Decoded) -> u32
-    ensures { λ r. ⌜ r ≡ cancelReadOf word decoded ⌝ }
+    ensures { λ r. ⌜ r ≡ cancel-read word decoded ⌝ }
 {
     let Decoded::Valid(meaning) = decoded else {
         return word;
@@ -151,7 +151,7 @@ fn cancel_read(word: u32, decoded: Decoded) -> u32
 }
 
 pub fn cancel(word: u32) -> u32
-    ensures { λ r. ⌜ r ≡ cancelOf word ⌝ }
+    ensures { λ r. ⌜ r ≡ cancel-of word ⌝ }
 {
     cancel_read(word, read_word(word))
 }

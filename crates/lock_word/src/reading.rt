@@ -4,8 +4,8 @@ use crate::layout::COUNTS;
 use crate::layout::FIRST_BEYOND;
 use crate::layout::NUMBER_UNIT;
 ghost use mathlib.Core.Path.{_≡_};
-ghost use Rattle.lock_word.specs.Read.{decodeOf, flatOf, reservedOf, fatOf};
-ghost use Rattle.lock_word.specs.KindTable.{packedOf, byKindOf};
+ghost use Rattle.lock_word.specs.Read.{read-word, read-flat, read-reserved, fat-of};
+ghost use Rattle.lock_word.specs.KindTable.{packed-of, by-kind};
 
 // A thread's number and a monitor's number: the same fifteen bits, and neither can be passed for the other.
 // The fields are private to this file.
@@ -47,7 +47,7 @@ impl MonitorNumber {
 
 // A flat word of this count and number.
 fn read_flat(count: u8, number: u16) -> Decoded
-    ensures { λ r. ⌜ r ≡ flatOf count number ⌝ }
+    ensures { λ r. ⌜ r ≡ read-flat count number ⌝ }
 {
     if number == 0 {
         if count == 0 {
@@ -60,7 +60,7 @@ fn read_flat(count: u8, number: u16) -> Decoded
 
 // A reserved word of this count and number.
 fn read_reserved(count: u8, number: u16) -> Decoded
-    ensures { λ r. ⌜ r ≡ reservedOf count number ⌝ }
+    ensures { λ r. ⌜ r ≡ read-reserved count number ⌝ }
 {
     if number == 0 {
         if count == 0 {
@@ -73,7 +73,7 @@ fn read_reserved(count: u8, number: u16) -> Decoded
 
 // A fat word of this number. No object has number 0.
 fn read_fat(number: u16) -> Decoded
-    ensures { λ r. ⌜ r ≡ fatOf number ⌝ }
+    ensures { λ r. ⌜ r ≡ fat-of number ⌝ }
 {
     if number == 0 {
         return Decoded::Invalid;
@@ -83,7 +83,7 @@ fn read_fat(number: u16) -> Decoded
 
 // The table's kind picks the reader.
 fn by_kind(kind: u8, count: u8, number: u16) -> Decoded
-    ensures { λ r. ⌜ r ≡ byKindOf kind count number ⌝ }
+    ensures { λ r. ⌜ r ≡ by-kind kind count number ⌝ }
 {
     if kind == 0 {
         return read_flat(count, number);
@@ -99,7 +99,7 @@ fn by_kind(kind: u8, count: u8, number: u16) -> Decoded
 
 // Kind and count of a low byte, from the constant table.
 fn kind_and_count(low: u8) -> u8
-    ensures { λ r. ⌜ r ≡ packedOf low ⌝ }
+    ensures { λ r. ⌜ r ≡ packed-of low ⌝ }
 {
     let at = low as usize;
     KINDS[at]
@@ -107,7 +107,7 @@ fn kind_and_count(low: u8) -> u8
 
 // What the word means, or that it is no lock word.
 pub fn read_word(word: u32) -> Decoded
-    ensures { λ r. ⌜ r ≡ decodeOf word ⌝ }
+    ensures { λ r. ⌜ r ≡ read-word word ⌝ }
 {
     if FIRST_BEYOND <= word {
         return Decoded::Invalid;

@@ -6,41 +6,41 @@ use crate::layout::NUMBERS;
 use crate::layout::RESERVED_BIT;
 use crate::reading::LockWord;
 ghost use mathlib.Core.Path.{_≡_};
-ghost use Rattle.lock_word.specs.Write.{encodeOf, freeWord, anonymousWord, flatWord, reservedWord, fatWord};
+ghost use Rattle.lock_word.specs.Write.{write-word, free-word, anonymous-word, flat-word, reserved-word, fat-word};
 
 pub fn free_word() -> u32
-    ensures { λ r. ⌜ r ≡ freeWord ⌝ }
+    ensures { λ r. ⌜ r ≡ free-word ⌝ }
 {
     0
 }
 
 pub fn anonymous_word() -> u32
-    ensures { λ r. ⌜ r ≡ anonymousWord ⌝ }
+    ensures { λ r. ⌜ r ≡ anonymous-word ⌝ }
 {
     RESERVED_BIT
 }
 
 pub fn flat_word(thread: u16, count: u8) -> u32
-    ensures { λ r. ⌜ r ≡ flatWord thread count ⌝ }
+    ensures { λ r. ⌜ r ≡ flat-word thread count ⌝ }
 {
     (thread as u32) % NUMBERS * NUMBER_UNIT + ((count % COUNTS) as u32) * COUNT_UNIT
 }
 
 pub fn reserved_word(thread: u16, count: u8) -> u32
-    ensures { λ r. ⌜ r ≡ reservedWord thread count ⌝ }
+    ensures { λ r. ⌜ r ≡ reserved-word thread count ⌝ }
 {
     (thread as u32) % NUMBERS * NUMBER_UNIT + ((count % COUNTS) as u32) * COUNT_UNIT + RESERVED_BIT
 }
 
 pub fn fat_word(object: u16) -> u32
-    ensures { λ r. ⌜ r ≡ fatWord object ⌝ }
+    ensures { λ r. ⌜ r ≡ fat-word object ⌝ }
 {
     (object as u32) % NUMBERS * NUMBER_UNIT + 1
 }
 
 // The word that is written for a meaning.
 pub fn write_word(meaning: LockWord) -> u32
-    ensures { λ r. ⌜ r ≡ encodeOf meaning ⌝ }
+    ensures { λ r. ⌜ r ≡ write-word meaning ⌝ }
 {
     match meaning {
         LockWord::Free => free_word(),

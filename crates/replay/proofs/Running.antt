@@ -9,9 +9,9 @@ use lib.Seq.{take-add, length-take-le}
 use Rattle.replay_lines.specs.Cutting.{line-limit}
 use Rattle.replay_parts.specs.Part.{Passed}
 use Rattle.replay_parts.proofs.Passing.{passed-none, passed-both, passed-more}
-use Rattle.replay_session.specs.Session.{freshSession, session-replay}
+use Rattle.replay_session.specs.Session.{fresh-session, session-replay}
 use Rattle.replay_stream.specs.declared.feeding.Stream.{Stream}
-use Rattle.replay_stream.specs.Stream.{freshStream}
+use Rattle.replay_stream.specs.Stream.{fresh-stream}
 use Rattle.replay.specs.declared.Ending.{Ending}
 use Rattle.replay.specs.declared.Held.{Held}
 use Rattle.replay.specs.declared.Moved.{Moved}
@@ -20,11 +20,11 @@ use Rattle.replay.specs.Run.{PassedOn, SettledAt, Takes, ReadBehind, End
 -- some input was read, and passed on up to `rest`; `ended` says that it has ended
 pub record Read (ended : Bool) (stream : Stream) (rest : List ℕ) : Type 0 where
   pub input : List ℕ
-  pub passed : Passed session-replay freshSession false ended input (stream .session) (stream .inside) rest
+  pub passed : Passed session-replay fresh-session false ended input (stream .session) (stream .inside) rest
 
-pub read-first : {stream : Stream} → stream ≡ freshStream → Read false stream []
+pub read-first : {stream : Stream} → stream ≡ fresh-stream → Read false stream []
 read-first fresh =
-    subst (λ (x : Stream). Read false x []) (sym fresh) (record { input = []; passed = passed-none session-replay freshSession false false [] })
+    subst (λ (x : Stream). Read false x []) (sym fresh) (record { input = []; passed = passed-none session-replay fresh-session false false [] })
 
 module _ {stream : Stream} {held : ℕ} {before after : List ℕ} {r : Moved} (behind : ReadBehind held before after r)
     (read : Read false stream (take held before)) where
@@ -43,7 +43,7 @@ module _ {stream : Stream} {held : ℕ} {before after : List ℕ} {r : Moved} (b
       record {
         input = read .input ++ more;
         passed =
-            subst (λ (x : List ℕ). Passed session-replay freshSession false false (read .input ++ more) (stream .session) (stream .inside) x) joined
+            subst (λ (x : List ℕ). Passed session-replay fresh-session false false (read .input ++ more) (stream .session) (stream .inside) x) joined
             (passed-more more (read .passed));
       }
 

@@ -6,14 +6,14 @@ use mathlib.Core.List.{List}
 use native.Mathlib.Omega.{arith}
 use lib.ListN.{length, take, drop}
 use lib.Seq.{length-take-le}
-use Rattle.replay_buffer.specs.Keeping.{keptOf}
-use Rattle.replay_buffer.proofs.Kept.{kept-front, kept-length}
+use Rattle.replay_parts.specs.Keeping.{keep-rest}
+use Rattle.replay_parts.proofs.Kept.{kept-front, kept-length}
 use Rattle.replay_stream.specs.declared.feeding.Stream.{Stream}
 use Rattle.replay.specs.declared.Drained.{Drained}
 use Rattle.replay.specs.Run.{PassedOn, SettledAt, Drains, Takes}
 
 pub taken-part : {start : Stream} {last : Bool} {held : ℕ} {before after : List ℕ} {r : Drained} → held ≤ length before
-    → Drains start last (take held before) r → after ≡ keptOf (r .from) held before
+    → Drains start last (take held before) r → after ≡ keep-rest (r .from) held before
     → Takes start last held before after (record { stream = r .stream; held = held - r .from; failed = r .failed })
 taken-part {start} {last} {held} {before} {after} {r} fits drains kept =
     let order : r .from ≤ held = omega (arith, drains .from-within, length-take-le held before fits) in

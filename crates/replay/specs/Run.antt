@@ -5,10 +5,10 @@ use mathlib.Core.Bool.{Bool, true, false}
 use mathlib.Core.List.{List, []}
 use lib.ListN.{length, take, drop}
 use Rattle.replay_text.specs.Bytes.{digit-zero}
-use Rattle.replay_parts.specs.Replay.{restOf}
+use Rattle.replay_parts.specs.Replay.{rest-output}
 use Rattle.replay_parts.specs.Part.{Passed, Settled}
 use Rattle.replay_session.specs.declared.session.Session.{Session}
-use Rattle.replay_session.specs.Session.{freshSession, overOf, session-replay}
+use Rattle.replay_session.specs.Session.{fresh-session, session-over, session-replay}
 use Rattle.replay_stream.specs.declared.feeding.Stream.{Stream}
 use Rattle.replay.specs.declared.Ending.{Ending}
 use Rattle.replay.specs.declared.Ending.the-variants.{AllRead, BadHeader, ReadFailed, WriteFailed}
@@ -46,8 +46,8 @@ pub record ReadBehind (held : ℕ) (before after : List ℕ) (r : Moved) : Type 
 -- all of an input that ended was printed; or the run is over, so that whatever follows prints nothing; or a read failed before the end
 abbrev pub EndedAs : Ending → Bool → Stream → List ℕ → Type 0
 EndedAs AllRead ended stream rest =
-    (ended ≡ true) × (overOf (stream .session) ≡ false) × (restOf session-replay (stream .session) (stream .inside) rest ≡ [])
-EndedAs BadHeader ended stream rest = overOf (stream .session) ≡ true
+    (ended ≡ true) × (session-over (stream .session) ≡ false) × (rest-output session-replay (stream .session) (stream .inside) rest ≡ [])
+EndedAs BadHeader ended stream rest = session-over (stream .session) ≡ true
 EndedAs ReadFailed ended stream rest = ended ≡ false
 EndedAs WriteFailed ended stream rest = Unit {0}
 
@@ -55,16 +55,16 @@ EndedAs WriteFailed ended stream rest = Unit {0}
 pub record Runs (buffer : List ℕ) (r : Ran) : Type 0 where
   pub input : List ℕ
   pub ended : Bool
-  pub passed : Passed session-replay freshSession false ended input (r .stream .session) (r .stream .inside) (take (r .held) buffer)
+  pub passed : Passed session-replay fresh-session false ended input (r .stream .session) (r .stream .inside) (take (r .held) buffer)
   pub right : EndedAs (r .ending) ended (r .stream) (take (r .held) buffer)
 
 -- the exit status of the script
-unfoldable pub statusOf : Ending → ℕ
-statusOf AllRead = 0
-statusOf BadHeader = 3
-statusOf ReadFailed = 4
-statusOf WriteFailed = 5
+unfoldable pub status-of : Ending → ℕ
+status-of AllRead = 0
+status-of BadHeader = 3
+status-of ReadFailed = 4
+status-of WriteFailed = 5
 
 -- its digit
-unfoldable pub endingByteOf : Ending → ℕ
-endingByteOf ending = digit-zero + statusOf ending
+unfoldable pub ending-byte : Ending → ℕ
+ending-byte ending = digit-zero + status-of ending

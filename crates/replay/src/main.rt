@@ -7,7 +7,7 @@ ghost use lib.ListN.{length};
 ghost use Rattle.replay_lines.specs.Cutting.{line-limit};
 ghost use Rattle.replay_text.specs.Text.{line-room};
 ghost use Rattle.replay_parts.specs.Part.{end-room};
-ghost use Rattle.replay.specs.Run.{Drains, Takes, ReadBehind, Runs, endingByteOf};
+ghost use Rattle.replay.specs.Run.{Drains, Takes, ReadBehind, Runs, ending-byte};
 use libc::STDERR_FILENO;
 use libc::STDIN_FILENO;
 use libc::STDOUT_FILENO;
@@ -146,7 +146,7 @@ fn take_part(start: Stream, buffer: &mut [u8], held: usize, last: bool, out: &mu
     let next = drained.stream;
     let from = drained.from;
     let failed = drained.failed;
-    replay_buffer::keep_rest(buffer, from, held);
+    replay_parts::keep_rest(buffer, from, held);
     Held {
         stream: next,
         held: held - from,
@@ -261,7 +261,7 @@ fn run(buffer: &mut [u8], out: &mut [u8]) -> Ran
 
 // The digit of the exit status that stands for the ending.
 fn ending_byte(ending: Ending) -> u8
-    ensures { λ r. ⌜ r ≡ endingByteOf ending ⌝ }
+    ensures { λ r. ⌜ r ≡ ending-byte ending ⌝ }
 {
     match ending {
         Ending::AllRead => b'0',

@@ -8,7 +8,7 @@ use lib.ListN.{length, getD, drop}
 use lib.Seq.{drop-cons}
 use borrow.Author.Tests.{eq-eqb, ne-eqb}
 use Rattle.replay_text.specs.Bytes.{newline}
-use Rattle.replay_lines.specs.Cutting.{lineEnd, one-further}
+use Rattle.replay_lines.specs.Cutting.{line-end, one-further}
 
 -- an end that is found from `at` on, counted from the start
 abbrev pub counted-from : ℕ → ℕ → ℕ
@@ -23,18 +23,18 @@ counted-further : (at n : ℕ) → counted-from at (one-further n) ≡ counted-f
 counted-further at zero = refl
 counted-further at (suc n) = omega arith
 
-pub end-none : (at : ℕ) (input : List ℕ) → length input ≤ at → counted-from at (lineEnd (drop at input)) ≡ 0
-unfolding lineEnd
+pub end-none : (at : ℕ) (input : List ℕ) → length input ≤ at → counted-from at (line-end (drop at input)) ≡ 0
+unfolding line-end
 end-none at input past = rw (lib.ListN.drop-of-length-le input past)
 
 module _ (at : ℕ) (input : List ℕ) (inside : at < length input) where
-  pub end-here : getD input at 0 ≡ newline → counted-from at (lineEnd (drop at input)) ≡ at + 1
-  unfolding lineEnd
+  pub end-here : getD input at 0 ≡ newline → counted-from at (line-end (drop at input)) ≡ at + 1
+  unfolding line-end
   end-here found = rw (drop-cons input at 0) (simp (eq-eqb _ _ found))
 
-  end-further : (getD input at 0 ≡ newline → ⊥) → lineEnd (drop at input) ≡ one-further (lineEnd (drop (at + 1) input))
-  unfolding lineEnd
+  end-further : (getD input at 0 ≡ newline → ⊥) → line-end (drop at input) ≡ one-further (line-end (drop (at + 1) input))
+  unfolding line-end
   end-further other = rw (drop-cons input at 0, add-one) (simp (ne-eqb _ _ other))
 
-  pub end-later : (getD input at 0 ≡ newline → ⊥) → counted-from at (lineEnd (drop at input)) ≡ counted-from (at + 1) (lineEnd (drop (at + 1) input))
-  end-later other = ap (counted-from at) (end-further other) ∙ counted-further at (lineEnd (drop (at + 1) input))
+  pub end-later : (getD input at 0 ≡ newline → ⊥) → counted-from at (line-end (drop at input)) ≡ counted-from (at + 1) (line-end (drop (at + 1) input))
+  end-later other = ap (counted-from at) (end-further other) ∙ counted-further at (line-end (drop (at + 1) input))

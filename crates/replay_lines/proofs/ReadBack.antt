@@ -16,9 +16,9 @@ use Rattle.laws.proofs.Choice.{by-test}
 use Rattle.replay_text.specs.Digits.{decimal}
 use Rattle.replay_text.specs.Bytes.{newline, space}
 use Rattle.replay_lines.specs.Bytes.{letter-L, letter-S}
-use Rattle.replay_lines.specs.Number.{number-limit, isDigit, numberOf, one-byte-more, fieldOf}
-use Rattle.replay_lines.specs.Grammar.{number-then, field-then, endOf, stepOf, beginObjectOf, beginOf, operationOf, lineOf}
-use Rattle.replay_lines.specs.Grammar.{headerReservedOf, headerObjectsOf, headerOf}
+use Rattle.replay_lines.specs.Number.{number-limit, is-digit, read-number, one-byte-more, read-field}
+use Rattle.replay_lines.specs.Grammar.{number-then, field-then, end-line, read-step, read-begin-object, read-begin, operation-of, read-line}
+use Rattle.replay_lines.specs.Grammar.{read-header-reserved, read-header-objects, read-header}
 use Rattle.replay_lines.specs.LineText.{spaced, line-break, Letter, Writes}
 use Rattle.replay_lines.specs.declared.number.Number.{Number}
 use Rattle.replay_lines.specs.declared.number.Number.the-variants.{Found, Absent}
@@ -29,57 +29,57 @@ use Rattle.replay_lines.proofs.Decimal.{NoDigit, number-read, Starts, n
 -- a field that is written is read, up to what stands behind it
 field-read : (number : ℕ) (rest : List ℕ) (next : ℕ → List ℕ → Line) → number ≤ number-limit → NoDigit rest
     → field-then (spaced number rest) next ≡ next number rest
-unfolding fieldOf
+unfolding read-field
 field-read number rest next fits none =
     rw (number-read number rest fits none) (rw (add-one (length (decimal number))) (ap (next number) (drop-append-seam (decimal number) rest)))
 
 no-digit-space : (rest : List ℕ) → NoDigit (space ∷ rest)
-unfolding isDigit
+unfolding is-digit
 no-digit-space rest = refl
 
 no-digit-break : NoDigit line-break
-unfolding isDigit
+unfolding is-digit
 no-digit-break = refl
 
-end-read : (line : Line) → endOf line-break line ≡ line
-unfolding endOf
+end-read : (line : Line) → end-line line-break line ≡ line
+unfolding end-line
 end-read line = refl
 
-step-read : (thread : ℕ) → thread ≤ number-limit → stepOf (spaced thread line-break) ≡ Step thread
-unfolding stepOf
+step-read : (thread : ℕ) → thread ≤ number-limit → read-step (spaced thread line-break) ≡ Step thread
+unfolding read-step
 step-read thread fits = field-read thread line-break _ fits no-digit-break ∙ end-read (Step thread)
 
 begin-object-read : (operation thread object : ℕ) → object ≤ number-limit
-    → beginObjectOf operation thread (spaced object line-break) ≡ Begin operation thread object
-unfolding beginObjectOf
+    → read-begin-object operation thread (spaced object line-break) ≡ Begin operation thread object
+unfolding read-begin-object
 begin-object-read operation thread object fits = field-read object line-break _ fits no-digit-break ∙ end-read (Begin operation thread object)
 
 begin-read : (operation thread object : ℕ) → eqb operation 0 ≡ false → thread ≤ number-limit → object ≤ number-limit
-    → beginOf operation (spaced thread (spaced object line-break)) ≡ Begin operation thread object
-unfolding beginOf
+    → read-begin operation (spaced thread (spaced object line-break)) ≡ Begin operation thread object
+unfolding read-begin
 begin-read operation thread object some fits fits′ =
     rw some
-    (field-read thread (spaced object line-break) (beginObjectOf operation) fits (no-digit-space (decimal object ++ line-break))
+    (field-read thread (spaced object line-break) (read-begin-object operation) fits (no-digit-space (decimal object ++ line-break))
     ∙ begin-object-read operation thread object fits′)
 
 header-reserved-read : (threads objects : ℕ) (reserved : Bool)
-    → headerReservedOf threads objects (spaced (one-if reserved) line-break) ≡ Header threads objects reserved
-unfolding headerReservedOf
+    → read-header-reserved threads objects (spaced (one-if reserved) line-break) ≡ Header threads objects reserved
+unfolding read-header-reserved
 header-reserved-read threads objects true = field-read 1 line-break _ (omega arith) no-digit-break ∙ end-read (Header threads objects true)
 header-reserved-read threads objects false = field-read 0 line-break _ (omega arith) no-digit-break ∙ end-read (Header threads objects false)
 
 header-read : (threads objects : ℕ) (reserved : Bool) → threads ≤ number-limit → objects ≤ number-limit
-    → headerOf (spaced threads (spaced objects (spaced (one-if reserved) line-break))) ≡ Header threads objects reserved
-unfolding headerOf headerObjectsOf
+    → read-header (spaced threads (spaced objects (spaced (one-if reserved) line-break))) ≡ Header threads objects reserved
+unfolding read-header read-header-objects
 header-read threads objects reserved fits fits′ =
     let last = spaced (one-if reserved) line-break in
-    field-read threads (spaced objects last) headerObjectsOf fits (no-digit-space (decimal objects ++ last))
-    ∙ field-read objects last (headerReservedOf threads) fits′ (no-digit-space (decimal (one-if reserved) ++ line-break))
+    field-read threads (spaced objects last) read-header-objects fits (no-digit-space (decimal objects ++ last))
+    ∙ field-read objects last (read-header-reserved threads) fits′ (no-digit-space (decimal (one-if reserved) ++ line-break))
     ∙ header-reserved-read threads objects reserved
 
 -- EACH LINE OF DOCUMENT 01 IS READ
-pub written-read : {line : Line} {text : List ℕ} → Writes line text → lineOf text ≡ line
-unfolding lineOf operationOf
+pub written-read : {line : Line} {text : List ℕ} → Writes line text → read-line text ≡ line
+unfolding read-line operation-of
 written-read (Writes.header {threads} {objects} {reserved} fits fits′) = header-read threads objects reserved fits fits′
 written-read (Writes.begin {thread = thread} {object} Letter.enter fits fits′) = begin-read 1 thread object refl fits fits′
 written-read (Writes.begin {thread = thread} {object} Letter.exit fits fits′) = begin-read 2 thread object refl fits fits′
@@ -99,15 +99,15 @@ number-form Absent byte text next P gap starts none some = none
 
 field-form : (text : List ℕ) (next : ℕ → List ℕ → Line) (P : Line → Type 0) → P Malformed
     → ((value : ℕ) (rest : List ℕ) → value ≤ number-limit → text ≡ spaced value rest → P (next value rest)) → P (field-then text next)
-unfolding fieldOf
+unfolding read-field
 field-form [] next P none some = none
 field-form (byte ∷ text) next P none some =
     by-test (λ x. P (number-then x (byte ∷ text) next)) (eqb byte space)
-    (λ gap. number-form (numberOf text) byte text next P (eqb-true byte space gap) (number-starts text) none some)
+    (λ gap. number-form (read-number text) byte text next P (eqb-true byte space gap) (number-starts text) none some)
     (λ other. none)
 
-end-form : (text : List ℕ) (line : Line) (P : Line → Type 0) → P Malformed → (text ≡ line-break → P line) → P (endOf text line)
-unfolding endOf
+end-form : (text : List ℕ) (line : Line) (P : Line → Type 0) → P Malformed → (text ≡ line-break → P line) → P (end-line text line)
+unfolding end-line
 end-form [] line P none some = none
 end-form (byte ∷ []) line P none some = by-test P (eqb byte newline) (λ last. some (ap (λ (x : ℕ). x ∷ []) (eqb-true byte newline last))) (λ other. none)
 end-form (byte ∷ more ∷ text) line P none some = none
@@ -117,8 +117,8 @@ abbrev Form : List ℕ → Line → Type 0
 Form text line = (line ≡ Malformed) ⊎ Writes line text
 
 module _ (letter : ℕ) (text : List ℕ) where
-  step-form : letter ≡ letter-S → Form (letter ∷ text) (stepOf text)
-  unfolding stepOf
+  step-form : letter ≡ letter-S → Form (letter ∷ text) (read-step text)
+  unfolding read-step
   step-form same =
       field-form text _ (Form (letter ∷ text)) (inl refl) (λ thread rest fits first.
       end-form rest (Step thread) (Form (letter ∷ text)) (inl refl) (λ last.
@@ -126,8 +126,8 @@ module _ (letter : ℕ) (text : List ℕ) where
       ap (λ (x : ℕ). x ∷ text) same ∙ ap (λ (x : List ℕ). letter-S ∷ x) (first ∙ ap (spaced thread) last) in
       inr (subst (λ (x : List ℕ). Writes (Step thread) x) (sym whole) (Writes.step fits))))
 
-  begin-form : (operation : ℕ) → (operation ≡ 0) ⊎ Letter operation letter → Form (letter ∷ text) (beginOf operation text)
-  unfolding beginOf beginObjectOf
+  begin-form : (operation : ℕ) → (operation ≡ 0) ⊎ Letter operation letter → Form (letter ∷ text) (read-begin operation text)
+  unfolding read-begin read-begin-object
   begin-form operation (inl none) = rw none (inl refl)
   begin-form operation (inr named) =
       by-test (Form (letter ∷ text)) (eqb operation 0) (λ zero-number. inl refl)
@@ -138,8 +138,8 @@ module _ (letter : ℕ) (text : List ℕ) where
       ap (λ (x : List ℕ). letter ∷ x) (first ∙ ap (spaced thread) (second ∙ ap (spaced object) last)) in
       inr (subst (λ (x : List ℕ). Writes (Begin operation thread object) x) (sym whole) (Writes.begin named fits fits′))))))
 
-  header-form : letter ≡ letter-L → Form (letter ∷ text) (headerOf text)
-  unfolding headerOf headerObjectsOf headerReservedOf
+  header-form : letter ≡ letter-L → Form (letter ∷ text) (read-header text)
+  unfolding read-header read-header-objects read-header-reserved
   header-form same =
       field-form text _ (Form (letter ∷ text)) (inl refl) (λ threads rest fits first.
       field-form rest _ (Form (letter ∷ text)) (inl refl) (λ objects more fits′ second.
@@ -158,8 +158,8 @@ module _ (letter : ℕ) (text : List ℕ) where
       one-bit (suc zero) small = refl
       one-bit (suc (suc r)) small = absurd (omega arith)
 
-letter-form : (letter : ℕ) → (operationOf letter ≡ 0) ⊎ Letter (operationOf letter) letter
-unfolding operationOf
+letter-form : (letter : ℕ) → (operation-of letter ≡ 0) ⊎ Letter (operation-of letter) letter
+unfolding operation-of
 letter-form letter =
     named Letter.enter
     (named Letter.exit (named Letter.wait (named Letter.notify (named Letter.notify-all (let none : (0 ≡ 0) ⊎ Letter 0 letter = inl refl in none)))))
@@ -171,10 +171,10 @@ letter-form letter =
         (λ same. inr (subst (λ (l : ℕ). Letter operation l) (sym (eqb-true letter byte same)) is)) (λ away. rest)
 
 -- A LINE THAT IS READ IS ONE OF DOCUMENT 01
-pub read-written : (text : List ℕ) → (lineOf text ≡ Malformed) ⊎ Writes (lineOf text) text
-unfolding lineOf
+pub read-written : (text : List ℕ) → (read-line text ≡ Malformed) ⊎ Writes (read-line text) text
+unfolding read-line
 read-written [] = inl refl
 read-written (letter ∷ text) =
     by-test (Form (letter ∷ text)) (eqb letter letter-L) (λ same. header-form letter text (eqb-true letter letter-L same))
     (λ other. by-test (Form (letter ∷ text)) (eqb letter letter-S) (λ same. step-form letter text (eqb-true letter letter-S same))
-    (λ away. begin-form letter text (operationOf letter) (letter-form letter)))
+    (λ away. begin-form letter text (operation-of letter) (letter-form letter)))

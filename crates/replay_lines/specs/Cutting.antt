@@ -11,9 +11,9 @@ one-further zero = 0
 one-further (suc n) = suc (suc n)
 
 -- how many bytes the first line takes, its newline with it; 0 if there is no newline
-unfoldable pub lineEnd : List ℕ → ℕ
-lineEnd [] = 0
-lineEnd (byte ∷ input) = pick (eqb byte newline) 1 (one-further (lineEnd input))
+unfoldable pub line-end : List ℕ → ℕ
+line-end [] = 0
+line-end (byte ∷ input) = pick (eqb byte newline) 1 (one-further (line-end input))
 
 -- no line of a form is longer: a letter, three numbers of a space and at most five digits each, and the newline
 abbrev pub line-limit : ℕ
@@ -25,9 +25,9 @@ before-first byte [] = (byte ∷ []) ∷ []
 before-first byte (line ∷ lines) = (byte ∷ line) ∷ lines
 
 -- the lines of an input, each with its newline; what stands behind the last newline, if anything, is a line with none
-unfoldable pub linesOf : List ℕ → List (List ℕ)
-linesOf [] = []
-linesOf (byte ∷ input) = pick (eqb byte newline) ((byte ∷ []) ∷ linesOf input) (before-first byte (linesOf input))
+unfoldable pub lines-of : List ℕ → List (List ℕ)
+lines-of [] = []
+lines-of (byte ∷ input) = pick (eqb byte newline) ((byte ∷ []) ∷ lines-of input) (before-first byte (lines-of input))
 
 abbrev pub first-line : List (List ℕ) → List ℕ
 first-line [] = []

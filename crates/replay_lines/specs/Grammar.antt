@@ -7,7 +7,7 @@ use lib.Dec.{ltb, eqb}
 use Rattle.laws.specs.Choice.{pick}
 use Rattle.replay_text.specs.Bytes.{newline}
 use Rattle.replay_lines.specs.Bytes.{letter-A, letter-E, letter-L, letter-N, letter-S, letter-W, letter-X}
-use Rattle.replay_lines.specs.Number.{fieldOf}
+use Rattle.replay_lines.specs.Number.{read-field}
 use Rattle.replay_lines.specs.declared.number.Number.{Number}
 use Rattle.replay_lines.specs.declared.number.Number.the-variants.{Found, Absent}
 use Rattle.replay_lines.specs.declared.reading.Line.{Line}
@@ -19,43 +19,43 @@ number-then Absent text next = Malformed
 
 -- a space and a number, then what follows, of the number and the text behind it
 abbrev pub field-then : List ℕ → (ℕ → List ℕ → Line) → Line
-field-then text next = number-then (fieldOf text) text next
+field-then text next = number-then (read-field text) text next
 
 -- the newline and nothing else
-unfoldable pub endOf : List ℕ → Line → Line
-endOf [] line = Malformed
-endOf (byte ∷ []) line = pick (eqb byte newline) line Malformed
-endOf (byte ∷ more ∷ text) line = Malformed
+unfoldable pub end-line : List ℕ → Line → Line
+end-line [] line = Malformed
+end-line (byte ∷ []) line = pick (eqb byte newline) line Malformed
+end-line (byte ∷ more ∷ text) line = Malformed
 
 -- behind S
-unfoldable pub stepOf : List ℕ → Line
-stepOf text = field-then text (λ thread rest. endOf rest (Step thread))
+unfoldable pub read-step : List ℕ → Line
+read-step text = field-then text (λ thread rest. end-line rest (Step thread))
 
 -- behind E, X, W, N or A, and behind the thread
-unfoldable pub beginObjectOf : ℕ → ℕ → List ℕ → Line
-beginObjectOf operation thread text = field-then text (λ object rest. endOf rest (Begin operation thread object))
+unfoldable pub read-begin-object : ℕ → ℕ → List ℕ → Line
+read-begin-object operation thread text = field-then text (λ object rest. end-line rest (Begin operation thread object))
 
-unfoldable pub beginOf : ℕ → List ℕ → Line
-beginOf operation text = pick (eqb operation 0) Malformed (field-then text (beginObjectOf operation))
+unfoldable pub read-begin : ℕ → List ℕ → Line
+read-begin operation text = pick (eqb operation 0) Malformed (field-then text (read-begin-object operation))
 
 -- behind L, behind the threads, and behind the objects: r is 1 for reserved words, 0 for free ones
-unfoldable pub headerReservedOf : ℕ → ℕ → List ℕ → Line
-headerReservedOf threads objects text =
-    field-then text (λ r rest. pick (ltb 1 r) Malformed (endOf rest (Header threads objects (eqb r 1))))
+unfoldable pub read-header-reserved : ℕ → ℕ → List ℕ → Line
+read-header-reserved threads objects text =
+    field-then text (λ r rest. pick (ltb 1 r) Malformed (end-line rest (Header threads objects (eqb r 1))))
 
-unfoldable pub headerObjectsOf : ℕ → List ℕ → Line
-headerObjectsOf threads text = field-then text (headerReservedOf threads)
+unfoldable pub read-header-objects : ℕ → List ℕ → Line
+read-header-objects threads text = field-then text (read-header-reserved threads)
 
-unfoldable pub headerOf : List ℕ → Line
-headerOf text = field-then text headerObjectsOf
+unfoldable pub read-header : List ℕ → Line
+read-header text = field-then text read-header-objects
 
 -- document 01's number of the operation with this letter, 0 if there is none
-unfoldable pub operationOf : ℕ → ℕ
-operationOf letter =
+unfoldable pub operation-of : ℕ → ℕ
+operation-of letter =
     pick (eqb letter letter-E) 1
     (pick (eqb letter letter-X) 2 (pick (eqb letter letter-W) 3 (pick (eqb letter letter-N) 4 (pick (eqb letter letter-A) 5 0))))
 
-unfoldable pub lineOf : List ℕ → Line
-lineOf [] = Malformed
-lineOf (letter ∷ text) =
-    pick (eqb letter letter-L) (headerOf text) (pick (eqb letter letter-S) (stepOf text) (beginOf (operationOf letter) text))
+unfoldable pub read-line : List ℕ → Line
+read-line [] = Malformed
+read-line (letter ∷ text) =
+    pick (eqb letter letter-L) (read-header text) (pick (eqb letter letter-S) (read-step text) (read-begin (operation-of letter) text))

@@ -12,32 +12,32 @@ use Rattle.replay_lines.specs.declared.number.Number.the-variants.{Found
 abbrev pub number-limit : ℕ
 number-limit = 65535
 
-unfoldable pub isDigit : ℕ → Bool
-isDigit byte = within digit-zero digit-nine byte
+unfoldable pub is-digit : ℕ → Bool
+is-digit byte = within digit-zero digit-nine byte
 
 -- the value with one digit more behind it
 abbrev pub appended : ℕ → ℕ → ℕ
 appended value byte = value * 10 + (byte - digit-zero)
 
 -- the digits at the start of the text continue a value that `length` bytes before them gave
-unfoldable pub digitsFrom : ℕ → ℕ → List ℕ → Number
-digitsFrom value length [] = Found value length
-digitsFrom value length (byte ∷ text) =
-    pick (isDigit byte)
-    (pick (ltb number-limit (appended value byte)) Absent (digitsFrom (appended value byte) (length + 1) text))
+unfoldable pub read-digits : ℕ → ℕ → List ℕ → Number
+read-digits value length [] = Found value length
+read-digits value length (byte ∷ text) =
+    pick (is-digit byte)
+    (pick (ltb number-limit (appended value byte)) Absent (read-digits (appended value byte) (length + 1) text))
     (Found value length)
 
 -- a zero alone, or a digit from 1 to 9 and the digits behind it
-unfoldable pub numberOf : List ℕ → Number
-numberOf [] = Absent
-numberOf (first ∷ text) =
-    pick (eqb first digit-zero) (Found 0 1) (pick (isDigit first) (digitsFrom (first - digit-zero) 1 text) Absent)
+unfoldable pub read-number : List ℕ → Number
+read-number [] = Absent
+read-number (first ∷ text) =
+    pick (eqb first digit-zero) (Found 0 1) (pick (is-digit first) (read-digits (first - digit-zero) 1 text) Absent)
 
 abbrev pub one-byte-more : Number → Number
 one-byte-more (Found value length) = Found value (length + 1)
 one-byte-more Absent = Absent
 
 -- a single space and a number
-unfoldable pub fieldOf : List ℕ → Number
-fieldOf [] = Absent
-fieldOf (first ∷ text) = pick (eqb first space) (one-byte-more (numberOf text)) Absent
+unfoldable pub read-field : List ℕ → Number
+read-field [] = Absent
+read-field (first ∷ text) = pick (eqb first space) (one-byte-more (read-number text)) Absent

@@ -2,7 +2,7 @@
 use crate::bytes::DIGIT_NINE;
 ghost use mathlib.Core.Path.{_≡_};
 ghost use lib.ListN.{drop};
-ghost use Rattle.replay_lines.specs.Number.{isDigit, digitsFrom, numberOf, fieldOf};
+ghost use Rattle.replay_lines.specs.Number.{is-digit, read-digits, read-number, read-field};
 use replay_text::DIGIT_ZERO;
 use replay_text::SPACE;
 
@@ -16,7 +16,7 @@ pub enum Number {
 }
 
 fn is_digit(byte: u8) -> bool
-    ensures { λ r. ⌜ r ≡ isDigit byte ⌝ }
+    ensures { λ r. ⌜ r ≡ is-digit byte ⌝ }
 {
     (DIGIT_ZERO <= byte) & (byte <= DIGIT_NINE)
 }
@@ -29,7 +29,7 @@ fn widen(digit: u8) -> u32
 
 // The digits behind the first byte of the text continue the number that its first digit gave.
 fn read_digits(text: &[u8], first: u8) -> Number
-    ensures { λ r. ⌜ r ≡ digitsFrom first 1 (drop 1 (now (text .entry))) ⌝ }
+    ensures { λ r. ⌜ r ≡ read-digits first 1 (drop 1 (now (text .entry))) ⌝ }
 {
     let mut value = first as u32;
     let mut length: usize = 1;
@@ -57,7 +57,7 @@ fn read_digits(text: &[u8], first: u8) -> Number
 
 // A number. A zero stands alone: what follows it is not of the number.
 fn read_number(text: &[u8]) -> Number
-    ensures { λ r. ⌜ r ≡ numberOf (now (text .entry)) ⌝ }
+    ensures { λ r. ⌜ r ≡ read-number (now (text .entry)) ⌝ }
 {
     if text.len() == 0 {
         return Number::Absent;
@@ -77,7 +77,7 @@ fn read_number(text: &[u8]) -> Number
 
 // A single space and a number.
 pub fn read_field(text: &[u8]) -> Number
-    ensures { λ r. ⌜ r ≡ fieldOf (now (text .entry)) ⌝ }
+    ensures { λ r. ⌜ r ≡ read-field (now (text .entry)) ⌝ }
 {
     if text.len() == 0 {
         return Number::Absent;

@@ -9,7 +9,7 @@ use crate::bytes::LETTER_X;
 use crate::number::Number;
 use crate::number::read_field;
 ghost use mathlib.Core.Path.{_≡_};
-ghost use Rattle.replay_lines.specs.Grammar.{endOf, stepOf, beginOf, beginObjectOf, headerOf, headerObjectsOf, headerReservedOf, operationOf, lineOf};
+ghost use Rattle.replay_lines.specs.Grammar.{end-line, read-step, read-begin, read-begin-object, read-header, read-header-objects, read-header-reserved, operation-of, read-line};
 use replay_text::NEWLINE;
 
 pub enum Line {
@@ -32,7 +32,7 @@ pub enum Line {
 
 // The line, if the newline is all that is left of its text.
 fn end_line(text: &[u8], line: Line) -> Line
-    ensures { λ r. ⌜ r ≡ endOf (now (text .entry)) line ⌝ }
+    ensures { λ r. ⌜ r ≡ end-line (now (text .entry)) line ⌝ }
 {
     if text.len() != 1 {
         return Line::Malformed;
@@ -45,7 +45,7 @@ fn end_line(text: &[u8], line: Line) -> Line
 
 // Behind S: the thread.
 fn read_step(text: &[u8]) -> Line
-    ensures { λ r. ⌜ r ≡ stepOf (now (text .entry)) ⌝ }
+    ensures { λ r. ⌜ r ≡ read-step (now (text .entry)) ⌝ }
 {
     let Number::Found { value, length } = read_field(text) else {
         return Line::Malformed;
@@ -55,7 +55,7 @@ fn read_step(text: &[u8]) -> Line
 
 // Behind the letter of an operation: the thread.
 fn read_begin(operation: u8, text: &[u8]) -> Line
-    ensures { λ r. ⌜ r ≡ beginOf operation (now (text .entry)) ⌝ }
+    ensures { λ r. ⌜ r ≡ read-begin operation (now (text .entry)) ⌝ }
 {
     if operation == 0 {
         return Line::Malformed;
@@ -68,7 +68,7 @@ fn read_begin(operation: u8, text: &[u8]) -> Line
 
 // Behind the thread: the object.
 fn read_begin_object(operation: u8, thread: u16, text: &[u8]) -> Line
-    ensures { λ r. ⌜ r ≡ beginObjectOf operation thread (now (text .entry)) ⌝ }
+    ensures { λ r. ⌜ r ≡ read-begin-object operation thread (now (text .entry)) ⌝ }
 {
     let Number::Found { value, length } = read_field(text) else {
         return Line::Malformed;
@@ -85,7 +85,7 @@ fn read_begin_object(operation: u8, thread: u16, text: &[u8]) -> Line
 
 // Behind L: how many threads.
 fn read_header(text: &[u8]) -> Line
-    ensures { λ r. ⌜ r ≡ headerOf (now (text .entry)) ⌝ }
+    ensures { λ r. ⌜ r ≡ read-header (now (text .entry)) ⌝ }
 {
     let Number::Found { value, length } = read_field(text) else {
         return Line::Malformed;
@@ -95,7 +95,7 @@ fn read_header(text: &[u8]) -> Line
 
 // Behind the threads: how many objects.
 fn read_header_objects(threads: u16, text: &[u8]) -> Line
-    ensures { λ r. ⌜ r ≡ headerObjectsOf threads (now (text .entry)) ⌝ }
+    ensures { λ r. ⌜ r ≡ read-header-objects threads (now (text .entry)) ⌝ }
 {
     let Number::Found { value, length } = read_field(text) else {
         return Line::Malformed;
@@ -105,7 +105,7 @@ fn read_header_objects(threads: u16, text: &[u8]) -> Line
 
 // Behind the objects: 1 for reserved words, 0 for free ones.
 fn read_header_reserved(threads: u16, objects: u16, text: &[u8]) -> Line
-    ensures { λ r. ⌜ r ≡ headerReservedOf threads objects (now (text .entry)) ⌝ }
+    ensures { λ r. ⌜ r ≡ read-header-reserved threads objects (now (text .entry)) ⌝ }
 {
     let Number::Found { value, length } = read_field(text) else {
         return Line::Malformed;
@@ -125,7 +125,7 @@ fn read_header_reserved(threads: u16, objects: u16, text: &[u8]) -> Line
 
 // The number of the operation with this letter, 0 if there is none.
 fn operation_of(letter: u8) -> u8
-    ensures { λ r. ⌜ r ≡ operationOf letter ⌝ }
+    ensures { λ r. ⌜ r ≡ operation-of letter ⌝ }
 {
     if letter == LETTER_E {
         return 1;
@@ -147,7 +147,7 @@ fn operation_of(letter: u8) -> u8
 
 // What a whole line says, its newline with it.
 pub fn read_line(line: &[u8]) -> Line
-    ensures { λ r. ⌜ r ≡ lineOf (now (line .entry)) ⌝ }
+    ensures { λ r. ⌜ r ≡ read-line (now (line .entry)) ⌝ }
 {
     if line.len() == 0 {
         return Line::Malformed;

@@ -3,3 +3,5 @@ pub mod Turn
 pub mod Taken
 pub mod Passing
 pub mod Whole
+pub mod MovedDown
+pub mod Kept

@@ -7,8 +7,8 @@ use mathlib.Core.List.{List, [], _++_, append-assoc, append-nil}
 use native.Mathlib.Omega.{arith}
 use lib.ListN.{length, take, drop}
 use Rattle.laws.proofs.Choice.{false≢true}
-use Rattle.replay_lines.specs.Cutting.{lineEnd, line-limit}
-use Rattle.replay_parts.specs.Replay.{Replay, restOf}
+use Rattle.replay_lines.specs.Cutting.{line-end, line-limit}
+use Rattle.replay_parts.specs.Replay.{Replay, rest-output}
 use Rattle.replay_parts.specs.Part.{end-room, Follows, Fed, Passed, Settled}
 
 pub passed-none : {S : Type 0} (replay : Replay S) (session : S) (inside last : Bool) (input : List ℕ)
@@ -25,7 +25,7 @@ module _ {S : Type 0} {replay : Replay S} {session session′ : S} {inside insid
     printed = passed .printed ++ take wrote out;
     prints = λ tail follows.
         passed .prints tail follows ∙ ap (λ (x : List ℕ). passed .printed ++ x) (fed .prints tail follows)
-        ∙ sym (append-assoc (passed .printed) (take wrote out) (restOf replay session″ inside″ (drop used rest ++ tail)));
+        ∙ sym (append-assoc (passed .printed) (take wrote out) (rest-output replay session″ inside″ (drop used rest ++ tail)));
   }
 
   -- the part that was passed on before stands in front
@@ -37,7 +37,7 @@ module _ {S : Type 0} {replay : Replay S} {session session′ : S} {inside insid
     printed = first .printed ++ second .printed;
     prints = λ tail follows.
         first .prints tail false≢true ∙ ap (λ (x : List ℕ). first .printed ++ x) (second .prints tail follows)
-        ∙ sym (append-assoc (first .printed) (second .printed) (restOf replay session″ inside″ (rest″ ++ tail)));
+        ∙ sym (append-assoc (first .printed) (second .printed) (rest-output replay session″ inside″ (rest″ ++ tail)));
   }
 
   -- bytes that come behind the input come behind its rest
@@ -46,8 +46,8 @@ module _ {S : Type 0} {replay : Replay S} {session session′ : S} {inside insid
   passed-more more passed = record {
     printed = passed .printed;
     prints = λ tail follows.
-        ap (restOf replay session inside) (append-assoc input more tail) ∙ passed .prints (more ++ tail) false≢true
-        ∙ ap (λ (x : List ℕ). passed .printed ++ restOf replay session′ inside′ x) (sym (append-assoc rest more tail));
+        ap (rest-output replay session inside) (append-assoc input more tail) ∙ passed .prints (more ++ tail) false≢true
+        ∙ ap (λ (x : List ℕ). passed .printed ++ rest-output replay session′ inside′ x) (sym (append-assoc rest more tail));
   }
 
 -- where a part is left untouched nothing more can be taken of it
@@ -55,7 +55,7 @@ pub settled : {S : Type 0} {replay : Replay S} {session session′ : S} {inside 
     → Fed replay session inside last input out session′ inside′ used wrote → end-room ≤ length out → used ≡ 0
     → Settled replay session′ inside′ last input
 settled {input = input} fed room none = record {
-  no-line = let line : 0 < lineEnd input → ⊥ = λ some. let moved = fed .moves (omega arith) (inl some) in omega arith in omega (arith, line);
+  no-line = let line : 0 < line-end input → ⊥ = λ some. let moved = fed .moves (omega arith) (inl some) in omega arith in omega (arith, line);
   short = let long : line-limit < length input → ⊥ = λ more. let moved = fed .moves (omega arith) (inr more) in omega arith in omega (arith, long);
   silent = λ last. fed .finishes last room none;
 }

@@ -7,40 +7,40 @@ use mathlib.Core.List.{List, [], _∷_, _++_, append-nil}
 use native.Mathlib.Omega.{arith}
 use lib.ListN.{length, take, drop}
 use lib.Seq.{drop-length}
-use Rattle.replay_lines.specs.Cutting.{lineEnd, linesOf, later-lines}
-use Rattle.replay_lines.specs.Grammar.{lineOf}
+use Rattle.replay_lines.specs.Cutting.{line-end, lines-of, later-lines}
+use Rattle.replay_lines.specs.Grammar.{read-line}
 use Rattle.replay_lines.specs.declared.reading.Line.{Line}
 use Rattle.replay_lines.proofs.Fields.{no-bytes}
 use Rattle.replay_lines.proofs.Lines.{later-same, line-last}
-use Rattle.replay_parts.specs.Replay.{Replay, outputOf, replayOf, restOf}
+use Rattle.replay_parts.specs.Replay.{Replay, output-of, replay-of, rest-output}
 use Rattle.replay_parts.specs.Part.{Follows, Fed}
 
-module _ {S : Type 0} (replay : Replay S) (session : S) (input : List ℕ) (none : lineEnd input ≡ 0) where
+module _ {S : Type 0} (replay : Replay S) (session : S) (input : List ℕ) (none : line-end input ≡ 0) where
   -- inside a line that was answered, or with nothing left, only the end prints
-  pub end-inside : restOf replay session true input ≡ replay .closing session
-  unfolding restOf outputOf linesOf
+  pub end-inside : rest-output replay session true input ≡ replay .closing session
+  unfolding rest-output output-of lines-of
   end-inside =
-      ap (outputOf replay session) (ap (λ (x : List ℕ). later-lines (linesOf x)) (sym (append-nil input)) ∙ later-same input [] none)
+      ap (output-of replay session) (ap (λ (x : List ℕ). later-lines (lines-of x)) (sym (append-nil input)) ∙ later-same input [] none)
 
-  pub end-empty : length input ≡ 0 → restOf replay session false input ≡ replay .closing session
-  unfolding restOf outputOf linesOf
+  pub end-empty : length input ≡ 0 → rest-output replay session false input ≡ replay .closing session
+  unfolding rest-output output-of lines-of
   end-empty empty = rw (no-bytes input empty)
 
   -- a last piece without a newline is a line
   pub end-piece : (length input ≡ 0 → ⊥)
-      → restOf replay session false input ≡ replay .prints session (lineOf input) ++ replay .closing (replay .next session (lineOf input))
-  unfolding restOf outputOf
-  end-piece some = ap (outputOf replay session) (line-last input none some)
+      → rest-output replay session false input ≡ replay .prints session (read-line input) ++ replay .closing (replay .next session (read-line input))
+  unfolding rest-output output-of
+  end-piece some = ap (output-of replay session) (line-last input none some)
 
 -- a session whose end prints nothing prints nothing of no bytes
-no-more : {S : Type 0} (replay : Replay S) (session : S) → replay .closing session ≡ [] → restOf replay session false [] ≡ []
-unfolding restOf outputOf linesOf
+no-more : {S : Type 0} (replay : Replay S) (session : S) → replay .closing session ≡ [] → rest-output replay session false [] ≡ []
+unfolding rest-output output-of lines-of
 no-more replay session silent = silent
 
 -- the end of the input is taken with all that is left: what they print was written, and the session has closed
 pub end-part : {S : Type 0} {replay : Replay S} {session session′ : S} {inside : Bool} {input out : List ℕ} {wrote : ℕ}
-    → lineEnd input ≡ 0
-    → restOf replay session inside input ≡ take wrote out
+    → line-end input ≡ 0
+    → rest-output replay session inside input ≡ take wrote out
     → wrote ≤ length out
     → replay .closing session′ ≡ []
     → Fed replay session inside true input out session′ false (length input) wrote
@@ -49,43 +49,43 @@ end-part {replay = replay} {session} {session′} {inside} {input} {out} {wrote}
   wrote-within = within;
   prints = λ tail follows.
       let rest : drop (length input) input ++ tail ≡ [] = ap (λ (x : List ℕ). x ++ tail) (drop-length input) ∙ follows refl in
-      ap (λ (x : List ℕ). restOf replay session inside (input ++ x)) (follows refl) ∙ ap (restOf replay session inside) (append-nil input) ∙ prints
+      ap (λ (x : List ℕ). rest-output replay session inside (input ++ x)) (follows refl) ∙ ap (rest-output replay session inside) (append-nil input) ∙ prints
       ∙ sym (append-nil (take wrote out))
-      ∙ ap (λ (x : List ℕ). take wrote out ++ x) (sym (ap (restOf replay session′ false) rest ∙ no-more replay session′ silent));
+      ∙ ap (λ (x : List ℕ). take wrote out ++ x) (sym (ap (rest-output replay session′ false) rest ∙ no-more replay session′ silent));
   moves = λ room. ⊎-elim (λ line. absurd (omega (arith, none, line))) (λ long. omega arith);
-  finishes = λ ends room nothing. ap (restOf replay session′ false) (no-bytes input nothing) ∙ no-more replay session′ silent;
+  finishes = λ ends room nothing. ap (rest-output replay session′ false) (no-bytes input nothing) ∙ no-more replay session′ silent;
 }
 
 -- a session that no line moves on, and that prints nothing more, prints nothing whatever comes
 module _ {S : Type 0} (replay : Replay S) (session : S)
     (stays : (line : Line) → replay .next session line ≡ session) (says : (line : Line) → replay .prints session line ≡ []) (closes : replay .closing session ≡ []) where
-  lines-silent : (lines : List (List ℕ)) → outputOf replay session lines ≡ []
-  unfolding outputOf
+  lines-silent : (lines : List (List ℕ)) → output-of replay session lines ≡ []
+  unfolding output-of
   lines-silent [] = closes
   lines-silent (line ∷ lines) =
-      ap (λ (x : List ℕ). x ++ outputOf replay (replay .next session (lineOf line)) lines) (says (lineOf line))
-      ∙ ap (λ (x : S). outputOf replay x lines) (stays (lineOf line)) ∙ lines-silent lines
+      ap (λ (x : List ℕ). x ++ output-of replay (replay .next session (read-line line)) lines) (says (read-line line))
+      ∙ ap (λ (x : S). output-of replay x lines) (stays (read-line line)) ∙ lines-silent lines
 
-  pub over-silent : (inside : Bool) (input : List ℕ) → restOf replay session inside input ≡ []
-  unfolding restOf
+  pub over-silent : (inside : Bool) (input : List ℕ) → rest-output replay session inside input ≡ []
+  unfolding rest-output
   over-silent inside input = lines-silent _
 
 -- a run by parts: each part is a start of the input that is left, and what is not used of it is left for the next
 pub data ByParts {S : Type 0} (replay : Replay S) : S → Bool → List ℕ → List ℕ → Type 0 where
-  done : {session : S} {inside : Bool} {input : List ℕ} → restOf replay session inside input ≡ [] → ByParts replay session inside input []
+  done : {session : S} {inside : Bool} {input : List ℕ} → rest-output replay session inside input ≡ [] → ByParts replay session inside input []
   part : {session session′ : S} {inside inside′ last : Bool} {input buffer output : List ℕ} {used wrote : ℕ} (tail : List ℕ) → Follows last tail
       → Fed replay session inside last input buffer session′ inside′ used wrote
       → ByParts replay session′ inside′ (drop used input ++ tail) output
       → ByParts replay session inside (input ++ tail) (take wrote buffer ++ output)
 
 by-parts : {S : Type 0} {replay : Replay S} {session : S} {inside : Bool} {input output : List ℕ}
-    → ByParts replay session inside input output → restOf replay session inside input ≡ output
+    → ByParts replay session inside input output → rest-output replay session inside input ≡ output
 by-parts (done silent) = silent
 by-parts (part {buffer = buffer} {wrote = wrote} tail follows fed more) =
     fed .prints tail follows ∙ ap (λ (x : List ℕ). take wrote buffer ++ x) (by-parts more)
 
 -- THE PARTS PRINT WHAT THE WHOLE PRINTS
 pub whole : {S : Type 0} {replay : Replay S} {session : S} {input output : List ℕ}
-    → ByParts replay session false input output → replayOf replay session input ≡ output
-unfolding restOf replayOf
+    → ByParts replay session false input output → replay-of replay session input ≡ output
+unfolding rest-output replay-of
 whole parts = by-parts parts

@@ -4,8 +4,8 @@ use Prim.Native.Nat.{ℕ}
 use mathlib.Core.Bool.{Bool}
 use mathlib.Core.List.{List, [], _∷_, _++_}
 use Rattle.laws.specs.Choice.{pick}
-use Rattle.replay_lines.specs.Cutting.{linesOf, later-lines}
-use Rattle.replay_lines.specs.Grammar.{lineOf}
+use Rattle.replay_lines.specs.Cutting.{lines-of, later-lines}
+use Rattle.replay_lines.specs.Grammar.{read-line}
 use Rattle.replay_lines.specs.declared.reading.Line.{Line}
 
 pub record Replay (S : Type 0) : Type 0 where
@@ -14,16 +14,16 @@ pub record Replay (S : Type 0) : Type 0 where
   pub closing : S → List ℕ
 
 -- what a session prints of some lines, and of the end behind them
-unfoldable pub outputOf : {S : Type 0} → Replay S → S → List (List ℕ) → List ℕ
-outputOf replay session [] = replay .closing session
-outputOf replay session (line ∷ lines) =
-    replay .prints session (lineOf line) ++ outputOf replay (replay .next session (lineOf line)) lines
+unfoldable pub output-of : {S : Type 0} → Replay S → S → List (List ℕ) → List ℕ
+output-of replay session [] = replay .closing session
+output-of replay session (line ∷ lines) =
+    replay .prints session (read-line line) ++ output-of replay (replay .next session (read-line line)) lines
 
 -- what a session prints of a whole input
-unfoldable pub replayOf : {S : Type 0} → Replay S → S → List ℕ → List ℕ
-replayOf replay session input = outputOf replay session (linesOf input)
+unfoldable pub replay-of : {S : Type 0} → Replay S → S → List ℕ → List ℕ
+replay-of replay session input = output-of replay session (lines-of input)
 
 -- what a session prints of the rest of an input. If `inside`, the rest begins inside a line that was answered already, being too
 -- long for any form; what is left of that line prints nothing more
-unfoldable pub restOf : {S : Type 0} → Replay S → S → Bool → List ℕ → List ℕ
-restOf replay session inside input = outputOf replay session (pick inside (later-lines (linesOf input)) (linesOf input))
+unfoldable pub rest-output : {S : Type 0} → Replay S → S → Bool → List ℕ → List ℕ
+rest-output replay session inside input = output-of replay session (pick inside (later-lines (lines-of input)) (lines-of input))

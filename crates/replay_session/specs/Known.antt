@@ -1,47 +1,76 @@
 -- What a line does where it is known whether the session's table is sound. No line changes that (replay_stream/proofs/Known.antt), so a run over many lines
 -- tests once and not at every event.
 use Prim.Native.Nat.{ℕ}
-use mathlib.Core.Bool.{Bool, true}
-use Rattle.lock_table.specs.Access.{threadAt}
+use mathlib.Core.Bool.{Bool, true, false}
+use Rattle.lock_table.specs.Access.{thread-at}
+use Rattle.lock_table.specs.Phase.{phase-number}
+use Rattle.lock_table.specs.declared.phase.Phase.{Phase}
 use Rattle.lock_table.specs.declared.record.Table.{Table}
-use Rattle.lock_table.specs.Narrow.{narrowOf}
-use Rattle.lock_soundness.specs.Sound.{soundOf}
-use Rattle.lock_engine.specs.Begin.{beginTrusting}
-use Rattle.lock_engine.specs.Step.{stepTrusting}
+use Rattle.lock_table.specs.Narrow.{narrow-of}
+use Rattle.lock_soundness.specs.Sound.{sound-of}
+use Rattle.lock_rules.specs.Gate.{event-thread}
+use Rattle.lock_rules.specs.declared.event.Event.{Event}
+use Rattle.lock_rules.specs.declared.event.Event.the-variants.{Begin as BeginEvent, Step as StepEvent}
+use Rattle.lock_engine.specs.Outcome.{reply-returned, reply-woken}
+use Rattle.lock_engine.specs.Handle.{event-object, handle-trusting}
+use Rattle.lock_engine.specs.declared.outcome.Reply.{Reply}
 use Rattle.replay_lines.specs.declared.reading.Line.{Line}
 use Rattle.replay_lines.specs.declared.reading.Line.the-variants.{Header, Begin, Step, Malformed}
+use Rattle.replay_text.specs.declared.answer.Answer.{Answer}
 use Rattle.replay_text.specs.declared.answer.Answer.the-variants.{Silent, Refused}
-use Rattle.replay_session.specs.Session.{malformed, staying, openOf, afterEvent}
+use Rattle.replay_session.specs.Session.{malformed, staying, open-by, answer-with, after-event}
 use Rattle.replay_session.specs.declared.session.Stage.{Stage}
 use Rattle.replay_session.specs.declared.session.Stage.the-variants.{Opening, Running, Over}
 use Rattle.replay_session.specs.declared.session.Session.{Session}
 use Rattle.replay_session.specs.declared.reacting.Reaction.{Reaction}
 
 -- the table is sound, if there is one yet
-unfoldable pub soundBy : Stage → Table → Bool
-soundBy Opening table = true
-soundBy Running table = soundOf table
-soundBy Over table = true
+unfoldable pub sound-by : Stage → Table → Bool
+sound-by Opening table = true
+sound-by Running table = sound-of table
+sound-by Over table = true
 
-abbrev pub soundSession : Session → Bool
-soundSession session = soundBy (session .stage) (session .table)
+abbrev pub session-sound : Session → Bool
+session-sound session = sound-by (session .stage) (session .table)
 
-abbrev pub begunKnown : Table → ℕ → ℕ → ℕ → Bool → Reaction
-begunKnown table thread operation object issound = afterEvent (beginTrusting table thread operation object issound) thread object
+-- an event of the engine, and what it prints
+abbrev pub event-known : Table → Event → Bool → Reaction
+event-known table event issound =
+    after-event (handle-trusting table event issound) (event-thread event) (event-object event (thread-at table (event-thread event) .object))
 
-abbrev pub steppedKnown : Table → ℕ → Bool → Reaction
-steppedKnown table thread issound = afterEvent (stepTrusting table thread issound) thread (threadAt table thread .object)
+-- the event that a line asks for, its numbers as the records hold them; other lines ask for none
+unfoldable pub line-event : Line → Event
+line-event (Header threads objects reserved) = StepEvent 0
+line-event (Begin operation thread object) = BeginEvent operation (narrow-of thread) (narrow-of object)
+line-event (Step thread) = StepEvent (narrow-of thread)
+line-event Malformed = StepEvent 0
 
-unfoldable pub runKnown : Table → Line → Bool → Reaction
-runKnown table (Header threads objects reserved) issound = staying Running table (Refused malformed)
-runKnown table (Begin operation thread object) issound = begunKnown table (narrowOf thread) operation (narrowOf object) issound
-runKnown table (Step thread) issound = steppedKnown table (narrowOf thread) issound
-runKnown table Malformed issound = staying Running table (Refused malformed)
+unfoldable pub run-by : Table → Line → Bool → Reaction
+run-by table (Header threads objects reserved) issound = staying Running table (Refused malformed)
+run-by table (Begin operation thread object) issound = event-known table (BeginEvent operation (narrow-of thread) (narrow-of object)) issound
+run-by table (Step thread) issound = event-known table (StepEvent (narrow-of thread)) issound
+run-by table Malformed issound = staying Running table (Refused malformed)
 
-unfoldable pub reactWith : Stage → Table → Line → Bool → Reaction
-reactWith Opening table line issound = openOf table line
-reactWith Running table line issound = runKnown table line issound
-reactWith Over table line issound = staying Over table Silent
+unfoldable pub react-by : Stage → Table → Line → Bool → Reaction
+react-by Opening table line issound = open-by table line
+react-by Running table line issound = run-by table line issound
+react-by Over table line issound = staying Over table Silent
 
-abbrev pub reactKnown : Session → Line → Bool → Reaction
-reactKnown session line issound = reactWith (session .stage) (session .table) line issound
+abbrev pub react-trusting : Session → Line → Bool → Reaction
+react-trusting session line issound = react-by (session .stage) (session .table) line issound
+
+-- whether a line is an event of a running session
+unfoldable pub is-event : Line → Bool
+is-event (Header threads objects reserved) = false
+is-event (Begin operation thread object) = true
+is-event (Step thread) = true
+is-event Malformed = false
+
+unfoldable pub runs-event : Stage → Line → Bool
+runs-event Opening line = false
+runs-event Running line = is-event line
+runs-event Over line = false
+
+-- what an event prints, by the records of its turn
+abbrev pub turn-answer : Reply → Phase → ℕ → Answer
+turn-answer reply phase word = answer-with (reply-returned reply) (phase-number phase) (reply-woken reply) word

@@ -3,19 +3,19 @@ use Prim.Native.Nat.{ℕ}
 use mathlib.Core.Bool.{Bool, true, false}
 use lib.Dec.{leb}
 use Rattle.laws.specs.Choice.{pick}
-use Rattle.lock_table.specs.Access.{threadAt, objectAt}
-use Rattle.lock_table.specs.Phase.{phaseNumberOf}
-use Rattle.lock_table.specs.Fresh.{freshOf, freshReturnedOf}
+use Rattle.lock_table.specs.Access.{thread-at, object-at}
+use Rattle.lock_table.specs.Phase.{phase-number}
+use Rattle.lock_table.specs.Fresh.{fresh-of, fresh-returned}
 use Rattle.lock_table.specs.declared.record.Table.{Table}
 use Rattle.lock_table.specs.declared.fresh_table.FreshAnswer.{FreshAnswer}
 use Rattle.lock_table.specs.declared.fresh_table.FreshAnswer.the-variants.{Made, SizeOutOfRange}
-use Rattle.lock_engine.specs.Outcome.{first-refusal, returnedOf, wokenOf}
-use Rattle.lock_engine.specs.Begin.{beginOf}
-use Rattle.lock_engine.specs.Step.{stepOf}
+use Rattle.lock_rules.specs.Numbers.{first-refusal}
+use Rattle.lock_engine.specs.Outcome.{reply-returned, reply-woken}
+use Rattle.lock_engine.specs.Handle.{begin, step}
 use Rattle.lock_engine.specs.declared.outcome.Outcome.{Outcome}
 use Rattle.replay_lines.specs.declared.reading.Line.{Line}
 use Rattle.replay_lines.specs.declared.reading.Line.the-variants.{Header, Begin, Step, Malformed}
-use Rattle.replay_text.specs.Text.{answerText}
+use Rattle.replay_text.specs.Text.{answer-text}
 use Rattle.replay_text.specs.declared.answer.Answer.{Answer}
 use Rattle.replay_text.specs.declared.answer.Answer.the-variants.{Silent, Refused, Accepted}
 use Rattle.replay_parts.specs.Replay.{Replay}
@@ -28,87 +28,87 @@ use Rattle.replay_session.specs.declared.reacting.Reaction.{Reaction}
 abbrev pub malformed : ℕ
 malformed = 21
 
-abbrev pub noTable : Table
-noTable = freshOf 0 0 false .table
+abbrev pub no-table : Table
+no-table = fresh-of 0 0 false .table
 
-abbrev pub freshSession : Session
-freshSession = record { stage = Opening; table = noTable }
+abbrev pub fresh-session : Session
+fresh-session = record { stage = Opening; table = no-table }
 
 abbrev pub staying : Stage → Table → Answer → Reaction
 staying stage table answer = record { session = record { stage = stage; table = table }; answer = answer }
 
 -- a good header prints nothing; one with bad sizes the fresh table's number, 22, and ends the run
-unfoldable pub openedBy : FreshAnswer → Table → Reaction
-openedBy Made table = staying Running table Silent
-openedBy SizeOutOfRange table = staying Over table (Refused (freshReturnedOf SizeOutOfRange))
+unfoldable pub opened-by : FreshAnswer → Table → Reaction
+opened-by Made table = staying Running table Silent
+opened-by SizeOutOfRange table = staying Over table (Refused (fresh-returned SizeOutOfRange))
 
-unfoldable pub openOf : Table → Line → Reaction
-openOf table (Header threads objects reserved) = let made = freshOf threads objects reserved in openedBy (made .answer) (made .table)
-openOf table (Begin operation thread object) = staying Over table (Refused malformed)
-openOf table (Step thread) = staying Over table (Refused malformed)
-openOf table Malformed = staying Over table (Refused malformed)
+unfoldable pub open-by : Table → Line → Reaction
+open-by table (Header threads objects reserved) = let made = fresh-of threads objects reserved in opened-by (made .answer) (made .table)
+open-by table (Begin operation thread object) = staying Over table (Refused malformed)
+open-by table (Step thread) = staying Over table (Refused malformed)
+open-by table Malformed = staying Over table (Refused malformed)
 
-abbrev pub phaseOf : Table → ℕ → ℕ
-phaseOf table thread = phaseNumberOf (threadAt table thread .phase)
+abbrev pub phase-of : Table → ℕ → ℕ
+phase-of table thread = phase-number (thread-at table thread .phase)
 
-abbrev pub wordOf : Table → ℕ → ℕ
-wordOf table object = objectAt table object .word
+abbrev pub word-of : Table → ℕ → ℕ
+word-of table object = object-at table object .word
 
 -- a refused event prints its number alone; else returned, phase, woken, word
-unfoldable pub answerFrom : ℕ → ℕ → ℕ → ℕ → ℕ → Answer
-answerFrom first number phase woken word = pick (leb first number) (Refused number) (Accepted number phase woken word)
+unfoldable pub answer-from : ℕ → ℕ → ℕ → ℕ → ℕ → Answer
+answer-from first number phase woken word = pick (leb first number) (Refused number) (Accepted number phase woken word)
 
-abbrev pub answerWith : ℕ → ℕ → ℕ → ℕ → Answer
-answerWith number phase woken word = answerFrom first-refusal number phase woken word
+abbrev pub answer-with : ℕ → ℕ → ℕ → ℕ → Answer
+answer-with number phase woken word = answer-from first-refusal number phase woken word
 
-abbrev pub afterEvent : Outcome → ℕ → ℕ → Reaction
-afterEvent outcome thread object =
+abbrev pub after-event : Outcome → ℕ → ℕ → Reaction
+after-event outcome thread object =
     staying Running (outcome .table)
-    (answerWith (returnedOf (outcome .reply)) (phaseOf (outcome .table) thread) (wokenOf (outcome .reply)) (wordOf (outcome .table) object))
+    (answer-with (reply-returned (outcome .reply)) (phase-of (outcome .table) thread) (reply-woken (outcome .reply)) (word-of (outcome .table) object))
 
-abbrev pub begunBy : Table → ℕ → ℕ → ℕ → Reaction
-begunBy table thread operation object = afterEvent (beginOf table thread operation object) thread object
+abbrev pub begun-by : Table → ℕ → ℕ → ℕ → Reaction
+begun-by table thread operation object = after-event (begin table thread operation object) thread object
 
 -- the object of the operation that the thread was in, also when it has just finished
-abbrev pub steppedBy : Table → ℕ → Reaction
-steppedBy table thread = afterEvent (stepOf table thread) thread (threadAt table thread .object)
+abbrev pub stepped-by : Table → ℕ → Reaction
+stepped-by table thread = after-event (step table thread) thread (thread-at table thread .object)
 
-unfoldable pub runOf : Table → Line → Reaction
-runOf table (Header threads objects reserved) = staying Running table (Refused malformed)
-runOf table (Begin operation thread object) = begunBy table thread operation object
-runOf table (Step thread) = steppedBy table thread
-runOf table Malformed = staying Running table (Refused malformed)
+unfoldable pub run-of : Table → Line → Reaction
+run-of table (Header threads objects reserved) = staying Running table (Refused malformed)
+run-of table (Begin operation thread object) = begun-by table thread operation object
+run-of table (Step thread) = stepped-by table thread
+run-of table Malformed = staying Running table (Refused malformed)
 
-unfoldable pub reactBy : Stage → Table → Line → Reaction
-reactBy Opening table line = openOf table line
-reactBy Running table line = runOf table line
-reactBy Over table line = staying Over table Silent
+unfoldable pub react-at-stage : Stage → Table → Line → Reaction
+react-at-stage Opening table line = open-by table line
+react-at-stage Running table line = run-of table line
+react-at-stage Over table line = staying Over table Silent
 
-abbrev pub reactOf : Session → Line → Reaction
-reactOf session line = reactBy (session .stage) (session .table) line
+abbrev pub react-of : Session → Line → Reaction
+react-of session line = react-at-stage (session .stage) (session .table) line
 
 -- the end of the input: a header that never came is missing
-unfoldable pub closingBy : Stage → Table → Reaction
-closingBy Opening table = staying Over table (Refused malformed)
-closingBy Running table = staying Running table Silent
-closingBy Over table = staying Over table Silent
+unfoldable pub closing-by : Stage → Table → Reaction
+closing-by Opening table = staying Over table (Refused malformed)
+closing-by Running table = staying Running table Silent
+closing-by Over table = staying Over table Silent
 
-abbrev pub closingOf : Session → Reaction
-closingOf session = closingBy (session .stage) (session .table)
+abbrev pub closing-of : Session → Reaction
+closing-of session = closing-by (session .stage) (session .table)
 
 -- a bad header has ended the run
-unfoldable pub overBy : Stage → Bool
-overBy Opening = false
-overBy Running = false
-overBy Over = true
+unfoldable pub over-by : Stage → Bool
+over-by Opening = false
+over-by Running = false
+over-by Over = true
 
-abbrev pub overOf : Session → Bool
-overOf session = overBy (session .stage)
+abbrev pub session-over : Session → Bool
+session-over session = over-by (session .stage)
 
 -- the replay of the sessions
 abbrev pub session-replay : Replay Session
 session-replay = record {
-  next = λ session line. reactOf session line .session;
-  prints = λ session line. answerText (reactOf session line .answer);
-  closing = λ session. answerText (closingOf session .answer);
+  next = λ session line. react-of session line .session;
+  prints = λ session line. answer-text (react-of session line .answer);
+  closing = λ session. answer-text (closing-of session .answer);
 }

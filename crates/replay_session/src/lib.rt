@@ -4,7 +4,10 @@ mod session;
 
 pub use reacting::Reaction;
 pub use reacting::closing;
+pub use reacting::line_event;
 pub use reacting::react_trusting;
+pub use reacting::runs_event;
+pub use reacting::turn_answer;
 pub use session::Session;
 pub use session::Stage;
 pub use session::fresh_session;

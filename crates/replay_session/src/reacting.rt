@@ -2,14 +2,18 @@
 use crate::session::Session;
 use crate::session::Stage;
 use lock_engine::Outcome;
-use lock_engine::Refusal;
-use lock_engine::begin_trusting;
+use lock_engine::Reply;
+use lock_engine::event_object;
+use lock_engine::event_thread;
+use lock_engine::handle_trusting;
 use lock_engine::refusal_number;
 use lock_engine::returned;
-use lock_engine::step_trusting;
 use lock_engine::woken;
+use lock_rules::Event;
+use lock_rules::Refusal;
 use lock_table::FreshAnswer;
 use lock_table::FreshTable;
+use lock_table::Phase;
 use lock_table::Table;
 use lock_table::fresh;
 use lock_table::fresh_returned;
@@ -20,9 +24,9 @@ use lock_table::thread_at;
 use replay_lines::Line;
 use replay_text::Answer;
 ghost use mathlib.Core.Path.{_≡_};
-ghost use Rattle.lock_engine.specs.Outcome.{first-refusal};
-ghost use Rattle.replay_session.specs.Session.{staying, openedBy, openOf, phaseOf, wordOf, answerFrom, answerWith, afterEvent, closingBy, closingOf};
-ghost use Rattle.replay_session.specs.Known.{begunKnown, steppedKnown, runKnown, reactWith, reactKnown};
+ghost use Rattle.lock_rules.specs.Numbers.{first-refusal};
+ghost use Rattle.replay_session.specs.Session.{staying, opened-by, open-by, phase-of, word-of, answer-from, answer-with, after-event, closing-by, closing-of};
+ghost use Rattle.replay_session.specs.Known.{event-known, line-event, is-event, runs-event, turn-answer, run-by, react-by, react-trusting};
 
 pub struct Reaction {
     pub session: Session,
@@ -44,7 +48,7 @@ fn stay(stage: Stage, table: Table, answer: Answer) -> Reaction
 }
 
 fn opened(answer: FreshAnswer, table: Table) -> Reaction
-    ensures { λ r. ⌜ r ≡ openedBy answer table ⌝ }
+    ensures { λ r. ⌜ r ≡ opened-by answer table ⌝ }
 {
     match answer {
         FreshAnswer::Made => stay(Stage::Running, table, Answer::Silent),
@@ -59,7 +63,7 @@ fn opened(answer: FreshAnswer, table: Table) -> Reaction
 }
 
 fn open_with(made: FreshTable) -> Reaction
-    ensures { λ r. ⌜ r ≡ openedBy (made .answer) (made .table) ⌝ }
+    ensures { λ r. ⌜ r ≡ opened-by (made .answer) (made .table) ⌝ }
 {
     let answer = made.answer;
     let table = made.table;
@@ -68,7 +72,7 @@ fn open_with(made: FreshTable) -> Reaction
 
 // The first line is the header, or the run is over.
 fn open_by(table: Table, line: Line) -> Reaction
-    ensures { λ r. ⌜ r ≡ openOf table line ⌝ }
+    ensures { λ r. ⌜ r ≡ open-by table line ⌝ }
 {
     match line {
         Line::Header {
@@ -87,7 +91,7 @@ fn open_by(table: Table, line: Line) -> Reaction
 }
 
 fn phase_of(table: Table, thread: u8) -> u8
-    ensures { λ r. ⌜ r ≡ phaseOf table thread ⌝ }
+    ensures { λ r. ⌜ r ≡ phase-of table thread ⌝ }
 {
     let own = thread_at(table, thread);
     let phase = own.phase;
@@ -95,7 +99,7 @@ fn phase_of(table: Table, thread: u8) -> u8
 }
 
 fn word_of(table: Table, object: u8) -> u32
-    ensures { λ r. ⌜ r ≡ wordOf table object ⌝ }
+    ensures { λ r. ⌜ r ≡ word-of table object ⌝ }
 {
     let kept = object_at(table, object);
     kept.word
@@ -110,7 +114,7 @@ fn first_refusal() -> u8
 
 // A refusal prints its number alone; else returned, phase, woken and word.
 fn answer_from(first: u8, number: u8, phase: u8, woken: u8, word: u32) -> Answer
-    ensures { λ r. ⌜ r ≡ answerFrom first number phase woken word ⌝ }
+    ensures { λ r. ⌜ r ≡ answer-from first number phase woken word ⌝ }
 {
     if first <= number {
         return Answer::Refused {
@@ -126,14 +130,14 @@ fn answer_from(first: u8, number: u8, phase: u8, woken: u8, word: u32) -> Answer
 }
 
 fn answer_with(number: u8, phase: u8, woken: u8, word: u32) -> Answer
-    ensures { λ r. ⌜ r ≡ answerWith number phase woken word ⌝ }
+    ensures { λ r. ⌜ r ≡ answer-with number phase woken word ⌝ }
 {
     answer_from(first_refusal(), number, phase, woken, word)
 }
 
 // What an event of this thread prints; `object` is that of its operation, which may just have finished.
 fn after_event(outcome: Outcome, thread: u8, object: u8) -> Reaction
-    ensures { λ r. ⌜ r ≡ afterEvent outcome thread object ⌝ }
+    ensures { λ r. ⌜ r ≡ after-event outcome thread object ⌝ }
 {
     let table = outcome.table;
     let reply = outcome.reply;
@@ -146,26 +150,21 @@ fn after_event(outcome: Outcome, thread: u8, object: u8) -> Reaction
     stay(Stage::Running, table, answer)
 }
 
-fn begun_by(table: Table, thread: u8, operation: u8, object: u8, issound: bool) -> Reaction
-    ensures { λ r. ⌜ r ≡ begunKnown table thread operation object issound ⌝ }
+fn event_by(table: Table, event: Event, issound: bool) -> Reaction
+    ensures { λ r. ⌜ r ≡ event-known table event issound ⌝ }
 {
-    after_event(
-        begin_trusting(table, thread, operation, object, issound),
-        thread,
-        object,
-    )
-}
-
-fn stepped_by(table: Table, thread: u8, issound: bool) -> Reaction
-    ensures { λ r. ⌜ r ≡ steppedKnown table thread issound ⌝ }
-{
+    let thread = event_thread(event);
     let own = thread_at(table, thread);
-    after_event(step_trusting(table, thread, issound), thread, own.object)
+    after_event(
+        handle_trusting(table, event, issound),
+        thread,
+        event_object(event, own.object),
+    )
 }
 
 // A line behind a good header.
 fn run_by(table: Table, line: Line, issound: bool) -> Reaction
-    ensures { λ r. ⌜ r ≡ runKnown table line issound ⌝ }
+    ensures { λ r. ⌜ r ≡ run-by table line issound ⌝ }
 {
     match line {
         Line::Header {
@@ -177,20 +176,28 @@ fn run_by(table: Table, line: Line, issound: bool) -> Reaction
             operation,
             thread,
             object,
-        } => begun_by(
+        } => event_by(
             table,
-            narrow(thread as u32),
-            operation,
-            narrow(object as u32),
+            Event::Begin {
+                operation: operation,
+                thread: narrow(thread as u32),
+                object: narrow(object as u32),
+            },
             issound,
         ),
-        Line::Step { thread } => stepped_by(table, narrow(thread as u32), issound),
+        Line::Step { thread } => event_by(
+            table,
+            Event::Step {
+                thread: narrow(thread as u32),
+            },
+            issound,
+        ),
         Line::Malformed => stay(Stage::Running, table, Answer::Refused { number: MALFORMED }),
     }
 }
 
 fn react_by(stage: Stage, table: Table, line: Line, issound: bool) -> Reaction
-    ensures { λ r. ⌜ r ≡ reactWith stage table line issound ⌝ }
+    ensures { λ r. ⌜ r ≡ react-by stage table line issound ⌝ }
 {
     match stage {
         Stage::Opening => open_by(table, line),
@@ -202,15 +209,78 @@ fn react_by(stage: Stage, table: Table, line: Line, issound: bool) -> Reaction
 // A line is taken by a caller that is trusted to know whether the session's table is sound: with `issound` as session_sound has it this is
 // what document 01 says of the line (replay_stream/proofs/Known.antt).
 pub fn react_trusting(session: Session, line: Line, issound: bool) -> Reaction
-    ensures { λ r. ⌜ r ≡ reactKnown session line issound ⌝ }
+    ensures { λ r. ⌜ r ≡ react-trusting session line issound ⌝ }
 {
     let stage = session.stage;
     let table = session.table;
     react_by(stage, table, line, issound)
 }
 
+// The event that a line asks for; of other lines the answer is not used.
+pub fn line_event(line: Line) -> Event
+    ensures { λ r. ⌜ r ≡ line-event line ⌝ }
+{
+    match line {
+        Line::Header {
+            threads: _,
+            objects: _,
+            reserved: _,
+        } => Event::Step { thread: 0 },
+        Line::Begin {
+            operation,
+            thread,
+            object,
+        } => Event::Begin {
+            operation: operation,
+            thread: narrow(thread as u32),
+            object: narrow(object as u32),
+        },
+        Line::Step { thread } => Event::Step {
+            thread: narrow(thread as u32),
+        },
+        Line::Malformed => Event::Step { thread: 0 },
+    }
+}
+
+fn is_event(line: Line) -> bool
+    ensures { λ r. ⌜ r ≡ is-event line ⌝ }
+{
+    match line {
+        Line::Header {
+            threads: _,
+            objects: _,
+            reserved: _,
+        } => false,
+        Line::Begin {
+            operation: _,
+            thread: _,
+            object: _,
+        } => true,
+        Line::Step { thread: _ } => true,
+        Line::Malformed => false,
+    }
+}
+
+// Whether a line is an event of a running session, which a caller may carry out in place.
+pub fn runs_event(stage: Stage, line: Line) -> bool
+    ensures { λ r. ⌜ r ≡ runs-event stage line ⌝ }
+{
+    match stage {
+        Stage::Opening => false,
+        Stage::Running => is_event(line),
+        Stage::Over => false,
+    }
+}
+
+// What an event prints, by its reply, its thread's phase and its object's word.
+pub fn turn_answer(reply: Reply, phase: Phase, word: u32) -> Answer
+    ensures { λ r. ⌜ r ≡ turn-answer reply phase word ⌝ }
+{
+    answer_with(returned(reply), phase_number(phase), woken(reply), word)
+}
+
 fn closing_by(stage: Stage, table: Table) -> Reaction
-    ensures { λ r. ⌜ r ≡ closingBy stage table ⌝ }
+    ensures { λ r. ⌜ r ≡ closing-by stage table ⌝ }
 {
     match stage {
         Stage::Opening => stay(Stage::Over, table, Answer::Refused { number: MALFORMED }),
@@ -221,7 +291,7 @@ fn closing_by(stage: Stage, table: Table) -> Reaction
 
 // The end of the input: a header that never came is 21, and the run is over.
 pub fn closing(session: Session) -> Reaction
-    ensures { λ r. ⌜ r ≡ closingOf session ⌝ }
+    ensures { λ r. ⌜ r ≡ closing-of session ⌝ }
 {
     let stage = session.stage;
     let table = session.table;

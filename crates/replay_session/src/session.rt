@@ -1,8 +1,8 @@
 // The state between two lines.
 use lock_table::Table;
 ghost use mathlib.Core.Path.{_≡_};
-ghost use Rattle.replay_session.specs.Session.{noTable, freshSession, overBy, overOf};
-ghost use Rattle.replay_session.specs.Known.{soundBy, soundSession};
+ghost use Rattle.replay_session.specs.Session.{no-table, fresh-session, over-by, session-over};
+ghost use Rattle.replay_session.specs.Known.{sound-by, session-sound};
 
 pub enum Stage {
     // the header is to come
@@ -20,14 +20,14 @@ pub struct Session {
 
 // The table of no threads and no objects, which `fresh` gives where it refuses.
 fn no_table() -> Table
-    ensures { λ r. ⌜ r ≡ noTable ⌝ }
+    ensures { λ r. ⌜ r ≡ no-table ⌝ }
 {
     let refused = lock_table::fresh(0, 0, false);
     refused.table
 }
 
 pub fn fresh_session() -> Session
-    ensures { λ r. ⌜ r ≡ freshSession ⌝ }
+    ensures { λ r. ⌜ r ≡ fresh-session ⌝ }
 {
     Session {
         stage: Stage::Opening,
@@ -36,7 +36,7 @@ pub fn fresh_session() -> Session
 }
 
 fn sound_by(stage: Stage, table: Table) -> bool
-    ensures { λ r. ⌜ r ≡ soundBy stage table ⌝ }
+    ensures { λ r. ⌜ r ≡ sound-by stage table ⌝ }
 {
     match stage {
         Stage::Opening => true,
@@ -47,7 +47,7 @@ fn sound_by(stage: Stage, table: Table) -> bool
 
 // Whether the session's table is sound, if it has one yet.
 pub fn session_sound(session: Session) -> bool
-    ensures { λ r. ⌜ r ≡ soundSession session ⌝ }
+    ensures { λ r. ⌜ r ≡ session-sound session ⌝ }
 {
     let stage = session.stage;
     let table = session.table;
@@ -55,7 +55,7 @@ pub fn session_sound(session: Session) -> bool
 }
 
 fn over_by(stage: Stage) -> bool
-    ensures { λ r. ⌜ r ≡ overBy stage ⌝ }
+    ensures { λ r. ⌜ r ≡ over-by stage ⌝ }
 {
     match stage {
         Stage::Opening => false,
@@ -66,7 +66,7 @@ fn over_by(stage: Stage) -> bool
 
 // Whether a bad header has ended the run: whatever comes, nothing more is printed (replay_session/proofs/Over.antt).
 pub fn session_over(session: Session) -> bool
-    ensures { λ r. ⌜ r ≡ overOf session ⌝ }
+    ensures { λ r. ⌜ r ≡ session-over session ⌝ }
 {
     let stage = session.stage;
     over_by(stage)

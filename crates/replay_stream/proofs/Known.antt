@@ -1,108 +1,149 @@
 -- A session's table stays sound, or stays unsound, with every line. So what a line does where soundness is known, with its numbers in eight bits, is
 -- what document 01 says of it.
-use Prim.Native.Nat.{ℕ}
-use mathlib.Core.Path.{_≡_, refl, sym, ap, _∙_}
+use Prim.Native.Nat.{ℕ, _≤_}
+use mathlib.Core.Path.{_≡_, refl, sym, ap, _∙_, subst}
 use mathlib.Core.Bool.{Bool, true, false}
 use lib.Dec.{eqb, ltb}
 use borrow.Author.Tests.{eqb-false, ltb-false}
 use native.Mathlib.Omega.{arith}
 use Rattle.laws.proofs.Choice.{by-test}
-use Rattle.lock_rules.specs.Events.{Event, Begin as BeginEvent, Step as StepEvent}
+use Rattle.lock_rules.specs.declared.event.Event.{Event}
+use Rattle.lock_rules.specs.declared.event.Event.the-variants.{Begin as BeginEvent, Step as StepEvent}
 use Rattle.lock_table.specs.Limits.{thread-limit, object-limit}
-use Rattle.lock_table.specs.Access.{threadAt}
-use Rattle.lock_table.specs.Fresh.{freshOf}
+use Rattle.lock_table.specs.Access.{thread-at}
+use Rattle.lock_table.specs.Fresh.{fresh-of}
 use Rattle.lock_table.specs.Whole.{Whole}
 use Rattle.lock_table.specs.declared.record.Table.{Table}
 use Rattle.lock_table.specs.declared.fresh_table.FreshTable.{FreshTable}
-use Rattle.lock_table.specs.Narrow.{narrowOf}
-use Rattle.lock_soundness.specs.Sound.{soundOf}
+use Rattle.lock_table.specs.Narrow.{narrow-of}
+use Rattle.lock_soundness.specs.Sound.{sound-of}
 use Rattle.lock_soundness.proofs.FreshSound.{fresh-sound}
-use Rattle.lock_engine.specs.Begin.{beginTrusting, beginOf}
-use Rattle.lock_engine.specs.Step.{stepTrusting, stepOf}
+use Rattle.lock_rules.specs.Gate.{gate, event-thread}
+use Rattle.lock_rules.specs.declared.event.Refusal.the-variants.{NotSound}
+use Rattle.lock_rules.specs.declared.event.Gate.the-variants.{Shut}
+use Rattle.lock_gate.specs.Status.{thread-status}
+use Rattle.lock_engine.specs.Handle.{handle-trusting, handle}
 use Rattle.lock_engine.specs.declared.outcome.Outcome.{Outcome}
-use Rattle.lock_engine.proofs.Known.{begin-known, step-known}
-use Rattle.lock_schedule.specs.Schedule.{eventOf}
-use Rattle.lock_schedule.proofs.Theorem.{sound-kept}
+use Rattle.lock_engine.proofs.Refused.{handle-shut}
+use Rattle.lock_schedule.proofs.FreshWhole.{fresh-whole}
+use Rattle.lock_schedule.proofs.Theorem.{sound-kept, whole-kept}
 use Rattle.replay_lines.specs.declared.reading.Line.{Line}
 use Rattle.replay_lines.specs.declared.reading.Line.the-variants.{Header, Begin, Step, Malformed}
 use Rattle.replay_stream.proofs.Numbers.{narrow-begun, narrow-stepped}
-use Rattle.replay_session.specs.Session.{openedBy, openOf, afterEvent, runOf, reactBy, reactOf}
-use Rattle.replay_session.specs.Known.{soundBy, soundSession, runKnown, reactWith, reactKnown}
+use Rattle.replay_session.specs.Session.{opened-by, open-by, after-event, run-of, react-at-stage, react-of}
+use Rattle.replay_session.specs.Known.{sound-by, session-sound, run-by, react-by, react-trusting}
 use Rattle.replay_session.specs.declared.session.Stage.{Stage}
 use Rattle.replay_session.specs.declared.session.Stage.the-variants.{Opening, Running, Over}
 use Rattle.replay_session.specs.declared.session.Session.{Session}
 
-run-known : (table : Table) {issound : Bool} → issound ≡ soundOf table → (line : Line) → runKnown table line issound ≡ runOf table line
-unfolding runKnown runOf
+-- told right, an event is the one that tests the table
+event-told : (table : Table) {issound : Bool} → issound ≡ sound-of table → (event : Event) → handle-trusting table event issound ≡ handle table event
+unfolding handle
+event-told table known event = ap (handle-trusting table event) known
+
+run-known : (table : Table) {issound : Bool} → issound ≡ sound-of table → (line : Line) → run-by table line issound ≡ run-of table line
+unfolding run-by run-of
 run-known table known (Header threads objects reserved) = refl
 run-known table known (Begin operation thread object) =
-    let number = narrowOf thread in
-    let place = narrowOf object in
-    ap (λ (outcome : Outcome). afterEvent outcome number place) (begin-known table known number operation place)
+    let number = narrow-of thread in
+    let place = narrow-of object in
+    ap (λ (outcome : Outcome). after-event outcome number place) (event-told table known (BeginEvent operation number place))
     ∙ narrow-begun table thread operation object
 run-known table known (Step thread) =
-    let number = narrowOf thread in
-    ap (λ (outcome : Outcome). afterEvent outcome number (threadAt table number .object)) (step-known table known number) ∙ narrow-stepped table thread
+    let number = narrow-of thread in
+    ap (λ (outcome : Outcome). after-event outcome number (thread-at table number .object)) (event-told table known (StepEvent number))
+    ∙ narrow-stepped table thread
 run-known table known Malformed = refl
 
-react-with : (stage : Stage) (table : Table) {issound : Bool} → issound ≡ soundBy stage table → (line : Line) → reactWith stage table line issound ≡ reactBy stage table line
-unfolding reactWith reactBy soundBy
+react-with : (stage : Stage) (table : Table) {issound : Bool} → issound ≡ sound-by stage table → (line : Line) → react-by stage table line issound ≡ react-at-stage stage table line
+unfolding react-by react-at-stage sound-by
 react-with Opening table known line = refl
 react-with Running table known line = run-known table known line
 react-with Over table known line = refl
 
 -- known as it is, soundness is what every event would have found
-pub react-known : (session : Session) (line : Line) {issound : Bool} → issound ≡ soundSession session → reactKnown session line issound ≡ reactOf session line
+pub react-known : (session : Session) (line : Line) {issound : Bool} → issound ≡ session-sound session → react-trusting session line issound ≡ react-of session line
 react-known session line known = react-with (session .stage) (session .table) known line
 
 -- an unsound table is left alone
-refused-same : (table : Table) (event : Event) → soundOf table ≡ false → eventOf table event .table ≡ table
-unfolding beginOf beginTrusting stepOf stepTrusting
-refused-same table (BeginEvent operation thread object) unsound = rw unsound refl
-refused-same table (StepEvent thread) unsound = rw unsound refl
+refused-same : (table : Table) (event : Event) → sound-of table ≡ false → handle table event .table ≡ table
+unfolding handle
+refused-same table event unsound = rw unsound (ap (λ (outcome : Outcome). outcome .table) (handle-shut table event false NotSound (shut event)))
+  where
+    shut : (event : Event)
+        → gate false (table .threadcount) (table .objectcount) event (thread-status (thread-at table (event-thread event) .phase)) ≡ Shut NotSound
+    shut (BeginEvent operation thread object) = refl
+    shut (StepEvent thread) = refl
 
-event-same : (table : Table) → Whole table → (event : Event) (issound : Bool) → soundOf table ≡ issound → soundOf (eventOf table event .table) ≡ soundOf table
+event-same : (table : Table) → Whole table → (event : Event) (issound : Bool) → sound-of table ≡ issound → sound-of (handle table event .table) ≡ sound-of table
 event-same table whole event true sound = sound-kept table whole sound event ∙ sym sound
-event-same table whole event false unsound = ap soundOf (refused-same table event unsound)
+event-same table whole event false unsound = ap sound-of (refused-same table event unsound)
 
--- a header opens the session with a sound table, or ends it
-abbrev OpensSound : FreshTable → Type 0
-OpensSound made = let session = openedBy (made .answer) (made .table) .session in soundSession session ≡ true
+-- the table of a session that has one is whole
+abbrev pub WholeBy : Stage → Table → Type 0
+WholeBy Opening table = Unit {0}
+WholeBy Running table = Whole table
+WholeBy Over table = Unit {0}
 
-opens-sound : (threads objects : ℕ) (reserved : Bool) → OpensSound (freshOf threads objects reserved)
-unfolding freshOf openedBy soundBy
-opens-sound threads objects reserved =
-    by-test OpensSound (eqb threads 0) (λ none. refl)
-    (λ some. by-test OpensSound (ltb thread-limit threads) (λ many. refl)
-    (λ few. by-test OpensSound (eqb objects 0) (λ none. refl)
-    (λ some-objects. by-test OpensSound (ltb object-limit objects) (λ many. refl)
+pub whole-by : (stage : Stage) {table : Table} → Whole table → WholeBy stage table
+whole-by Opening whole = tt
+whole-by Running whole = whole
+whole-by Over whole = tt
+
+-- a header opens the session with a sound table, which is whole, or ends it
+abbrev Opens : FreshTable → Type 0
+Opens made = let session = opened-by (made .answer) (made .table) .session in (session-sound session ≡ true) × WholeBy (session .stage) (session .table)
+
+opens : (threads objects : ℕ) (reserved : Bool) → Opens (fresh-of threads objects reserved)
+unfolding fresh-of opened-by sound-by
+opens threads objects reserved =
+    by-test Opens (eqb threads 0) (λ none. (refl, tt))
+    (λ some. by-test Opens (ltb thread-limit threads) (λ many. (refl, tt))
+    (λ few. by-test Opens (eqb objects 0) (λ none. (refl, tt))
+    (λ some-objects. by-test Opens (ltb object-limit objects) (λ many. (refl, tt))
     (λ fewer.
-    let fresh = fresh-sound threads objects reserved
-    (omega (arith, eqb-false threads 0 some)) (omega (arith, ltb-false thread-limit threads few))
-    (omega (arith, eqb-false objects 0 some-objects)) (omega (arith, ltb-false object-limit objects fewer)) in
-    rw (some, few, some-objects, fewer) at fresh))))
+    let low : 1 ≤ threads = let e = eqb-false threads 0 some in omega (arith, e) in
+    let high : threads ≤ thread-limit = ltb-false thread-limit threads few in
+    let real : 1 ≤ objects = let e = eqb-false objects 0 some-objects in omega (arith, e) in
+    let small : objects ≤ object-limit = ltb-false object-limit objects fewer in
+    let sound = fresh-sound threads objects reserved low high real small in
+    let whole = fresh-whole threads objects reserved low high real small in
+    (rw (some, few, some-objects, fewer) at sound, rw (some, few, some-objects, fewer) at whole)))))
 
-open-kept : (table : Table) (line : Line) → soundSession (openOf table line .session) ≡ true
-unfolding openOf soundBy
-open-kept table (Header threads objects reserved) = opens-sound threads objects reserved
-open-kept table (Begin operation thread object) = refl
-open-kept table (Step thread) = refl
-open-kept table Malformed = refl
+open-kept : (table : Table) (line : Line) → let session = open-by table line .session in (session-sound session ≡ true) × WholeBy (session .stage) (session .table)
+unfolding open-by sound-by
+open-kept table (Header threads objects reserved) = opens threads objects reserved
+open-kept table (Begin operation thread object) = (refl, tt)
+open-kept table (Step thread) = (refl, tt)
+open-kept table Malformed = (refl, tt)
 
-run-kept : (table : Table) → Whole table → (line : Line) → soundSession (runOf table line .session) ≡ soundOf table
-unfolding runOf soundBy
-run-kept table whole (Header threads objects reserved) = refl
+-- an event keeps the table whole, too
+event-whole : (table : Table) → Whole table → (event : Event) (issound : Bool) → sound-of table ≡ issound → Whole (handle table event .table)
+event-whole table whole event true sound = whole-kept table whole sound event
+event-whole table whole event false unsound = subst Whole (sym (refused-same table event unsound)) whole
+
+abbrev Kept : Table → Session → Type 0
+Kept table session = (session-sound session ≡ sound-of table) × WholeBy (session .stage) (session .table)
+
+run-kept : (table : Table) → Whole table → (line : Line) → Kept table (run-of table line .session)
+unfolding run-of sound-by
+run-kept table whole (Header threads objects reserved) = (refl, whole)
 run-kept table whole (Begin operation thread object) =
-    event-same table whole (BeginEvent operation thread object) (soundOf table) refl
-run-kept table whole (Step thread) = event-same table whole (StepEvent thread) (soundOf table) refl
-run-kept table whole Malformed = refl
+    let event = BeginEvent operation thread object in
+    (event-same table whole event (sound-of table) refl, event-whole table whole event (sound-of table) refl)
+run-kept table whole (Step thread) =
+    (event-same table whole (StepEvent thread) (sound-of table) refl, event-whole table whole (StepEvent thread) (sound-of table) refl)
+run-kept table whole Malformed = (refl, whole)
 
-react-kept : (stage : Stage) (table : Table) → Whole table → (line : Line) → soundSession (reactBy stage table line .session) ≡ soundBy stage table
-unfolding reactBy soundBy
+react-kept : (stage : Stage) (table : Table) → WholeBy stage table → (line : Line)
+    → let session = react-at-stage stage table line .session in
+    (session-sound session ≡ sound-by stage table) × WholeBy (session .stage) (session .table)
+unfolding react-at-stage sound-by
 react-kept Opening table whole line = open-kept table line
 react-kept Running table whole line = run-kept table whole line
-react-kept Over table whole line = refl
+react-kept Over table whole line = (refl, tt)
 
--- no line changes it
-pub sound-session-kept : (session : Session) → Whole (session .table) → (line : Line) → soundSession (reactOf session line .session) ≡ soundSession session
-sound-session-kept session whole line = react-kept (session .stage) (session .table) whole line
+-- no line changes whether the table is sound, and it stays whole
+pub session-kept : (session : Session) → WholeBy (session .stage) (session .table) → (line : Line)
+    → let after = react-of session line .session in (session-sound after ≡ session-sound session) × WholeBy (after .stage) (after .table)
+session-kept session whole line = react-kept (session .stage) (session .table) whole line

@@ -4,23 +4,25 @@ use mathlib.Core.Path.{_≡_}
 use mathlib.Core.Bool.{Bool, false}
 use mathlib.Core.List.{List, [], _++_}
 use lib.ListN.{length, take}
-use Rattle.replay_lines.specs.Grammar.{lineOf}
+use Rattle.replay_lines.specs.Grammar.{read-line}
 use Rattle.replay_text.specs.Text.{line-room}
 use Rattle.replay_parts.specs.Part.{Fed, GoesOn}
+use Rattle.lock_table.specs.declared.record.Table.{Table}
+use Rattle.replay_session.specs.declared.session.Stage.{Stage}
 use Rattle.replay_session.specs.declared.session.Session.{Session}
-use Rattle.replay_session.specs.Session.{freshSession, session-replay}
-use Rattle.replay_session.specs.Known.{soundSession}
+use Rattle.replay_session.specs.Session.{fresh-session, session-replay}
+use Rattle.replay_session.specs.Known.{session-sound}
 use Rattle.replay_stream.specs.declared.turn.Turn.{Turn}
 use Rattle.replay_stream.specs.declared.feeding.Stream.{Stream}
 use Rattle.replay_stream.specs.declared.feeding.Progress.{Progress}
 
 -- the session moves on, and what the line prints stands behind what stood there; a sound table stays sound, and an unsound one unsound
 pub record Turned (session : Session) (line before after : List ℕ) (at : ℕ) (r : Turn) : Type 0 where
-  pub moved : r .session ≡ session-replay .next session (lineOf line)
-  pub front : take (r .wrote) after ≡ take at before ++ session-replay .prints session (lineOf line)
+  pub moved : r .session ≡ session-replay .next session (read-line line)
+  pub front : take (r .wrote) after ≡ take at before ++ session-replay .prints session (read-line line)
   pub most : r .wrote ≤ at + line-room
   pub within : r .wrote ≤ length after
-  pub sound-kept : soundSession (r .session) ≡ soundSession session
+  pub sound-kept : session-sound (r .session) ≡ session-sound session
 
 -- the session closes, what the end prints stands behind what stood there, and the end prints nothing more
 pub record Closed (session : Session) (before after : List ℕ) (at : ℕ) (r : Turn) : Type 0 where
@@ -28,11 +30,16 @@ pub record Closed (session : Session) (before after : List ℕ) (at : ℕ) (r : 
   pub silent : session-replay .closing (r .session) ≡ []
   pub within : r .wrote ≤ length after
 
-abbrev pub freshStream : Stream
-freshStream = record { session = freshSession; inside = false }
+abbrev pub fresh-stream : Stream
+fresh-stream = record { session = fresh-session; inside = false }
 
-abbrev pub endedBy : Turn → ℕ → Progress
-endedBy turn used = record { stream = record { session = turn .session; inside = false }; used = used; wrote = turn .wrote }
+-- a session behind so much of a part
+abbrev pub progressed : Stage → Table → ℕ → ℕ → Progress
+progressed stage table used wrote =
+    record { stream = record { session = record { stage = stage; table = table }; inside = false }; used = used; wrote = wrote }
+
+abbrev pub ended-by : Turn → ℕ → Progress
+ended-by turn used = record { stream = record { session = turn .session; inside = false }; used = used; wrote = turn .wrote }
 
 -- a part was taken, and if it is the last one the end of the input with it
 abbrev pub FedFrom : Session → Bool → Bool → List ℕ → List ℕ → Progress → Type 0

@@ -8,9 +8,9 @@ ghost use mathlib.Core.Path.{_≡_};
 ghost use mathlib.Core.Bool.{true};
 ghost use Prim.Native.Nat.{_≤_};
 ghost use lib.ListN.{length};
-ghost use Rattle.replay_lines.specs.Cutting.{lineEnd};
+ghost use Rattle.replay_lines.specs.Cutting.{line-end};
 ghost use Rattle.replay_parts.specs.Part.{end-room};
-ghost use Rattle.replay_stream.specs.Stream.{endedBy, FedFrom};
+ghost use Rattle.replay_stream.specs.Stream.{ended-by, FedFrom};
 use replay_session::Session;
 
 // Room for what a last piece without a newline prints, and for what the end prints.
@@ -18,7 +18,7 @@ pub const END_ROOM: usize = 128;
 
 // All of the input was taken, and the session has closed.
 fn ended(turn: Turn, used: usize) -> Progress
-    ensures { λ r. ⌜ r ≡ endedBy turn used ⌝ }
+    ensures { λ r. ⌜ r ≡ ended-by turn used ⌝ }
 {
     let session = turn.session;
     Progress {
@@ -33,7 +33,7 @@ fn ended(turn: Turn, used: usize) -> Progress
 
 // What is left of a line that was answered already prints nothing; a last piece without a newline is a line of its own.
 pub(crate) fn take_end(session: Session, inside: bool, input: &[u8], out: &mut [u8]) -> Progress
-    requires { ⌜ (end-room ≤ length (now out)) × (lineEnd (now input) ≡ 0) ⌝ }
+    requires { ⌜ (end-room ≤ length (now out)) × (line-end (now input) ≡ 0) ⌝ }
     ensures { λ r. ⌜ FedFrom session inside true (now (input .entry)) (now (out .exit)) r ⌝ }
 {
     if inside {

@@ -2,17 +2,33 @@
 use crate::ending::END_ROOM;
 use crate::ending::take_end;
 use crate::turn::take_line;
+use lock_engine::event_object;
+use lock_engine::event_thread;
+use lock_engine::take_turn;
+use lock_perform::length_from;
+use lock_perform::stays;
+use lock_perform::work_done;
+use lock_table::THREADS;
+use lock_table::Table;
+use lock_table::object_place;
+use lock_table::thread_place;
 ghost use mathlib.Core.Path.{_≡_};
 ghost use mathlib.Core.Bool.{true, false};
 ghost use Prim.Native.Nat.{_≤_, _<_};
 ghost use lib.ListN.{length};
-ghost use Rattle.replay_lines.specs.Cutting.{lineEnd, line-limit};
+ghost use Rattle.replay_lines.specs.Cutting.{line-end, line-limit};
 ghost use Rattle.replay_text.specs.Text.{line-room};
 ghost use Rattle.replay_parts.specs.Part.{HasLine};
-ghost use Rattle.replay_stream.specs.Stream.{freshStream, FedFrom, FedLines};
+ghost use Rattle.replay_stream.specs.Stream.{fresh-stream, progressed, FedFrom, FedLines};
 use replay_lines::LINE_LIMIT;
 use replay_session::Session;
+use replay_session::Stage;
+use replay_session::line_event;
+use replay_session::react_trusting;
+use replay_session::runs_event;
+use replay_session::turn_answer;
 use replay_text::LINE_ROOM;
+use replay_text::put_answer;
 
 // A session, and whether the input goes on inside a line that was answered already, being too long.
 pub struct Stream {
@@ -27,7 +43,7 @@ pub struct Progress {
 }
 
 pub fn fresh_stream() -> Stream
-    ensures { λ r. ⌜ r ≡ freshStream ⌝ }
+    ensures { λ r. ⌜ r ≡ fresh-stream ⌝ }
 {
     Stream {
         session: replay_session::fresh_session(),
@@ -35,41 +51,90 @@ pub fn fresh_stream() -> Stream
     }
 }
 
+fn progressed(stage: Stage, table: Table, used: usize, wrote: usize) -> Progress
+    ensures { λ r. ⌜ r ≡ progressed stage table used wrote ⌝ }
+{
+    Progress {
+        stream: Stream {
+            session: Session {
+                stage: stage,
+                table: table,
+            },
+            inside: false,
+        },
+        used: used,
+        wrote: wrote,
+    }
+}
+
 // The whole lines at the start of the part, while there is room for what they print. The rest of the part goes to the next line's reader.
-// The table is tested once for all of them.
+// The table is tested once for all of them, and stands in this function alone: events read and write their records in place.
 fn take_lines(start: Session, input: &[u8], out: &mut [u8]) -> Progress
     requires { ⌜ HasLine (now input) (now out) ⌝ }
     ensures { λ r. ⌜ FedLines start false (now (input .entry)) (now (out .entry)) (now (out .exit)) r ⌝ }
 {
     let issound = replay_session::session_sound(start);
-    let mut session = start;
+    let mut stage = start.stage;
+    let mut table = start.table;
     let mut rest = input;
     let mut wrote: usize = 0;
     while LINE_ROOM <= out.len() - wrote {
         let end = replay_lines::line_end(rest);
         if end == 0 {
-            return Progress {
-                stream: Stream {
-                    session: session,
-                    inside: false,
-                },
-                used: input.len() - rest.len(),
-                wrote: wrote,
-            };
+            return progressed(stage, table, input.len() - rest.len(), wrote);
         }
-        let turn = take_line(session, issound, &rest[..end], out, wrote);
-        session = turn.session;
-        wrote = turn.wrote;
+        let line = replay_lines::read_line(&rest[..end]);
         rest = &rest[end..];
+        if !runs_event(stage, line) {
+            let reaction = react_trusting(
+                Session {
+                    stage: stage,
+                    table: table,
+                },
+                line,
+                issound,
+            );
+            let session = reaction.session;
+            let answer = reaction.answer;
+            stage = session.stage;
+            table = session.table;
+            wrote = put_answer(out, wrote, answer);
+            continue;
+        }
+        let event = line_event(line);
+        let thread = event_thread(event);
+        let place = thread_place(thread);
+        let own = table.threads[place];
+        let number = event_object(event, own.object);
+        let home = object_place(number);
+        let object = table.objects[home];
+        let mut waiters: u8 = 0;
+        if object.monitor.waiting != 0 {
+            waiters = length_from(table, object.monitor.waiting);
+        }
+        let turn = take_turn(
+            issound & (table.threadcount <= THREADS),
+            table.threadcount,
+            table.objectcount,
+            event,
+            own,
+            object,
+            waiters,
+        );
+        let reply = turn.reply;
+        let after = turn.own;
+        let objectafter = turn.object;
+        let work = turn.work;
+        let phase = after.phase;
+        wrote = put_answer(out, wrote, turn_answer(reply, phase, objectafter.word));
+        if stays(work) {
+            table.threads[place] = after;
+            table.objects[home] = objectafter;
+            continue;
+        }
+        table = work_done(table, thread, number, after, objectafter, work);
     }
-    Progress {
-        stream: Stream {
-            session: session,
-            inside: false,
-        },
-        used: input.len() - rest.len(),
-        wrote: wrote,
-    }
+    progressed(stage, table, input.len() - rest.len(), wrote)
 }
 
 // What is left of a line that was answered already.
@@ -99,7 +164,7 @@ fn skip_line(session: Session, input: &[u8], out: &mut [u8]) -> Progress
 
 // The start of a line that is too long for any form: it is answered, and what is left of it will be skipped.
 fn take_long_line(session: Session, input: &[u8], out: &mut [u8]) -> Progress
-    requires { ⌜ (line-limit < length (now input)) × (lineEnd (now input) ≡ 0) × (line-room ≤ length (now out)) ⌝ }
+    requires { ⌜ (line-limit < length (now input)) × (line-end (now input) ≡ 0) × (line-room ≤ length (now out)) ⌝ }
     ensures { λ r. ⌜ FedLines session false (now (input .entry)) (now (out .entry)) (now (out .exit)) r ⌝ }
 {
     let issound = replay_session::session_sound(session);

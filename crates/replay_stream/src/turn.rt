@@ -3,7 +3,7 @@ ghost use mathlib.Core.Path.{_≡_};
 ghost use Prim.Native.Nat.{_+_, _≤_};
 ghost use lib.ListN.{length};
 ghost use Rattle.replay_text.specs.Text.{line-room};
-ghost use Rattle.replay_session.specs.Known.{soundSession};
+ghost use Rattle.replay_session.specs.Known.{session-sound};
 ghost use Rattle.replay_stream.specs.Stream.{Turned, Closed};
 use replay_session::Session;
 
@@ -21,7 +21,7 @@ pub(crate) fn take_line(
     out: &mut [u8],
     at: usize,
 ) -> Turn
-    requires { ⌜ (at + line-room ≤ length (now out)) × (issound ≡ soundSession session) ⌝ }
+    requires { ⌜ (at + line-room ≤ length (now out)) × (issound ≡ session-sound session) ⌝ }
     ensures { λ r. ⌜ Turned session (now (line .entry)) (now (out .entry)) (now (out .exit)) at r ⌝ }
 {
     let reaction = replay_session::react_trusting(session, replay_lines::read_line(line), issound);

@@ -6,8 +6,8 @@ use native.Mathlib.Omega.{arith}
 use lib.Dec.{ltb}
 use lib.ListN.{length, length-append}
 use Rattle.laws.specs.Choice.{pick}
-use Rattle.replay_text.specs.Digits.{digits, placesOf, decimal, decimal-limit}
-use Rattle.replay_text.specs.Text.{fieldText, wordText, numberLine, answerLine, answerText, field-limit, word-limit, line-room}
+use Rattle.replay_text.specs.Digits.{digits, places-of, decimal, decimal-limit}
+use Rattle.replay_text.specs.Text.{field-text, word-text, number-line, answer-line, answer-text, field-limit, word-limit, line-room}
 use Rattle.replay_text.specs.declared.answer.Answer.{Answer}
 use Rattle.replay_text.specs.declared.answer.Answer.the-variants.{Silent, Refused, Accepted}
 use Rattle.replay_text.proofs.Stores.{digits-length}
@@ -16,8 +16,8 @@ pick-most : (test : Bool) (a b n : ℕ) → a ≤ n → b ≤ n → pick test a 
 pick-most true a b n first second = first
 pick-most false a b n first second = second
 
-pub places-fit : (number : ℕ) → placesOf number ≤ decimal-limit
-unfolding placesOf
+pub places-fit : (number : ℕ) → places-of number ≤ decimal-limit
+unfolding places-of
 places-fit number =
     pick-most (ltb number 10) 1 _ 5 (omega arith)
     (pick-most (ltb number 100) 2 _ 5 (omega arith)
@@ -25,37 +25,37 @@ places-fit number =
 
 pub decimal-fits : (number : ℕ) → length (decimal number) ≤ decimal-limit
 unfolding decimal
-decimal-fits number = rw (digits-length 10 (placesOf number) number) (places-fit number)
+decimal-fits number = rw (digits-length 10 (places-of number) number) (places-fit number)
 
-pub field-fits : (number end : ℕ) → length (fieldText number end) ≤ field-limit
-unfolding fieldText
+pub field-fits : (number end : ℕ) → length (field-text number end) ≤ field-limit
+unfolding field-text
 field-fits number end = omega (arith, length-append (decimal number) (end ∷ []), decimal-fits number)
 
-pub word-fits : (word : ℕ) → length (wordText word) ≤ word-limit
-unfolding wordText
+pub word-fits : (word : ℕ) → length (word-text word) ≤ word-limit
+unfolding word-text
 word-fits word = omega (arith, length-append (digits 16 6 word) (10 ∷ []), digits-length 16 6 word)
 
-field-some : (number end : ℕ) → 0 < length (fieldText number end)
-unfolding fieldText
+field-some : (number end : ℕ) → 0 < length (field-text number end)
+unfolding field-text
 field-some number end = omega (arith, length-append (decimal number) (end ∷ []))
 
-pub number-line-fits : (number : ℕ) → length (numberLine number) ≤ line-room
+pub number-line-fits : (number : ℕ) → length (number-line number) ≤ line-room
 number-line-fits number = omega (arith, field-fits number 10)
 
-pub answer-line-fits : (returned phase woken word : ℕ) → length (answerLine returned phase woken word) ≤ line-room
-unfolding answerLine
+pub answer-line-fits : (returned phase woken word : ℕ) → length (answer-line returned phase woken word) ≤ line-room
+unfolding answer-line
 answer-line-fits returned phase woken word =
     simp (length-append) (omega (arith, field-fits returned 32, field-fits phase 32, field-fits woken 32, word-fits word))
 
-pub answer-fits : (answer : Answer) → length (answerText answer) ≤ line-room
-unfolding answerText
+pub answer-fits : (answer : Answer) → length (answer-text answer) ≤ line-room
+unfolding answer-text
 answer-fits Silent = omega arith
 answer-fits (Refused number) = number-line-fits number
 answer-fits (Accepted returned phase woken word) = answer-line-fits returned phase woken word
 
-pub number-line-some : (number : ℕ) → 0 < length (numberLine number)
+pub number-line-some : (number : ℕ) → 0 < length (number-line number)
 number-line-some number = field-some number 10
 
-pub answer-line-some : (returned phase woken word : ℕ) → 0 < length (answerLine returned phase woken word)
-unfolding answerLine
+pub answer-line-some : (returned phase woken word : ℕ) → 0 < length (answer-line returned phase woken word)
+unfolding answer-line
 answer-line-some returned phase woken word = simp (length-append) (omega (arith, field-some returned 32))

@@ -7,7 +7,7 @@ use native.Mathlib.Numerals.{sub-one}
 use native.Mathlib.Nat.{not-suc-le-zero}
 use lib.ListN.{length, take, drop, set, length-append}
 use lib.Seq.{sets, sets-eq, length-sets, length-take-le, set-comm, take-at}
-use Rattle.replay_text.specs.Digits.{digitByteOf, digits}
+use Rattle.replay_text.specs.Digits.{digit-byte, digits}
 use Rattle.replay_text.specs.Written.{Wrote}
 
 sets-append : (first second bytes : List ℕ) (at : ℕ) → sets (sets bytes at first) (at + length first) second ≡ sets bytes at (first ++ second)
@@ -31,12 +31,12 @@ digits-length base (suc width) number = length-append (digits base width (number
 -- the last digit is stored, and the others are still to be
 pub digits-turn : (left at base number : ℕ) (bytes : List ℕ) → 0 < left
     → sets bytes at (digits base left number)
-    ≡ sets (set bytes (at + (left - 1)) (digitByteOf (number % base))) at (digits base (left - 1) (number / base))
+    ≡ sets (set bytes (at + (left - 1)) (digit-byte (number % base))) at (digits base (left - 1) (number / base))
 unfolding digits
 digits-turn zero at base number bytes some = absurd (not-suc-le-zero some)
 digits-turn (suc left) at base number bytes some =
     let others = digits base left (number / base) in
-    let last = digitByteOf (number % base) in
+    let last = digit-byte (number % base) in
     let count : length others ≡ left = digits-length base left (number / base) in
     rw (sub-one (suc left))
     (sym (sets-append others (last ∷ []) bytes at)

@@ -6,17 +6,17 @@ use Rattle.laws.specs.Choice.{pick}
 use Rattle.replay_text.specs.Bytes.{digit-zero, lower-a}
 
 -- a digit below 16: 0 to 9, then a to f
-unfoldable pub digitByteOf : ℕ → ℕ
-digitByteOf digit = pick (ltb digit 10) (digit-zero + digit) (lower-a + (digit - 10))
+unfoldable pub digit-byte : ℕ → ℕ
+digit-byte digit = pick (ltb digit 10) (digit-zero + digit) (lower-a + (digit - 10))
 
 -- the last `width` digits of a number in a base, the most significant first
 unfoldable pub digits : ℕ → ℕ → ℕ → List ℕ
 digits base zero number = []
-digits base (suc width) number = digits base width (number / base) ++ (digitByteOf (number % base) ∷ [])
+digits base (suc width) number = digits base width (number / base) ++ (digit-byte (number % base) ∷ [])
 
 -- how many decimal digits a number below 100,000 has
-unfoldable pub placesOf : ℕ → ℕ
-placesOf number = pick (ltb number 10) 1 (pick (ltb number 100) 2 (pick (ltb number 1000) 3 (pick (ltb number 10000) 4 5)))
+unfoldable pub places-of : ℕ → ℕ
+places-of number = pick (ltb number 10) 1 (pick (ltb number 100) 2 (pick (ltb number 1000) 3 (pick (ltb number 10000) 4 5)))
 
 -- no number below 100,000 has more
 abbrev pub decimal-limit : ℕ
@@ -24,4 +24,4 @@ decimal-limit = 5
 
 -- a number below 100,000 in decimal, with no leading zero
 unfoldable pub decimal : ℕ → List ℕ
-decimal number = digits 10 (placesOf number) number
+decimal number = digits 10 (places-of number) number

@@ -7,27 +7,27 @@ use Rattle.replay_text.specs.declared.answer.Answer.{Answer}
 use Rattle.replay_text.specs.declared.answer.Answer.the-variants.{Silent, Refused, Accepted}
 
 -- a number in decimal and the byte behind it
-unfoldable pub fieldText : ℕ → ℕ → List ℕ
-fieldText number end = decimal number ++ (end ∷ [])
+unfoldable pub field-text : ℕ → ℕ → List ℕ
+field-text number end = decimal number ++ (end ∷ [])
 
 -- a word in six hexadecimal digits, and the newline
-unfoldable pub wordText : ℕ → List ℕ
-wordText word = digits 16 6 word ++ (newline ∷ [])
+unfoldable pub word-text : ℕ → List ℕ
+word-text word = digits 16 6 word ++ (newline ∷ [])
 
 -- "A refused event prints its number alone"
-abbrev pub numberLine : ℕ → List ℕ
-numberLine number = fieldText number newline
+abbrev pub number-line : ℕ → List ℕ
+number-line number = field-text number newline
 
 -- "Else: returned, thread's phase, woken, word .. in six lower-case hexadecimal digits"
-unfoldable pub answerLine : ℕ → ℕ → ℕ → ℕ → List ℕ
-answerLine returned phase woken word =
-    fieldText returned space ++ (fieldText phase space ++ (fieldText woken space ++ wordText word))
+unfoldable pub answer-line : ℕ → ℕ → ℕ → ℕ → List ℕ
+answer-line returned phase woken word =
+    field-text returned space ++ (field-text phase space ++ (field-text woken space ++ word-text word))
 
 -- what is printed of one line of the input
-unfoldable pub answerText : Answer → List ℕ
-answerText Silent = []
-answerText (Refused number) = numberLine number
-answerText (Accepted returned phase woken word) = answerLine returned phase woken word
+unfoldable pub answer-text : Answer → List ℕ
+answer-text Silent = []
+answer-text (Refused number) = number-line number
+answer-text (Accepted returned phase woken word) = answer-line returned phase woken word
 
 -- a field of five digits and the byte behind them
 abbrev pub field-limit : ℕ

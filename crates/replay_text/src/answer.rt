@@ -8,7 +8,7 @@ ghost use mathlib.Core.Path.{_≡_};
 ghost use Prim.Native.Nat.{_+_, _≤_};
 ghost use lib.Dec.{leb};
 ghost use lib.ListN.{length};
-ghost use Rattle.replay_text.specs.Text.{line-room, field-limit, word-limit, fieldText, wordText, numberLine, answerLine, answerText};
+ghost use Rattle.replay_text.specs.Text.{line-room, field-limit, word-limit, field-text, word-text, number-line, answer-line, answer-text};
 ghost use Rattle.replay_text.specs.Written.{Wrote, Put};
 
 // What the program prints of one line of its input.
@@ -46,7 +46,7 @@ fn has_room(length: usize, at: usize) -> bool
 // A number in decimal and a byte behind it.
 fn put_field(out: &mut [u8], at: usize, number: u16, end: u8) -> usize
     requires { ⌜ at + field-limit ≤ length (now out) ⌝ }
-    ensures { λ r. ⌜ Wrote (now (out .entry)) (now (out .exit)) at r (fieldText number end) ⌝ }
+    ensures { λ r. ⌜ Wrote (now (out .entry)) (now (out .exit)) at r (field-text number end) ⌝ }
     ensures { λ r. ⌜ r ≤ at + field-limit ⌝ }
 {
     let behind = put_decimal(out, at, number);
@@ -56,7 +56,7 @@ fn put_field(out: &mut [u8], at: usize, number: u16, end: u8) -> usize
 // The word's digits and the newline.
 fn put_word(out: &mut [u8], at: usize, word: u32) -> usize
     requires { ⌜ at + word-limit ≤ length (now out) ⌝ }
-    ensures { λ r. ⌜ Wrote (now (out .entry)) (now (out .exit)) at r (wordText word) ⌝ }
+    ensures { λ r. ⌜ Wrote (now (out .entry)) (now (out .exit)) at r (word-text word) ⌝ }
 {
     let behind = put_digits(out, at, HEXADECIMAL, WORD_DIGITS, word);
     put_byte(out, behind, NEWLINE)
@@ -65,7 +65,7 @@ fn put_word(out: &mut [u8], at: usize, word: u32) -> usize
 // All of an accepted event's line, where there is room for it.
 fn put_fields(out: &mut [u8], at: usize, returned: u8, phase: u8, woken: u8, word: u32) -> usize
     requires { ⌜ at + line-room ≤ length (now out) ⌝ }
-    ensures { λ r. ⌜ Wrote (now (out .entry)) (now (out .exit)) at r (answerLine returned phase woken word) ⌝ }
+    ensures { λ r. ⌜ Wrote (now (out .entry)) (now (out .exit)) at r (answer-line returned phase woken word) ⌝ }
 {
     let second = put_field(out, at, returned as u16, SPACE);
     let third = put_field(out, second, phase as u16, SPACE);
@@ -75,7 +75,7 @@ fn put_fields(out: &mut [u8], at: usize, returned: u8, phase: u8, woken: u8, wor
 
 // The line of a refused event.
 pub fn put_number_line(out: &mut [u8], at: usize, number: u16) -> usize
-    ensures { λ r. ⌜ Put (now (out .entry)) (now (out .exit)) at r (numberLine number) ⌝ }
+    ensures { λ r. ⌜ Put (now (out .entry)) (now (out .exit)) at r (number-line number) ⌝ }
 {
     if has_room(out.len(), at) {
         return put_field(out, at, number, NEWLINE);
@@ -92,7 +92,7 @@ pub fn put_answer_line(
     woken: u8,
     word: u32,
 ) -> usize
-    ensures { λ r. ⌜ Put (now (out .entry)) (now (out .exit)) at r (answerLine returned phase woken word) ⌝ }
+    ensures { λ r. ⌜ Put (now (out .entry)) (now (out .exit)) at r (answer-line returned phase woken word) ⌝ }
 {
     if has_room(out.len(), at) {
         return put_fields(out, at, returned, phase, woken, word);
@@ -102,7 +102,7 @@ pub fn put_answer_line(
 
 // The line of an answer, if it has one.
 pub fn put_answer(out: &mut [u8], at: usize, answer: Answer) -> usize
-    ensures { λ r. ⌜ Put (now (out .entry)) (now (out .exit)) at r (answerText answer) ⌝ }
+    ensures { λ r. ⌜ Put (now (out .entry)) (now (out .exit)) at r (answer-text answer) ⌝ }
 {
     match answer {
         Answer::Silent => at,

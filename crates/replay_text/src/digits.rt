@@ -4,14 +4,14 @@ use crate::bytes::LOWER_A;
 ghost use mathlib.Core.Path.{_≡_};
 ghost use Prim.Native.Nat.{_+_, _≤_, _<_};
 ghost use lib.ListN.{length};
-ghost use Rattle.replay_text.specs.Digits.{digitByteOf, digits, placesOf, decimal, decimal-limit};
+ghost use Rattle.replay_text.specs.Digits.{digit-byte, digits, places-of, decimal, decimal-limit};
 ghost use Rattle.replay_text.specs.Written.{Wrote};
 
 const DECIMAL: u32 = 10;
 
 fn digit_byte(digit: u32) -> u8
     requires { ⌜ digit < 16 ⌝ }
-    ensures { λ r. ⌜ r ≡ digitByteOf digit ⌝ }
+    ensures { λ r. ⌜ r ≡ digit-byte digit ⌝ }
 {
     if digit < 10 {
         return DIGIT_ZERO + digit as u8;
@@ -36,7 +36,7 @@ pub(crate) fn put_digits(out: &mut [u8], at: usize, base: u32, width: usize, num
 
 // How many decimal digits the number has.
 fn places(number: u16) -> usize
-    ensures { λ r. ⌜ r ≡ placesOf number ⌝ }
+    ensures { λ r. ⌜ r ≡ places-of number ⌝ }
 {
     if number < 10 {
         return 1;

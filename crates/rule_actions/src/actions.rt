@@ -1,28 +1,30 @@
 // The actions that several rules share.
+use chains::Chain;
 use lock_rules::Action;
 use lock_rules::Answer;
-use lock_rules::ChainAction;
+use lock_rules::ChainWork;
 use lock_rules::Doing;
 use lock_rules::Effect;
 use lock_rules::Sight;
+use lock_rules::Taken;
 use lock_rules::ThreadState;
 use lock_rules::WordChange;
 use lock_word::Depth;
 ghost use mathlib.Core.Path.{_≡_};
 ghost use Rattle.lock_rules.specs.Actions.{keep-object, go-on, not-owner, finish, finish-word, finish-depth, let-go, inflate, cancel-word, become-holder, raise-flag};
 
-// The chains, the thread's state and the answer, with word and monitor as they are.
+// The work on chains, the thread's state and the answer, with word and monitor as they are.
 pub fn keep_object(
     sight: Sight,
-    chains: ChainAction,
+    work: ChainWork,
     state: ThreadState,
     answer: Answer,
     commits: bool,
 ) -> Action
-    ensures { λ r. ⌜ r ≡ keep-object sight chains state answer commits ⌝ }
+    ensures { λ r. ⌜ r ≡ keep-object sight work state answer commits ⌝ }
 {
     Action::Do(Effect {
-        chains: chains,
+        work: work,
         state: state,
         word: WordChange::Unchanged,
         flag: sight.flag,
@@ -38,7 +40,7 @@ pub fn go_on(sight: Sight, doing: Doing) -> Action
 {
     keep_object(
         sight,
-        ChainAction::Stay,
+        ChainWork::Stay,
         ThreadState::Running(doing),
         Answer::GoneOn,
         false,
@@ -50,7 +52,7 @@ pub fn not_owner(sight: Sight) -> Action
 {
     keep_object(
         sight,
-        ChainAction::Stay,
+        ChainWork::Stay,
         ThreadState::Idle,
         Answer::NotOwner,
         true,
@@ -62,7 +64,7 @@ pub fn finish(sight: Sight) -> Action
 {
     keep_object(
         sight,
-        ChainAction::Stay,
+        ChainWork::Stay,
         ThreadState::Idle,
         Answer::Finished(0),
         true,
@@ -73,7 +75,7 @@ pub fn finish_word(sight: Sight, word: WordChange) -> Action
     ensures { λ r. ⌜ r ≡ finish-word sight word ⌝ }
 {
     Action::Do(Effect {
-        chains: ChainAction::Stay,
+        work: ChainWork::Stay,
         state: ThreadState::Idle,
         word: word,
         flag: sight.flag,
@@ -88,7 +90,7 @@ pub fn finish_depth(sight: Sight, depth: Depth) -> Action
     ensures { λ r. ⌜ r ≡ finish-depth sight depth ⌝ }
 {
     Action::Do(Effect {
-        chains: ChainAction::Stay,
+        work: ChainWork::Stay,
         state: ThreadState::Idle,
         word: WordChange::Unchanged,
         flag: sight.flag,
@@ -103,7 +105,7 @@ pub fn let_go(sight: Sight, word: WordChange, depth: Depth, doing: Doing) -> Act
     ensures { λ r. ⌜ r ≡ let-go sight word depth doing ⌝ }
 {
     Action::Do(Effect {
-        chains: ChainAction::Stay,
+        work: ChainWork::Stay,
         state: ThreadState::Running(doing),
         word: word,
         flag: sight.flag,
@@ -125,7 +127,7 @@ pub fn inflate(
     ensures { λ r. ⌜ r ≡ inflate sight depth state answer commits ⌝ }
 {
     Action::Do(Effect {
-        chains: ChainAction::AdmitContenders,
+        work: ChainWork::Move(Chain::Contention, Taken::All),
         state: state,
         word: WordChange::Inflated,
         flag: false,
@@ -137,11 +139,11 @@ pub fn inflate(
 }
 
 // The word's reservation cancelled; `look` is where the operation goes back to.
-pub fn cancel_word(sight: Sight, chains: ChainAction, look: Doing) -> Action
-    ensures { λ r. ⌜ r ≡ cancel-word sight chains look ⌝ }
+pub fn cancel_word(sight: Sight, work: ChainWork, look: Doing) -> Action
+    ensures { λ r. ⌜ r ≡ cancel-word sight work look ⌝ }
 {
     Action::Do(Effect {
-        chains: chains,
+        work: work,
         state: ThreadState::Running(look),
         word: WordChange::Cancelled,
         flag: sight.flag,
@@ -156,7 +158,7 @@ pub fn become_holder(thread: u8, sight: Sight, doing: Doing) -> Action
     ensures { λ r. ⌜ r ≡ become-holder thread sight doing ⌝ }
 {
     Action::Do(Effect {
-        chains: ChainAction::Stay,
+        work: ChainWork::Stay,
         state: ThreadState::Running(doing),
         word: WordChange::Unchanged,
         flag: sight.flag,
@@ -171,7 +173,7 @@ pub fn raise_flag(sight: Sight) -> Action
     ensures { λ r. ⌜ r ≡ raise-flag sight ⌝ }
 {
     Action::Do(Effect {
-        chains: ChainAction::Stay,
+        work: ChainWork::Stay,
         state: ThreadState::Running(Doing::EnterTry),
         word: WordChange::Unchanged,
         flag: true,

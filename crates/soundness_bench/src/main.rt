@@ -30,12 +30,11 @@ fn contended(table: Table, object: u8, holder: u8, first: u8, last: u8) -> Table
     while 0 < number {
         if first <= number {
             let thread = ThreadRecord {
-                kept: 0,
-                saved: 0,
                 object: object,
                 next: next,
                 operation: Operation::Enter,
                 phase: Phase::Queued(Onward::ToCheck),
+                ..lock_table::no_thread()
             };
             changed = lock_table::set_thread(changed, number, thread);
             next = number;

@@ -1,5 +1,7 @@
 -- Laws of the bytes of a table.
+pub mod Rows
+pub mod Parts
 pub mod Written
 pub mod ReadBack
 pub mod SameBytes
-pub mod IdledBytes
+pub mod SetRecords

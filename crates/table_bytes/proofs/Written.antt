@@ -1,104 +1,70 @@
--- What is written over the bytes of a table is the table's bytes, whatever they were.
-use Prim.Native.Nat.{ℕ, _+_, _-_, _<_, _≤_}
-use mathlib.Core.Path.{_≡_, refl, ap, _∙_}
+-- What the code writes, sizes, threads and objects one behind the other, is the table's bytes, whatever stood there.
+use Prim.Native.Nat.{ℕ, _+_, _≤_}
+use mathlib.Core.Path.{_≡_, refl, ap, sym, _∙_}
 use mathlib.Core.Bool.{true}
-use mathlib.Core.Logic.{_≢_}
-use mathlib.Core.List.{List}
+use mathlib.Core.List.{List, [], _∷_, _++_, append-nil}
 use native.Mathlib.Omega.{arith}
-use lib.Dec.{eqb, ltb}
-use lib.ListN.{length, getD, set, length-set}
-use lib.Seq.{getD-set-same, getD-set-other}
-use borrow.Author.Tests.{eqb-true, eqb-false, ltb-true, ltb-false, eq-eqb}
-use Rattle.laws.specs.Choice.{pick}
-use Rattle.laws.specs.Sequence.{patched}
-use Rattle.laws.proofs.Choice.{split, both-first}
-use Rattle.laws.proofs.Sequence.{patched-length, patched-inside, patched-outside, tabulate-all}
+use native.Mathlib.Nat.{zero-add}
+use lib.Dec.{eqb}
+use lib.ListN.{length, length-append, drop-of-length-le}
+use borrow.Author.Tests.{eqb-true, eq-eqb}
+use Rattle.laws.proofs.Choice.{both-first}
+use Rattle.lock_table.specs.Limits.{thread-limit, object-limit}
+use Rattle.lock_table.specs.Record.{no-thread, no-object}
 use Rattle.lock_table.specs.declared.record.Table.{Table}
-use Rattle.table_bytes.specs.Layout.{threads-start, threads-size, objects-start, objects-size, table-size}
-use Rattle.table_bytes.specs.Reading.{isTable}
-use Rattle.table_bytes.specs.Writing.{threadsByte, objectsByte, byteOf, bytesOf, writtenOver, keptOver}
+use Rattle.table_bytes.specs.Rows.{overwritten}
+use Rattle.table_bytes.specs.Layout.{thread-layout, object-layout, threads-start, objects-start, table-size}
+use Rattle.table_bytes.specs.Reading.{is-table}
+use Rattle.table_bytes.specs.Writing.{threads-bytes, objects-bytes, bytes-of, kept-over}
+use Rattle.table_bytes.proofs.Parts.{records-length, overwritten-next, overwritten-length}
 
-module _ (bytes : List ℕ) (table : Table) (long : length bytes ≡ table-size) where
-  sized : List ℕ
-  sized = set (set bytes 0 (table .threadcount)) 1 (table .objectcount)
+module _ (table : Table) where
+  abbrev pub sizes : List ℕ
+  sizes = table .threadcount ∷ table .objectcount ∷ []
 
-  sized-length : length sized ≡ table-size
-  unfolding sized
-  sized-length = simp (length-set) long
+  pub front-long : length (sizes ++ threads-bytes (table .threads)) ≡ objects-start
+  front-long =
+      length-append sizes (threads-bytes (table .threads))
+      ∙ ap (λ (n : ℕ). threads-start + n) (records-length thread-layout no-thread (table .threads) thread-limit)
 
-  threaded : List ℕ
-  threaded = patched threads-start threads-size (threadsByte (table .threads)) sized
+  -- a table's bytes are as many as a table has
+  pub bytes-long : length (bytes-of table) ≡ table-size
+  bytes-long =
+      length-append (sizes ++ threads-bytes (table .threads)) (objects-bytes (table .objects))
+      ∙ rw (front-long, records-length object-layout no-object (table .objects) object-limit) refl
 
-  threaded-length : length threaded ≡ table-size
-  unfolding threaded
-  threaded-length = patched-length threads-start (threadsByte (table .threads)) sized threads-size ∙ sized-length
+  module _ (bytes : List ℕ) (long : length bytes ≡ table-size) where
+    abbrev pub sized : List ℕ
+    sized = overwritten 0 sizes bytes
 
-  -- the sizes
-  size-at : (i : ℕ) → i < threads-start → getD sized i 0 ≡ pick (eqb i 0) (table .threadcount) (table .objectcount)
-  unfolding sized
-  size-at i low =
-      split (eqb i 0)
-      (λ first. let none : i ≡ 0 = eqb-true i 0 first in
-      rw (none) (getD-set-other (set bytes 0 (table .threadcount)) 1 0 (table .objectcount) 0 (λ e. omega (arith, e))
-      ∙ getD-set-same bytes 0 (table .threadcount) 0 (omega (arith, long))))
-      (λ second. let away : i ≢ 0 = eqb-false i 0 second in
-      let one : i ≡ 1 = omega (arith, low, away) in
-      rw (one) (getD-set-same (set bytes 0 (table .threadcount)) 1 (table .objectcount) 0 (omega (arith, long, length-set bytes 0 (table .threadcount)))))
+    abbrev pub threaded : List ℕ
+    threaded = overwritten threads-start (threads-bytes (table .threads)) sized
 
-  -- a thread's byte, and before it the sizes
-  thread-at : (i : ℕ) → threads-start ≤ i → i < objects-start → getD threaded i 0 ≡ threadsByte (table .threads) (i - threads-start)
-  unfolding threaded
-  thread-at i low high =
-      ap (λ (k : ℕ). getD (patched threads-start threads-size (threadsByte (table .threads)) sized) k 0)
-      (let place : i ≡ threads-start + (i - threads-start) = omega (arith, low) in place)
-      ∙ patched-inside threads-start (threadsByte (table .threads)) sized 0 (i - threads-start) threads-size
-      (omega (arith, low, high)) (omega (arith, sized-length))
+    pub sized-long : length sized ≡ table-size
+    sized-long = overwritten-length 0 sizes bytes (omega (arith, long)) ∙ long
 
-  before-threads : (i : ℕ) → i < threads-start → getD threaded i 0 ≡ getD sized i 0
-  unfolding threaded
-  before-threads i low =
-      patched-outside threads-start (threadsByte (table .threads)) sized 0 i threads-size (λ k h e. omega (arith, e, low))
+    pub threaded-long : length threaded ≡ table-size
+    threaded-long =
+        overwritten-length threads-start (threads-bytes (table .threads)) sized
+        (omega (arith, sized-long, records-length thread-layout no-thread (table .threads) thread-limit)) ∙ sized-long
 
-  written : List ℕ
-  written = patched objects-start objects-size (objectsByte (table .objects)) threaded
+    pub written-is : overwritten objects-start (objects-bytes (table .objects)) threaded ≡ bytes-of table
+    written-is =
+        let front = sizes ++ threads-bytes (table .threads) in
+        let objects = objects-bytes (table .objects) in
+        let behind : objects-start ≡ 0 + length front = sym (zero-add (length front) ∙ front-long) in
+        let past : length bytes ≤ 0 + length (bytes-of table) = omega (arith, long, bytes-long) in
+        ap (overwritten objects-start objects) (overwritten-next 0 sizes (threads-bytes (table .threads)) bytes (omega arith))
+        ∙ ap (λ (n : ℕ). overwritten n objects (overwritten 0 front bytes)) behind
+        ∙ overwritten-next 0 front objects bytes (omega arith)
+        ∙ ap (λ (rest : List ℕ). bytes-of table ++ rest) (drop-of-length-le bytes past)
+        ∙ append-nil (bytes-of table)
 
-  before-objects : (i : ℕ) → i < objects-start → getD written i 0 ≡ getD threaded i 0
-  unfolding written
-  before-objects i low =
-      patched-outside objects-start (objectsByte (table .objects)) threaded 0 i objects-size (λ k h e. omega (arith, e, low))
-
-  object-at : (i : ℕ) → objects-start ≤ i → i < table-size → getD written i 0 ≡ objectsByte (table .objects) (i - objects-start)
-  unfolding written
-  object-at i low high =
-      ap (λ (k : ℕ). getD (patched objects-start objects-size (objectsByte (table .objects)) threaded) k 0)
-      (let place : i ≡ objects-start + (i - objects-start) = omega (arith, low) in place)
-      ∙ patched-inside objects-start (objectsByte (table .objects)) threaded 0 (i - objects-start) objects-size
-      (omega (arith, low, high)) (omega (arith, threaded-length))
-
-  written-at : (i : ℕ) → i < table-size → getD written i 0 ≡ byteOf table i
-  unfolding byteOf
-  written-at i inside =
-      split (ltb i threads-start)
-      (λ sizes. let low : i < threads-start = ltb-true i threads-start sizes in
-      rw (sizes) (before-objects i (omega (arith, low)) ∙ before-threads i low ∙ size-at i low))
-      (λ records. let from : threads-start ≤ i = ltb-false i threads-start records in
-      rw (records) (split (ltb i objects-start)
-      (λ threads. let low : i < objects-start = ltb-true i objects-start threads in
-      rw (threads) (before-objects i low ∙ thread-at i from low))
-      (λ objects. let high : objects-start ≤ i = ltb-false i objects-start objects in
-      rw (objects) (object-at i high inside))))
-
-  pub written-is : writtenOver bytes table ≡ bytesOf table
-  unfolding written threaded sized
-  written-is =
-      tabulate-all table-size (byteOf table) 0 (writtenOver bytes table)
-      (patched-length objects-start (objectsByte (table .objects)) threaded objects-size ∙ threaded-length) written-at
-
-  pub kept-is : keptOver bytes table ≡ bytesOf table
-  unfolding keptOver
-  kept-is = rw (eq-eqb (length bytes) table-size long) written-is
+pub kept-is : (bytes : List ℕ) (table : Table) → length bytes ≡ table-size → kept-over bytes table ≡ bytes-of table
+unfolding kept-over
+kept-is bytes table long = rw (eq-eqb (length bytes) table-size long) refl
 
 -- a table has its size
-pub table-long : (bytes : List ℕ) → isTable bytes ≡ true → length bytes ≡ table-size
-unfolding isTable
+pub table-long : (bytes : List ℕ) → is-table bytes ≡ true → length bytes ≡ table-size
+unfolding is-table
 table-long bytes known = eqb-true (length bytes) table-size (both-first (eqb (length bytes) table-size) _ known)

@@ -1,80 +1,44 @@
--- The bytes of a table.
-use Prim.Native.Nat.{ℕ, _+_, _-_, _/_, _%_}
-use mathlib.Core.Bool.{Bool}
-use mathlib.Core.List.{List}
+-- The bytes of a table, and bytes with a table or one of its records stored over them.
+use Prim.Native.Nat.{ℕ, _-_}
+use mathlib.Core.List.{List, _∷_, _++_}
 use lib.Dec.{eqb, ltb}
-use lib.ListN.{length, getD, set}
-use Rattle.laws.specs.Choice.{pick, within}
-use Rattle.laws.specs.Sequence.{tabulate, patched}
-use Rattle.lock_table.specs.Limits.{thread-limit}
-use Rattle.lock_table.specs.Operation.{operationNumberOf}
-use Rattle.lock_table.specs.Phase.{phaseNumberOf, carriedNumberOf}
-use Rattle.lock_table.specs.Record.{noThread, noObject}
+use lib.ListN.{length, getD}
+use Rattle.laws.specs.Choice.{pick}
+use Rattle.lock_table.specs.Limits.{thread-limit, object-limit}
+use Rattle.lock_table.specs.Record.{no-thread, no-object}
 use Rattle.lock_table.specs.declared.record.ThreadRecord.{ThreadRecord}
 use Rattle.lock_table.specs.declared.record.ObjectRecord.{ObjectRecord}
 use Rattle.lock_table.specs.declared.record.Table.{Table}
-use Rattle.table_bytes.specs.Layout.{threadcount-at, objectcount-at, threads-start, threads-size, objects-start, objects-size, record-size, table-size}
-use Rattle.table_bytes.specs.Layout.{thread-start}
-use Rattle.table_bytes.specs.Layout.{operation-at, object-at, phase-at, carried-at, kept-at, saved-at}
-use Rattle.table_bytes.specs.Layout.{word-at, flag-at, holder-at, depth-at, entry-at, contention-at}
+use Rattle.table_bytes.specs.Rows.{joined, overwritten}
+use Rattle.table_bytes.specs.Layout.{table-size, thread-start, object-start, thread-bytes, object-bytes}
 
--- a thread record's byte at an offset; next is the last
-unfoldable pub threadByte : ThreadRecord → ℕ → ℕ
-threadByte thread offset =
-    pick (eqb offset operation-at) (operationNumberOf (thread .operation))
-    (pick (eqb offset object-at) (thread .object)
-    (pick (eqb offset phase-at) (phaseNumberOf (thread .phase))
-    (pick (eqb offset carried-at) (carriedNumberOf (thread .phase))
-    (pick (eqb offset kept-at) (thread .kept % 256)
-    (pick (eqb offset (kept-at + 1)) (thread .kept / 256 % 256)
-    (pick (eqb offset (kept-at + 2)) (thread .kept / 65536 % 256)
-    (pick (eqb offset (kept-at + 3)) (thread .kept / 16777216)
-    (pick (eqb offset saved-at) (thread .saved % 256) (pick (eqb offset (saved-at + 1)) (thread .saved / 256) (thread .next))))))))))
+-- all records of a kind
+abbrev pub threads-bytes : List ThreadRecord → List ℕ
+threads-bytes threads = joined thread-limit (λ place. thread-bytes (getD threads place no-thread))
 
-unfoldable pub flagByte : Bool → ℕ
-flagByte flag = pick flag 1 0
+abbrev pub objects-bytes : List ObjectRecord → List ℕ
+objects-bytes objects = joined object-limit (λ place. object-bytes (getD objects place no-object))
 
--- an object record's byte at an offset; the first waiter is the last
-unfoldable pub objectByte : ObjectRecord → ℕ → ℕ
-objectByte object offset =
-    pick (eqb offset word-at) (object .word % 256)
-    (pick (eqb offset (word-at + 1)) (object .word / 256 % 256)
-    (pick (eqb offset (word-at + 2)) (object .word / 65536 % 256)
-    (pick (eqb offset (word-at + 3)) (object .word / 16777216)
-    (pick (eqb offset flag-at) (flagByte (object .flag))
-    (pick (eqb offset holder-at) (object .monitor .holder)
-    (pick (eqb offset depth-at) (object .monitor .depth % 256)
-    (pick (eqb offset (depth-at + 1)) (object .monitor .depth / 256)
-    (pick (eqb offset entry-at) (object .monitor .entry)
-    (pick (eqb offset contention-at) (object .monitor .contention) (object .monitor .waiting))))))))))
-
--- the bytes of all records of a kind, one record behind the other
-abbrev pub threadsByte : List ThreadRecord → ℕ → ℕ
-threadsByte threads at = threadByte (getD threads (at / record-size) noThread) (at % record-size)
-
-abbrev pub objectsByte : List ObjectRecord → ℕ → ℕ
-objectsByte objects at = objectByte (getD objects (at / record-size) noObject) (at % record-size)
-
--- a table's byte at a place
-unfoldable pub byteOf : Table → ℕ → ℕ
-byteOf table at =
-    pick (ltb at threads-start) (pick (eqb at threadcount-at) (table .threadcount) (table .objectcount))
-    (pick (ltb at objects-start) (threadsByte (table .threads) (at - threads-start)) (objectsByte (table .objects) (at - objects-start)))
-
-abbrev pub bytesOf : Table → List ℕ
-bytesOf table = tabulate table-size (byteOf table)
-
--- the same, as it is written over other bytes: sizes, threads, objects
-abbrev pub writtenOver : List ℕ → Table → List ℕ
-writtenOver bytes table =
-    patched objects-start objects-size (objectsByte (table .objects))
-    (patched threads-start threads-size (threadsByte (table .threads))
-    (set (set bytes threadcount-at (table .threadcount)) objectcount-at (table .objectcount)))
+abbrev pub bytes-of : Table → List ℕ
+bytes-of table = table .threadcount ∷ table .objectcount ∷ threads-bytes (table .threads) ++ objects-bytes (table .objects)
 
 -- a table is kept only where there is room for just a table
-unfoldable pub keptOver : List ℕ → Table → List ℕ
-keptOver bytes table = pick (eqb (length bytes) table-size) (writtenOver bytes table) bytes
+unfoldable pub kept-over : List ℕ → Table → List ℕ
+kept-over bytes table = pick (eqb (length bytes) table-size) (bytes-of table) bytes
 
--- the bytes with one thread's record that of an idle thread, zeros; a number that is no thread's changes nothing
-unfoldable pub idledBytes : List ℕ → ℕ → List ℕ
-idledBytes bytes thread = pick (within 1 thread-limit thread) (patched (thread-start (thread - 1)) record-size (λ i. 0) bytes) bytes
+-- the bytes of a table with one record stored over them; a number that is no thread's or no object's changes nothing
+unfoldable pub write-thread : List ℕ → ℕ → ThreadRecord → List ℕ
+write-thread bytes number thread =
+    pick (eqb (length bytes) table-size)
+    (pick (eqb number 0) bytes (pick (ltb thread-limit number) bytes (overwritten (thread-start (number - 1)) (thread-bytes thread) bytes)))
+    bytes
+
+unfoldable pub write-object : List ℕ → ℕ → ObjectRecord → List ℕ
+write-object bytes number object =
+    pick (eqb (length bytes) table-size)
+    (pick (eqb number 0) bytes (pick (ltb object-limit number) bytes (overwritten (object-start (number - 1)) (object-bytes object) bytes)))
+    bytes
+
+-- the bytes with one thread's record that of an idle thread, all zeros
+abbrev pub idled-bytes : List ℕ → ℕ → List ℕ
+idled-bytes bytes thread = write-thread bytes thread no-thread

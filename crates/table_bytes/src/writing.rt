@@ -1,36 +1,24 @@
-// A table written as bytes.
-use crate::layout::CARRIED_AT;
-use crate::layout::CONTENTION_AT;
-use crate::layout::DEPTH_AT;
-use crate::layout::ENTRY_AT;
-use crate::layout::FLAG_AT;
-use crate::layout::HOLDER_AT;
-use crate::layout::KEPT_AT;
-use crate::layout::OBJECT_AT;
-use crate::layout::OBJECTCOUNT_AT;
-use crate::layout::OBJECTS_SIZE;
+// A table written as bytes, whole or one record of it.
+use crate::copying::put;
+use crate::layout::OBJECT_SIZE;
 use crate::layout::OBJECTS_START;
-use crate::layout::OPERATION_AT;
-use crate::layout::PHASE_AT;
-use crate::layout::RECORD_SIZE;
-use crate::layout::SAVED_AT;
 use crate::layout::TABLE_SIZE;
-use crate::layout::THREADCOUNT_AT;
-use crate::layout::THREADS_SIZE;
+use crate::layout::THREAD_SIZE;
 use crate::layout::THREADS_START;
-use crate::layout::WORD_AT;
+use lock_table::OBJECTS;
 use lock_table::ObjectRecord;
+use lock_table::THREADS;
 use lock_table::Table;
 use lock_table::ThreadRecord;
 use lock_table::carried_number;
 use lock_table::operation_number;
 use lock_table::phase_number;
 ghost use mathlib.Core.Path.{_≡_};
-ghost use Prim.Native.Nat.{_/_, _%_};
+ghost use Prim.Native.Nat.{_%_};
 ghost use lib.ListN.{length};
-ghost use Rattle.table_bytes.specs.Layout.{threads-start, threads-size, objects-start, objects-size, table-size};
-ghost use Rattle.laws.specs.Sequence.{patched};
-ghost use Rattle.table_bytes.specs.Writing.{threadByte, flagByte, objectByte, threadsByte, objectsByte, writtenOver, keptOver};
+ghost use Rattle.table_bytes.specs.Rows.{number-bytes, overwritten};
+ghost use Rattle.table_bytes.specs.Layout.{flag-byte, thread-bytes, object-bytes, threads-start, objects-start, table-size};
+ghost use Rattle.table_bytes.specs.Writing.{threads-bytes, objects-bytes, bytes-of, kept-over, write-thread, write-object};
 
 fn low_byte(number: u32) -> u8
     ensures { λ r. ⌜ r ≡ number % 256 ⌝ }
@@ -38,26 +26,28 @@ fn low_byte(number: u32) -> u8
     (number % 256) as u8
 }
 
-fn top_byte(word: u32) -> u8
-    ensures { λ r. ⌜ r ≡ word / 16777216 ⌝ }
+// The two bytes of a half, and the four of a word, the lowest first.
+fn half_bytes(half: u16) -> [u8; 2]
+    ensures { λ r. ⌜ r ≡ number-bytes 2 half ⌝ }
 {
-    (word / 16777216) as u8
+    [(half % 256) as u8, (half / 256) as u8]
 }
 
-fn low_half_byte(half: u16) -> u8
-    ensures { λ r. ⌜ r ≡ half % 256 ⌝ }
+fn word_bytes(word: u32) -> [u8; 4]
+    ensures { λ r. ⌜ r ≡ number-bytes 4 word ⌝ }
 {
-    (half % 256) as u8
-}
-
-fn high_half_byte(half: u16) -> u8
-    ensures { λ r. ⌜ r ≡ half / 256 ⌝ }
-{
-    (half / 256) as u8
+    let second = word / 256;
+    let third = second / 256;
+    [
+        low_byte(word),
+        low_byte(second),
+        low_byte(third),
+        (third / 256) as u8,
+    ]
 }
 
 fn flag_byte(flag: bool) -> u8
-    ensures { λ r. ⌜ r ≡ flagByte flag ⌝ }
+    ensures { λ r. ⌜ r ≡ flag-byte flag ⌝ }
 {
     if flag {
         return 1;
@@ -65,114 +55,81 @@ fn flag_byte(flag: bool) -> u8
     0
 }
 
-fn thread_byte(thread: ThreadRecord, offset: usize) -> u8
-    ensures { λ r. ⌜ r ≡ threadByte thread offset ⌝ }
+fn thread_bytes(thread: ThreadRecord) -> [u8; THREAD_SIZE]
+    ensures { λ r. ⌜ r ≡ thread-bytes thread ⌝ }
 {
-    if offset == OPERATION_AT {
-        let operation = thread.operation;
-        return operation_number(operation);
-    }
-    if offset == OBJECT_AT {
-        return thread.object;
-    }
-    if offset == PHASE_AT {
-        let phase = thread.phase;
-        return phase_number(phase);
-    }
-    if offset == CARRIED_AT {
-        let phase = thread.phase;
-        return carried_number(phase);
-    }
-    if offset == KEPT_AT {
-        return low_byte(thread.kept);
-    }
-    if offset == KEPT_AT + 1 {
-        return low_byte(thread.kept / 256);
-    }
-    if offset == KEPT_AT + 2 {
-        return low_byte(thread.kept / 65536);
-    }
-    if offset == KEPT_AT + 3 {
-        return top_byte(thread.kept);
-    }
-    if offset == SAVED_AT {
-        return low_half_byte(thread.saved);
-    }
-    if offset == SAVED_AT + 1 {
-        return high_half_byte(thread.saved);
-    }
-    thread.next
+    let operation = thread.operation;
+    let phase = thread.phase;
+    let kept = word_bytes(thread.kept);
+    let saved = half_bytes(thread.saved);
+    [
+        operation_number(operation),
+        thread.object,
+        phase_number(phase),
+        carried_number(phase),
+        kept[0],
+        kept[1],
+        kept[2],
+        kept[3],
+        saved[0],
+        saved[1],
+        thread.next,
+    ]
 }
 
-fn object_byte(object: ObjectRecord, offset: usize) -> u8
-    ensures { λ r. ⌜ r ≡ objectByte object offset ⌝ }
+fn object_bytes(object: ObjectRecord) -> [u8; OBJECT_SIZE]
+    ensures { λ r. ⌜ r ≡ object-bytes object ⌝ }
 {
-    if offset == WORD_AT {
-        return low_byte(object.word);
-    }
-    if offset == WORD_AT + 1 {
-        return low_byte(object.word / 256);
-    }
-    if offset == WORD_AT + 2 {
-        return low_byte(object.word / 65536);
-    }
-    if offset == WORD_AT + 3 {
-        return top_byte(object.word);
-    }
-    if offset == FLAG_AT {
-        return flag_byte(object.flag);
-    }
     let monitor = object.monitor;
-    if offset == HOLDER_AT {
-        return monitor.holder;
-    }
-    if offset == DEPTH_AT {
-        return low_half_byte(monitor.depth);
-    }
-    if offset == DEPTH_AT + 1 {
-        return high_half_byte(monitor.depth);
-    }
-    if offset == ENTRY_AT {
-        return monitor.entry;
-    }
-    if offset == CONTENTION_AT {
-        return monitor.contention;
-    }
-    monitor.waiting
+    let word = word_bytes(object.word);
+    let depth = half_bytes(monitor.depth);
+    [
+        word[0],
+        word[1],
+        word[2],
+        word[3],
+        flag_byte(object.flag),
+        monitor.holder,
+        depth[0],
+        depth[1],
+        monitor.entry,
+        monitor.contention,
+        monitor.waiting,
+    ]
 }
 
 fn put_threads(bytes: &mut [u8], threads: [ThreadRecord; 32])
     requires { ⌜ length (now bytes) ≡ table-size ⌝ }
-    ensures { λ _. ⌜ now (bytes .exit) ≡ patched threads-start threads-size (threadsByte threads) (now (bytes .entry)) ⌝ }
+    ensures { λ _. ⌜ now (bytes .exit) ≡ overwritten threads-start (threads-bytes threads) (now (bytes .entry)) ⌝ }
 {
-    let mut done: usize = 0;
-    while done < THREADS_SIZE {
-        let place = done / RECORD_SIZE;
+    let mut place: usize = 0;
+    while place < 32 {
         let thread = threads[place];
-        bytes[THREADS_START + done] = thread_byte(thread, done % RECORD_SIZE);
-        done = done + 1;
+        let stored = thread_bytes(thread);
+        put(bytes, THREADS_START + place * THREAD_SIZE, &stored);
+        place = place + 1;
     }
 }
 
 fn put_objects(bytes: &mut [u8], objects: [ObjectRecord; 64])
     requires { ⌜ length (now bytes) ≡ table-size ⌝ }
-    ensures { λ _. ⌜ now (bytes .exit) ≡ patched objects-start objects-size (objectsByte objects) (now (bytes .entry)) ⌝ }
+    ensures { λ _. ⌜ now (bytes .exit) ≡ overwritten objects-start (objects-bytes objects) (now (bytes .entry)) ⌝ }
 {
-    let mut done: usize = 0;
-    while done < OBJECTS_SIZE {
-        let place = done / RECORD_SIZE;
+    let mut place: usize = 0;
+    while place < 64 {
         let object = objects[place];
-        bytes[OBJECTS_START + done] = object_byte(object, done % RECORD_SIZE);
-        done = done + 1;
+        let stored = object_bytes(object);
+        put(bytes, OBJECTS_START + place * OBJECT_SIZE, &stored);
+        place = place + 1;
     }
 }
 
 fn put_table(bytes: &mut [u8], table: Table)
     requires { ⌜ length (now bytes) ≡ table-size ⌝ }
-    ensures { λ _. ⌜ now (bytes .exit) ≡ writtenOver (now (bytes .entry)) table ⌝ }
+    ensures { λ _. ⌜ now (bytes .exit) ≡ bytes-of table ⌝ }
 {
-    bytes[THREADCOUNT_AT] = table.threadcount;
-    bytes[OBJECTCOUNT_AT] = table.objectcount;
+    let sizes = [table.threadcount, table.objectcount];
+    put(bytes, 0, &sizes);
     let threads = table.threads;
     put_threads(bytes, threads);
     let objects = table.objects;
@@ -181,9 +138,49 @@ fn put_table(bytes: &mut [u8], table: Table)
 
 // Writes the table, if the bytes are as many as it has.
 pub fn write_table(bytes: &mut [u8], table: Table)
-    ensures { λ _. ⌜ now (bytes .exit) ≡ keptOver (now (bytes .entry)) table ⌝ }
+    ensures { λ _. ⌜ now (bytes .exit) ≡ kept-over (now (bytes .entry)) table ⌝ }
 {
     if bytes.len() == TABLE_SIZE {
         put_table(bytes, table);
+    }
+}
+
+// Stores one thread's record over the bytes of a table.
+pub fn write_thread(bytes: &mut [u8], number: u8, thread: ThreadRecord)
+    ensures { λ _. ⌜ now (bytes .exit) ≡ write-thread (now (bytes .entry)) number thread ⌝ }
+{
+    if bytes.len() == TABLE_SIZE {
+        if number == 0 {
+            return;
+        }
+        if THREADS < number {
+            return;
+        }
+        let stored = thread_bytes(thread);
+        put(
+            bytes,
+            THREADS_START + ((number - 1) as usize) * THREAD_SIZE,
+            &stored,
+        );
+    }
+}
+
+// Stores one object's record over the bytes of a table.
+pub fn write_object(bytes: &mut [u8], number: u8, object: ObjectRecord)
+    ensures { λ _. ⌜ now (bytes .exit) ≡ write-object (now (bytes .entry)) number object ⌝ }
+{
+    if bytes.len() == TABLE_SIZE {
+        if number == 0 {
+            return;
+        }
+        if OBJECTS < number {
+            return;
+        }
+        let stored = object_bytes(object);
+        put(
+            bytes,
+            OBJECTS_START + ((number - 1) as usize) * OBJECT_SIZE,
+            &stored,
+        );
     }
 }

@@ -7,34 +7,34 @@ use lib.Dec.{leb, lit<}
 use borrow.Author.Tests.{lt-leb}
 use Rattle.laws.specs.Choice.{both, within}
 use Rattle.lock_table.specs.Limits.{thread-limit, object-limit}
-use Rattle.lock_table.specs.Access.{threadAt, objectAt}
+use Rattle.lock_table.specs.Access.{thread-at, object-at}
 use Rattle.lock_table.specs.Ownership.{ownership-at}
 use Rattle.lock_table.specs.declared.record.Table.{Table}
 use Rattle.lock_table.proofs.Narrowed.{narrowed}
 use Rattle.laws.proofs.Choice.{both-no}
-use Rattle.lock_engine.specs.declared.outcome.Refusal.{Refusal}
-use Rattle.lock_engine.specs.declared.outcome.Refusal.the-variants.{NoSuchThread, NoSuchObject}
-use Rattle.lock_table.specs.Narrow.{narrowOf}
-use Rattle.table_questions.specs.Questions.{saidOf, threadValue, objectValue, threadIn, objectIn}
+use Rattle.lock_rules.specs.declared.event.Refusal.{Refusal}
+use Rattle.lock_rules.specs.declared.event.Refusal.the-variants.{NoSuchThread, NoSuchObject}
+use Rattle.lock_table.specs.Narrow.{narrow-of}
+use Rattle.table_questions.specs.Questions.{said-of, thread-value, object-value, thread-in, object-in}
 use Rattle.table_questions.specs.declared.asking.ThreadQuestion.{ThreadQuestion}
 use Rattle.table_questions.specs.declared.asking.ObjectQuestion.{ObjectQuestion}
 
 module _ (istable : Bool) (table : Table) where
   said-past : (inside : ℕ → Bool) (limit : ℕ) (refusal : Refusal) (value : ℕ → ℕ) → limit < 255 → (n : ℕ) → 255 < n
-      → saidOf istable (both (inside 255) (leb 255 limit)) refusal (value 255) ≡ saidOf istable (both (inside n) (leb n limit)) refusal (value n)
-  unfolding saidOf
+      → said-of istable (both (inside 255) (leb 255 limit)) refusal (value 255) ≡ said-of istable (both (inside n) (leb n limit)) refusal (value n)
+  unfolding said-of
   said-past inside limit refusal value low n past =
       rw (lt-leb 255 limit low, lt-leb n limit (omega (arith, low, past)), both-no (inside 255), both-no (inside n)) refl
 
-  pub narrow-thread : (question : ThreadQuestion) (thread : ℕ) → threadIn question istable table (narrowOf thread) ≡ threadIn question istable table thread
+  pub narrow-thread : (question : ThreadQuestion) (thread : ℕ) → thread-in question istable table (narrow-of thread) ≡ thread-in question istable table thread
   narrow-thread question thread =
-      narrowed (threadIn question istable table)
+      narrowed (thread-in question istable table)
       (said-past (within 1 (table .threadcount)) thread-limit NoSuchThread
-      (λ n. let home = threadAt table n .object in threadValue question n (threadAt table n) (ownership-at table home .thread) (objectAt table home .monitor .holder))
+      (λ n. let home = thread-at table n .object in thread-value question n (thread-at table n) (ownership-at table home .thread) (object-at table home .monitor .holder))
       (lit< tt)) thread
 
-  pub narrow-object : (question : ObjectQuestion) (object : ℕ) → objectIn question istable table (narrowOf object) ≡ objectIn question istable table object
+  pub narrow-object : (question : ObjectQuestion) (object : ℕ) → object-in question istable table (narrow-of object) ≡ object-in question istable table object
   narrow-object question object =
-      narrowed (objectIn question istable table)
-      (said-past (within 1 (table .objectcount)) object-limit NoSuchObject (λ n. objectValue question (objectAt table n) (ownership-at table n)) (lit< tt))
+      narrowed (object-in question istable table)
+      (said-past (within 1 (table .objectcount)) object-limit NoSuchObject (λ n. object-value question (object-at table n) (ownership-at table n)) (lit< tt))
       object

@@ -5,19 +5,19 @@ use mathlib.Core.List.{List}
 use lib.Dec.{eqb, leb}
 use Rattle.laws.specs.Choice.{pick, both, within}
 use Rattle.lock_word.specs.declared.meaning.Ownership.{Ownership}
-use Rattle.lock_table.specs.Access.{threadAt, objectAt}
+use Rattle.lock_table.specs.Access.{thread-at, object-at}
 use Rattle.lock_table.specs.Limits.{thread-limit, object-limit}
-use Rattle.lock_table.specs.Operation.{operationNumberOf}
+use Rattle.lock_table.specs.Operation.{operation-number}
 use Rattle.lock_table.specs.Ownership.{ownership-at}
-use Rattle.lock_table.specs.Phase.{phaseNumberOf, carriedNumberOf}
+use Rattle.lock_table.specs.Phase.{phase-number, carried-number}
 use Rattle.lock_table.specs.declared.record.ThreadRecord.{ThreadRecord}
 use Rattle.lock_table.specs.declared.record.ObjectRecord.{ObjectRecord}
 use Rattle.lock_table.specs.declared.record.Table.{Table}
-use Rattle.lock_engine.specs.Outcome.{refusalNumberOf}
-use Rattle.lock_engine.specs.declared.outcome.Refusal.{Refusal}
-use Rattle.lock_engine.specs.declared.outcome.Refusal.the-variants.{NotSound, NoSuchThread, NoSuchObject}
-use Rattle.table_bytes.specs.Reading.{isTable, tableOf}
-use Rattle.table_bytes.specs.Writing.{flagByte}
+use Rattle.lock_rules.specs.Numbers.{refusal-number}
+use Rattle.lock_rules.specs.declared.event.Refusal.{Refusal}
+use Rattle.lock_rules.specs.declared.event.Refusal.the-variants.{NotSound, NoSuchThread, NoSuchObject}
+use Rattle.table_bytes.specs.Reading.{is-table, table-of}
+use Rattle.table_bytes.specs.Layout.{flag-byte}
 use Rattle.table_questions.specs.declared.asking.ThreadQuestion.{ThreadQuestion}
 use Rattle.table_questions.specs.declared.asking.ThreadQuestion.the-variants.{
   OperationOf,
@@ -46,51 +46,51 @@ use Rattle.table_questions.specs.declared.asking.ObjectQuestion.the-vari
 abbrev pub saying : ℕ → ℕ
 saying value = value * 256
 
-unfoldable pub saidOf : Bool → Bool → Refusal → ℕ → ℕ
-saidOf istable inrange refusal value = pick istable (pick inrange (saying value) (refusalNumberOf refusal)) (refusalNumberOf NotSound)
+unfoldable pub said-of : Bool → Bool → Refusal → ℕ → ℕ
+said-of istable inrange refusal value = pick istable (pick inrange (saying value) (refusal-number refusal)) (refusal-number NotSound)
 
 -- the sizes
-abbrev pub threadCountAnswer : List ℕ → ℕ
-threadCountAnswer bytes = saidOf (isTable bytes) true NotSound (tableOf bytes .threadcount)
+abbrev pub thread-count : List ℕ → ℕ
+thread-count bytes = said-of (is-table bytes) true NotSound (table-of bytes .threadcount)
 
-abbrev pub objectCountAnswer : List ℕ → ℕ
-objectCountAnswer bytes = saidOf (isTable bytes) true NotSound (tableOf bytes .objectcount)
+abbrev pub object-count : List ℕ → ℕ
+object-count bytes = said-of (is-table bytes) true NotSound (table-of bytes .objectcount)
 
 -- who keeps a thread that is parked for entry, in phase 5 or 8: another thread that owns its object, else the monitor's holder, marked by bit 16
 abbrev pub holder-mark : ℕ
 holder-mark = 65536
 
-unfoldable pub holderBlocks : ℕ → ℕ
-holderBlocks holder = pick (eqb holder 0) 0 (holder + holder-mark)
+unfoldable pub holder-blocks : ℕ → ℕ
+holder-blocks holder = pick (eqb holder 0) 0 (holder + holder-mark)
 
-unfoldable pub ownerBlocks : ℕ → ℕ → ℕ → ℕ
-ownerBlocks number owner holder = pick (eqb owner 0) (holderBlocks holder) (pick (eqb owner number) (holderBlocks holder) owner)
+unfoldable pub owner-blocks : ℕ → ℕ → ℕ → ℕ
+owner-blocks number owner holder = pick (eqb owner 0) (holder-blocks holder) (pick (eqb owner number) (holder-blocks holder) owner)
 
-unfoldable pub blockerOf : ℕ → ℕ → ℕ → ℕ → ℕ
-blockerOf phase number owner holder = pick (eqb phase 5) (ownerBlocks number owner holder) (pick (eqb phase 8) (ownerBlocks number owner holder) 0)
+unfoldable pub blocker-of : ℕ → ℕ → ℕ → ℕ → ℕ
+blocker-of phase number owner holder = pick (eqb phase 5) (owner-blocks number owner holder) (pick (eqb phase 8) (owner-blocks number owner holder) 0)
 
 -- what is asked of a thread, by its number, its record, and the owner of its object and the holder of that object's monitor
-unfoldable pub threadValue : ThreadQuestion → ℕ → ThreadRecord → ℕ → ℕ → ℕ
-threadValue OperationOf number thread owner holder = operationNumberOf (thread .operation)
-threadValue ObjectOf number thread owner holder = thread .object
-threadValue PhaseOf number thread owner holder = phaseNumberOf (thread .phase)
-threadValue OnwardOf number thread owner holder = carriedNumberOf (thread .phase)
-threadValue KeptOf number thread owner holder = thread .kept
-threadValue SavedOf number thread owner holder = thread .saved
-threadValue NextOf number thread owner holder = thread .next
-threadValue BlockerOf number thread owner holder = blockerOf (phaseNumberOf (thread .phase)) number owner holder
+unfoldable pub thread-value : ThreadQuestion → ℕ → ThreadRecord → ℕ → ℕ → ℕ
+thread-value OperationOf number thread owner holder = operation-number (thread .operation)
+thread-value ObjectOf number thread owner holder = thread .object
+thread-value PhaseOf number thread owner holder = phase-number (thread .phase)
+thread-value OnwardOf number thread owner holder = carried-number (thread .phase)
+thread-value KeptOf number thread owner holder = thread .kept
+thread-value SavedOf number thread owner holder = thread .saved
+thread-value NextOf number thread owner holder = thread .next
+thread-value BlockerOf number thread owner holder = blocker-of (phase-number (thread .phase)) number owner holder
 
 -- what is asked of an object, by its record and who owns it; owner and depth are those that the theorem on schedules compares with the plain monitors
-unfoldable pub objectValue : ObjectQuestion → ObjectRecord → Ownership → ℕ
-objectValue WordOf object ownership = object .word
-objectValue OwnerOf object ownership = ownership .thread
-objectValue DepthOf object ownership = ownership .depth
-objectValue FlagOf object ownership = flagByte (object .flag)
-objectValue HolderOf object ownership = object .monitor .holder
-objectValue MonitorDepthOf object ownership = object .monitor .depth
-objectValue EntryOf object ownership = object .monitor .entry
-objectValue ContentionOf object ownership = object .monitor .contention
-objectValue WaitingOf object ownership = object .monitor .waiting
+unfoldable pub object-value : ObjectQuestion → ObjectRecord → Ownership → ℕ
+object-value WordOf object ownership = object .word
+object-value OwnerOf object ownership = ownership .thread
+object-value DepthOf object ownership = ownership .depth
+object-value FlagOf object ownership = flag-byte (object .flag)
+object-value HolderOf object ownership = object .monitor .holder
+object-value MonitorDepthOf object ownership = object .monitor .depth
+object-value EntryOf object ownership = object .monitor .entry
+object-value ContentionOf object ownership = object .monitor .contention
+object-value WaitingOf object ownership = object .monitor .waiting
 
 -- one of the table's, and of the records that there are, whatever a size that is not sound says
 abbrev pub thread-in-range : Table → ℕ → Bool
@@ -99,20 +99,20 @@ thread-in-range table thread = both (within 1 (table .threadcount) thread) (leb 
 abbrev pub object-in-range : Table → ℕ → Bool
 object-in-range table object = both (within 1 (table .objectcount) object) (leb object object-limit)
 
-abbrev pub threadIn : ThreadQuestion → Bool → Table → ℕ → ℕ
-threadIn question istable table number =
-    let thread = threadAt table number in
+abbrev pub thread-in : ThreadQuestion → Bool → Table → ℕ → ℕ
+thread-in question istable table number =
+    let thread = thread-at table number in
     let home = thread .object in
-    saidOf istable (thread-in-range table number) NoSuchThread
-    (threadValue question number thread (ownership-at table home .thread) (objectAt table home .monitor .holder))
+    said-of istable (thread-in-range table number) NoSuchThread
+    (thread-value question number thread (ownership-at table home .thread) (object-at table home .monitor .holder))
 
-abbrev pub objectIn : ObjectQuestion → Bool → Table → ℕ → ℕ
-objectIn question istable table number =
-    saidOf istable (object-in-range table number) NoSuchObject (objectValue question (objectAt table number) (ownership-at table number))
+abbrev pub object-in : ObjectQuestion → Bool → Table → ℕ → ℕ
+object-in question istable table number =
+    said-of istable (object-in-range table number) NoSuchObject (object-value question (object-at table number) (ownership-at table number))
 
 -- the same of bytes
-abbrev pub threadAnswer : ThreadQuestion → List ℕ → ℕ → ℕ
-threadAnswer question bytes thread = threadIn question (isTable bytes) (tableOf bytes) thread
+abbrev pub ask-thread : ThreadQuestion → List ℕ → ℕ → ℕ
+ask-thread question bytes thread = thread-in question (is-table bytes) (table-of bytes) thread
 
-abbrev pub objectAnswer : ObjectQuestion → List ℕ → ℕ → ℕ
-objectAnswer question bytes object = objectIn question (isTable bytes) (tableOf bytes) object
+abbrev pub ask-object : ObjectQuestion → List ℕ → ℕ → ℕ
+ask-object question bytes object = object-in question (is-table bytes) (table-of bytes) object

@@ -1,7 +1,7 @@
 // What can be asked of a table, by name, and how each is answered. An answer has the returned number in bits 0 to 7, 0 where there is a value, and
 // the value above.
-use lock_engine::Refusal;
 use lock_engine::refusal_number;
+use lock_rules::Refusal;
 use lock_table::OBJECTS;
 use lock_table::ObjectRecord;
 use lock_table::THREADS;
@@ -18,9 +18,9 @@ use lock_word::Ownership;
 use table_bytes::is_table;
 use table_bytes::read_table;
 ghost use mathlib.Core.Path.{_≡_};
-ghost use Rattle.table_bytes.specs.Writing.{flagByte};
-ghost use Rattle.table_questions.specs.Questions.{saidOf, holderBlocks, ownerBlocks, blockerOf, threadValue, objectValue};
-ghost use Rattle.table_questions.specs.Questions.{threadIn, objectIn, threadAnswer, objectAnswer, threadCountAnswer, objectCountAnswer};
+ghost use Rattle.table_bytes.specs.Layout.{flag-byte};
+ghost use Rattle.table_questions.specs.Questions.{said-of, holder-blocks, owner-blocks, blocker-of, thread-value, object-value};
+ghost use Rattle.table_questions.specs.Questions.{thread-in, object-in, ask-thread, ask-object, thread-count, object-count};
 
 // Of a thread.
 pub enum ThreadQuestion {
@@ -54,7 +54,7 @@ const VALUE_UNIT: u64 = 256;
 const HOLDER_MARK: u32 = 65536;
 
 fn said(istable: bool, inrange: bool, refusal: Refusal, value: u32) -> u64
-    ensures { λ r. ⌜ r ≡ saidOf istable inrange refusal value ⌝ }
+    ensures { λ r. ⌜ r ≡ said-of istable inrange refusal value ⌝ }
 {
     if istable {
         if inrange {
@@ -66,7 +66,7 @@ fn said(istable: bool, inrange: bool, refusal: Refusal, value: u32) -> u64
 }
 
 fn flag_number(flag: bool) -> u32
-    ensures { λ r. ⌜ r ≡ flagByte flag ⌝ }
+    ensures { λ r. ⌜ r ≡ flag-byte flag ⌝ }
 {
     if flag {
         return 1;
@@ -75,7 +75,7 @@ fn flag_number(flag: bool) -> u32
 }
 
 fn holder_blocks(holder: u8) -> u32
-    ensures { λ r. ⌜ r ≡ holderBlocks holder ⌝ }
+    ensures { λ r. ⌜ r ≡ holder-blocks holder ⌝ }
 {
     if holder == 0 {
         return 0;
@@ -85,7 +85,7 @@ fn holder_blocks(holder: u8) -> u32
 
 // A thread that owns the object itself is kept by the holder alone.
 fn owner_blocks(number: u8, owner: u16, holder: u8) -> u32
-    ensures { λ r. ⌜ r ≡ ownerBlocks number owner holder ⌝ }
+    ensures { λ r. ⌜ r ≡ owner-blocks number owner holder ⌝ }
 {
     if owner == 0 {
         return holder_blocks(holder);
@@ -97,7 +97,7 @@ fn owner_blocks(number: u8, owner: u16, holder: u8) -> u32
 }
 
 fn blocker(phase: u8, number: u8, owner: u16, holder: u8) -> u32
-    ensures { λ r. ⌜ r ≡ blockerOf phase number owner holder ⌝ }
+    ensures { λ r. ⌜ r ≡ blocker-of phase number owner holder ⌝ }
 {
     if phase == 5 {
         return owner_blocks(number, owner, holder);
@@ -115,7 +115,7 @@ fn thread_value(
     owner: u16,
     holder: u8,
 ) -> u32
-    ensures { λ r. ⌜ r ≡ threadValue question number thread owner holder ⌝ }
+    ensures { λ r. ⌜ r ≡ thread-value question number thread owner holder ⌝ }
 {
     let operation = thread.operation;
     let phase = thread.phase;
@@ -132,7 +132,7 @@ fn thread_value(
 }
 
 fn object_value(question: ObjectQuestion, object: ObjectRecord, ownership: Ownership) -> u32
-    ensures { λ r. ⌜ r ≡ objectValue question object ownership ⌝ }
+    ensures { λ r. ⌜ r ≡ object-value question object ownership ⌝ }
 {
     let monitor = object.monitor;
     match question {
@@ -149,7 +149,7 @@ fn object_value(question: ObjectQuestion, object: ObjectRecord, ownership: Owner
 }
 
 fn thread_in(question: ThreadQuestion, istable: bool, table: Table, number: u8) -> u64
-    ensures { λ r. ⌜ r ≡ threadIn question istable table number ⌝ }
+    ensures { λ r. ⌜ r ≡ thread-in question istable table number ⌝ }
 {
     let thread = thread_at(table, number);
     let object = object_at(table, thread.object);
@@ -165,7 +165,7 @@ fn thread_in(question: ThreadQuestion, istable: bool, table: Table, number: u8) 
 }
 
 fn object_in(question: ObjectQuestion, istable: bool, table: Table, number: u8) -> u64
-    ensures { λ r. ⌜ r ≡ objectIn question istable table number ⌝ }
+    ensures { λ r. ⌜ r ≡ object-in question istable table number ⌝ }
 {
     let object = object_at(table, number);
     let ownership = ownership_at(table, number);
@@ -180,21 +180,21 @@ fn object_in(question: ObjectQuestion, istable: bool, table: Table, number: u8) 
 
 // The answer of the table that the bytes say; 11 where they are none, 12 for no thread of it.
 pub fn ask_thread(question: ThreadQuestion, bytes: &[u8], thread: u32) -> u64
-    ensures { λ r. ⌜ r ≡ threadAnswer question (now (bytes .entry)) thread ⌝ }
+    ensures { λ r. ⌜ r ≡ ask-thread question (now (bytes .entry)) thread ⌝ }
 {
     thread_in(question, is_table(bytes), read_table(bytes), narrow(thread))
 }
 
 // The same of an object, with 13.
 pub fn ask_object(question: ObjectQuestion, bytes: &[u8], object: u32) -> u64
-    ensures { λ r. ⌜ r ≡ objectAnswer question (now (bytes .entry)) object ⌝ }
+    ensures { λ r. ⌜ r ≡ ask-object question (now (bytes .entry)) object ⌝ }
 {
     object_in(question, is_table(bytes), read_table(bytes), narrow(object))
 }
 
 // How many threads the table has.
 pub fn thread_count(bytes: &[u8]) -> u64
-    ensures { λ r. ⌜ r ≡ threadCountAnswer (now (bytes .entry)) ⌝ }
+    ensures { λ r. ⌜ r ≡ thread-count (now (bytes .entry)) ⌝ }
 {
     let table = read_table(bytes);
     said(
@@ -207,7 +207,7 @@ pub fn thread_count(bytes: &[u8]) -> u64
 
 // How many objects the table has.
 pub fn object_count(bytes: &[u8]) -> u64
-    ensures { λ r. ⌜ r ≡ objectCountAnswer (now (bytes .entry)) ⌝ }
+    ensures { λ r. ⌜ r ≡ object-count (now (bytes .entry)) ⌝ }
 {
     let table = read_table(bytes);
     said(

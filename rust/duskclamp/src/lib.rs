@@ -29,11 +29,13 @@
 extern crate std;
 
 mod answer;
+mod event;
 mod phase;
 pub mod raw;
 mod record;
 
 pub use answer::{Answer, Operation, Outcome, Refusal};
+pub use event::{Event, Packed};
 pub use phase::{Onward, Phase};
 pub use record::{Blocker, Chain, Object, Thread};
 
@@ -54,7 +56,7 @@ pub const LAYOUT_VERSION: u32 = 1;
 /// The version of the library that is linked: major, minor and patch number.
 ///
 /// ```
-/// assert_eq!(duskclamp::version(), (0, 2, 0));
+/// assert_eq!(duskclamp::version(), (0, 3, 0));
 /// ```
 pub fn version() -> (u8, u8, u8) {
     let [patch, minor, major, _] = raw::version().to_le_bytes();
@@ -154,6 +156,36 @@ impl Table {
     /// ```
     pub fn step(&mut self, thread: u32) -> Outcome {
         answer::outcome(raw::step(&mut self.bytes, thread))
+    }
+
+    /// Runs the events one behind the other, as calls of `begin` and `step` would, and keeps the answer of each; a refused event does not end the run.
+    /// As many are run as there is room for answers, and that number is given back. The table is read, tested for soundness and written once, so a run
+    /// is faster than its calls.
+    ///
+    /// ```
+    /// use duskclamp::{Answer, Event, Operation, Packed, Refusal, Table, Words};
+    /// let mut table = Table::fresh(2, 1, Words::Free)?;
+    /// let events = [
+    ///     Event::begin(1, Operation::Enter, 1),
+    ///     Event::step(1),
+    ///     Event::step(2),
+    /// ];
+    /// let mut answers = [Packed::default(); 3];
+    /// assert_eq!(table.run(&events, &mut answers), 3);
+    /// assert_eq!(answers[1].outcome().result, Ok(Answer::Finished { woken: 0 }));
+    /// assert_eq!(answers[2].outcome().result, Err(Refusal::ThreadIdle));
+    /// assert_eq!(table.owner(1), Ok(1));
+    ///
+    /// // There is room for one answer: one event is run.
+    /// assert_eq!(table.run(&events, &mut answers[..1]), 1);
+    /// # Ok::<(), Refusal>(())
+    /// ```
+    pub fn run(&mut self, events: &[Event], answers: &mut [Packed]) -> usize {
+        raw::run(
+            &mut self.bytes,
+            event::bytes(events),
+            event::numbers(answers),
+        )
     }
 }
 

@@ -23,6 +23,14 @@ mod declared {
             object: u32,
         ) -> u32;
         pub fn duskclamp_step(bytes: *mut u8, length: usize, thread: u32) -> u32;
+        pub fn duskclamp_run(
+            bytes: *mut u8,
+            length: usize,
+            events: *const u8,
+            events_length: usize,
+            answers: *mut u64,
+            answers_length: usize,
+        ) -> usize;
         pub fn duskclamp_thread_count(bytes: *const u8, length: usize) -> u64;
         pub fn duskclamp_object_count(bytes: *const u8, length: usize) -> u64;
         pub fn duskclamp_operation(bytes: *const u8, length: usize, thread: u32) -> u64;
@@ -45,8 +53,8 @@ mod declared {
     }
 }
 
-// SAFETY, of every call below: the library reads and writes only the `length` bytes behind the pointer, which the borrow lends for the call,
-// and keeps no pointer. Its functions have no precondition.
+// SAFETY, of every call below: the library reads and writes only the bytes, and the answers, of the lengths beside the pointers, which the borrows lend
+// for the call, and keeps no pointer. Its functions have no precondition.
 
 /// The library's version: major, minor and patch number in a byte each, the patch number lowest.
 pub fn version() -> u32 {
@@ -78,6 +86,23 @@ pub fn begin(bytes: &mut [u8], thread: u32, operation: u32, object: u32) -> u32 
 /// The thread takes a step.
 pub fn step(bytes: &mut [u8], thread: u32) -> u32 {
     unsafe { declared::duskclamp_step(bytes.as_mut_ptr(), bytes.len(), thread) }
+}
+
+/// How many bytes an event of [`run`] has: kind (0 begin, 1 step), thread, operation, object, and four that are reserved and 0.
+pub const EVENT_SIZE: usize = 8;
+
+/// Runs as many events as there are whole ones and as there is room for answers, and gives back how many those were.
+pub fn run(bytes: &mut [u8], events: &[u8], answers: &mut [u64]) -> usize {
+    unsafe {
+        declared::duskclamp_run(
+            bytes.as_mut_ptr(),
+            bytes.len(),
+            events.as_ptr(),
+            events.len(),
+            answers.as_mut_ptr(),
+            answers.len(),
+        )
+    }
 }
 
 /// How many threads the table has.

@@ -4,10 +4,13 @@
 use crate::engine::{apply, Event};
 use crate::outcome::{Outcome, Returned};
 use crate::table::{Operation, Table};
+use std::io::{self, Read, Write};
 
 /// The length of `L 65535 65535 1`, the longest line of the form, without its newline.
 const LONGEST_LINE: usize = 15;
 const MAX_DIGITS: usize = 5;
+/// How many bytes a program reads at once.
+const BLOCK: usize = 1 << 16;
 const HEX_DIGITS: u32 = 6;
 const BITS_PER_HEX_DIGIT: u32 = 4;
 
@@ -172,6 +175,22 @@ pub fn replay(input: &[u8]) -> Vec<u8> {
     run.feed(input, &mut output);
     run.finish(&mut output);
     output
+}
+
+/// What a program does: all of the input, block by block.
+pub fn replay_stream(mut input: impl Read, mut output: impl Write) -> io::Result<()> {
+    let mut run = Replay::default();
+    let mut block = vec![0; BLOCK];
+    let mut printed = Vec::with_capacity(8 * BLOCK);
+    while !run.has_ended() {
+        match input.read(&mut block)? {
+            0 => run.finish(&mut printed),
+            length => run.feed(&block[..length], &mut printed),
+        }
+        output.write_all(&printed)?;
+        printed.clear();
+    }
+    output.flush()
 }
 
 fn header(line: &[u8], output: &mut Vec<u8>) -> State {

@@ -1,4 +1,4 @@
-//! The library beside the second engine: bytes and answers of events and of fresh tables, and answers to questions.
+//! The library beside the second engine: bytes and answers of events and of fresh tables, and answers to questions; and runs beside single calls.
 
 use crate::cases::{asked_about, cases};
 use crate::construct::sound_table;
@@ -59,14 +59,8 @@ impl Run {
         }
     }
 
-    /// Kinds of tables by turns: sound, one field damaged, two fields, random bytes.
     pub fn check_table(&mut self, place: u64) {
-        let bytes = match place % 8 {
-            0..=2 => self.sound_bytes(),
-            3..=4 => self.damaged_bytes(place, 1),
-            5..=6 => self.damaged_bytes(place, 2),
-            _ => self.random_bytes(),
-        };
+        let bytes = self.any_bytes(place);
         let table = decode(&bytes);
         let numbers = table.as_ref().map(|table| (table.threads, table.objects));
         for stepping in [true, false] {
@@ -92,6 +86,16 @@ impl Run {
             String::new()
         };
         self.report.check(&name, result);
+    }
+
+    /// Kinds of tables by turns: sound, one field damaged, two fields, random bytes.
+    fn any_bytes(&mut self, place: u64) -> Vec<u8> {
+        match place % 8 {
+            0..=2 => self.sound_bytes(),
+            3..=4 => self.damaged_bytes(place, 1),
+            5..=6 => self.damaged_bytes(place, 2),
+            _ => self.random_bytes(),
+        }
     }
 
     fn sound_bytes(&mut self) -> Vec<u8> {
@@ -201,6 +205,50 @@ impl Run {
         compare_bytes(&given_bytes, &expected_bytes).map(|()| given as u8)
     }
 
+    /// Events by one call beside the same events by calls of their own, on a table of any kind: answers, bytes, and what is left alone where there are
+    /// more events than room for answers, or the other way round.
+    pub fn check_run(&mut self, place: u64) {
+        let before = self.any_bytes(place);
+        let (threads, objects) =
+            decode(&before).map_or((3, 3), |table| (table.threads, table.objects));
+        let events: Vec<[u8; raw::EVENT_SIZE]> = (0..self.random.between(0, 40))
+            .map(|_| self.event_bytes(threads, objects))
+            .collect();
+        let room = match self.random.percent(50) {
+            true => events.len(),
+            false => self.random.between(0, 40) as usize,
+        };
+        let mut encoded = events.concat();
+        let spare = self.random.between(0, raw::EVENT_SIZE as u64 - 1);
+        encoded.extend((0..spare).map(|_| 1));
+        let mut expected_bytes = before.clone();
+        let mut expected: Vec<u64> = (0..room as u64).map(|untouched| !untouched).collect();
+        let mut answers = expected.clone();
+        let count = events.len().min(room);
+        for (answer, event) in expected.iter_mut().zip(&events) {
+            *answer = single_call(&mut expected_bytes, event).into();
+        }
+        let mut bytes = before;
+        let given = raw::run(&mut bytes, &encoded, &mut answers);
+        let result = match given == count && answers == expected {
+            true => compare_bytes(&bytes, &expected_bytes),
+            false => Err(format!(
+                "{given} run with {answers:x?}, by single calls {count} with {expected:x?}"
+            )),
+        };
+        self.note(|| format!("run {place} of {events:?}"), result);
+    }
+
+    /// An event of a run. At times its kind is none, and what no event reads is not 0.
+    fn event_bytes(&mut self, threads: u8, objects: u8) -> [u8; raw::EVENT_SIZE] {
+        let kind = self.random.pick(&[0, 0, 0, 1, 1, 1, 1, 1, 1, 2, 255]);
+        let thread = self.near(threads).min(255) as u8;
+        let operation = self.random.pick(&[0, 1, 1, 1, 2, 2, 3, 4, 5, 6, 255]);
+        let object = self.near(objects).min(255) as u8;
+        let limit = self.random.pick(&[0, 0, 7, 255]);
+        [kind, thread, operation, object, limit, 0, 0, limit]
+    }
+
     /// A fresh table of sizes in range or not, over bytes of any length.
     pub fn check_any_fresh(&mut self) {
         let threads = self
@@ -257,6 +305,16 @@ impl Run {
             self.report.check(&format!("number {number}"), result);
         }
         self.report.finish()
+    }
+}
+
+/// The event by a call of its own; one of no kind is the begin of no operation.
+fn single_call(bytes: &mut [u8], event: &[u8; raw::EVENT_SIZE]) -> u32 {
+    let [kind, thread, operation, object, ..] = event.map(u32::from);
+    match kind {
+        0 => raw::begin(bytes, thread, operation, object),
+        1 => raw::step(bytes, thread),
+        _ => raw::begin(bytes, thread, 0, object),
     }
 }
 

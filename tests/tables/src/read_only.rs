@@ -39,6 +39,14 @@ extern "C" {
         object: u32,
     ) -> u32;
     fn duskclamp_step(bytes: *mut u8, length: usize, thread: u32) -> u32;
+    fn duskclamp_run(
+        bytes: *mut u8,
+        length: usize,
+        events: *const u8,
+        events_length: usize,
+        answers: *mut u64,
+        answers_length: usize,
+    ) -> usize;
 }
 
 pub struct ReadOnly {
@@ -75,7 +83,7 @@ impl ReadOnly {
         unsafe { std::slice::from_raw_parts(self.start, self.length) }
     }
 
-    // SAFETY, of the three calls: the bytes may be read, and the library is expected to store nothing; if it does, the process ends.
+    // SAFETY, of the four calls: the bytes may be read, and the library is expected to store nothing; if it does, the process ends.
 
     pub fn fresh(&self, threads: u32, objects: u32) -> u32 {
         unsafe { duskclamp_fresh(self.start, self.length, threads, objects, 0) }
@@ -87,6 +95,19 @@ impl ReadOnly {
 
     pub fn step(&self, thread: u32) -> u32 {
         unsafe { duskclamp_step(self.start, self.length, thread) }
+    }
+
+    pub fn run(&self, events: &[u8], answers: &mut [u64]) -> usize {
+        unsafe {
+            duskclamp_run(
+                self.start,
+                self.length,
+                events.as_ptr(),
+                events.len(),
+                answers.as_mut_ptr(),
+                answers.len(),
+            )
+        }
     }
 }
 

@@ -16,6 +16,7 @@ fn the_two_engines_agree() {
     run.check_cases();
     for place in 0..5_000 {
         run.check_table(place);
+        run.check_run(place);
     }
     for _ in 0..200 {
         run.check_any_fresh();
@@ -60,6 +61,46 @@ fn bytes_that_are_no_table_are_not_stored_to() {
         let table = ReadOnly::new(&vec![value; length.max(1)]);
         assert_eq!(table.begin(1, 1, 1), 11);
         assert_eq!(table.step(1), 11);
+    }
+}
+
+/// A run of refused events stores nothing either, in the table; its answers are written.
+#[test]
+fn refused_runs_store_nothing() {
+    for case in cases()
+        .into_iter()
+        .filter(|case| stores_nothing(case.number))
+    {
+        let bytes = encode(&case.table);
+        let table = ReadOnly::new(&bytes);
+        let narrow = |number: u16| number.min(255) as u8;
+        let event = match case.event {
+            Event::Begin {
+                thread,
+                operation,
+                object,
+            } => [
+                0,
+                narrow(thread),
+                narrow(operation.into()),
+                narrow(object),
+                0,
+                0,
+                0,
+                0,
+            ],
+            Event::Step { thread } => [1, narrow(thread), 0, 0, 0, 0, 0, 0],
+        };
+        let mut answers = [0; 3];
+        assert_eq!(table.run(&[event, event].concat(), &mut answers), 2);
+        assert_eq!(answers, [case.number.into(), case.number.into(), 0]);
+        assert_eq!(table.bytes(), bytes);
+    }
+    for value in [0, 0xff] {
+        let mut answers = [0; 1];
+        let table = ReadOnly::new(&[value; TABLE_SIZE]);
+        assert_eq!(table.run(&[1, 1, 0, 0, 0, 0, 0, 0], &mut answers), 1);
+        assert_eq!(answers, [11]);
     }
 }
 

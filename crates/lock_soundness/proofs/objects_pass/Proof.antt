@@ -1,4 +1,4 @@
--- `lock_soundness::objects_pass` meets its contract: what is left to test decides.
+-- `lock_soundness::objects_pass` meets its contract: what is left to test and to mark decides.
 use mathlib.Core.Path.{_≡_, refl}
 use Prim.Native.Nat.{_≤_}
 use borrow.Author.Needs.{needs}
@@ -7,57 +7,59 @@ use native.Mathlib.Omega.{arith}
 use Rattle.laws.specs.Every.{all-up-to}
 use Rattle.laws.proofs.Every.{all-step, all-end}
 use Rattle.lock_table.specs.Limits.{object-limit}
-use Rattle.lock_soundness.specs.Fused.{objectPasses}
-use Rattle.lock_soundness.proofs.Turns.{object-turn}
+use Rattle.lock_table.proofs.Records.{object-in}
+use Rattle.lock_soundness.specs.OnePass.{object-turn, objects-marks}
+use Rattle.lock_soundness.proofs.Turns.{objects-marks-step, objects-marks-end}
 use Rattle.lock_soundness.proofs.objects_pass.Statement.{statement}
 use Rattle.lock_soundness.proofs.objects_pass.Tie as tie
 
 abbrev Inv-loop : tie.InvT-loop
-Inv-loop table threads left₀ left = (left ≤ object-limit) × (all-up-to object-limit (objectPasses table) ≡ all-up-to left (objectPasses table))
+Inv-loop met₀ table left₀ met left =
+    (left ≤ object-limit)
+    × ((all-up-to object-limit (object-turn table) ≡ all-up-to left (object-turn table))
+    × (objects-marks table object-limit met₀ ≡ objects-marks table left met))
 
 abbrev μ-loop : tie.MeasureT-loop
-μ-loop table threads left₀ left = left
+μ-loop met₀ table left₀ met left = left
 
-fields-fail : tie.Need-returns Inv-loop μ-loop
-fields-fail c =
-    let l = c .before .before .before in
+fails : tie.Need-returns Inv-loop μ-loop
+fails c =
+    let l = c .before .before .before .before .before in
+    let table = l .before .before .args .t1 in
+    let left = l .before .loop .left in
     simp (
-      l .before .loop .inv .1,
+      l .before .loop .inv .1 .0,
+      l .before .loop .inv .1 .1,
       all-step (l .loop-test .taken),
-      object-turn (l .before .before .before .args .t1) (l .before .loop .left) (l .loop-test .taken) (l .before .loop .inv .0),
-      ← c .before .object-fits .ensures,
-      not-true (c .before .object-fits .result) (c .if1 .taken),
+      objects-marks-step (l .loop-test .taken),
+      object-in table left (λ e. omega (arith, e, l .loop-test .taken)) (l .before .loop .inv .0),
+      ← c .before .object-passes .ensures .0,
+      c .before .object-passes .ensures .1,
+      not-true (c .before .object-passes .result) (c .if1 .taken),
     )
-
-chains-fail : tie.Need-returns-2 Inv-loop μ-loop
-chains-fail c =
-    let e = c .before .before in
-    let l = e .before .before .before in
-    simp (
-      l .before .loop .inv .1,
-      all-step (l .loop-test .taken),
-      object-turn (l .before .before .before .args .t1) (l .before .loop .left) (l .loop-test .taken) (l .before .loop .inv .0),
-      ← e .before .object-fits .ensures,
-      not-false (e .before .object-fits .result) (e .if1 .left),
-      ← c .before .chains-pass .ensures,
-      not-true (c .before .chains-pass .result) (c .if2 .taken),
-    )
+    (refl, refl)
 
 loop-again : tie.Need-loop-again Inv-loop μ-loop
 loop-again c =
-    let e = c .before .before in
-    let l = e .before .before .before in (
+    let l = c .before .before .before .before .before in
+    let table = l .before .before .args .t1 in
+    let left = l .before .loop .left in (
       omega (arith, l .before .loop .inv .0),
       simp (
-        l .before .loop .inv .1,
+        l .before .loop .inv .1 .0,
+        l .before .loop .inv .1 .1,
         all-step (l .loop-test .taken),
-        object-turn (l .before .before .before .args .t1) (l .before .loop .left) (l .loop-test .taken) (l .before .loop .inv .0),
-        ← e .before .object-fits .ensures,
-        not-false (e .before .object-fits .result) (e .if1 .left),
-        ← c .before .chains-pass .ensures,
-        not-false (c .before .chains-pass .result) (c .if2 .left),
-      ),
+        objects-marks-step (l .loop-test .taken),
+        object-in table left (λ e. omega (arith, e, l .loop-test .taken)) (l .before .loop .inv .0),
+        ← c .before .object-passes .ensures .0,
+        c .before .object-passes .ensures .1,
+        not-false (c .before .object-passes .result) (c .if1 .left),
+      )
+          (refl, refl),
     )
+
+all-pass : tie.Need-returns-2 Inv-loop μ-loop
+all-pass c = simp (c .before .loop .inv .1 .0, c .before .loop .inv .1 .1, all-end (c .loop-test .left), objects-marks-end (c .loop-test .left)) (refl, refl)
 
 pub objects-pass-spec : {M : Type 1} → statement M
 objects-pass-spec =
@@ -65,16 +67,14 @@ objects-pass-spec =
     (tie.spec
     Inv-loop
     μ-loop
-    (λ c. (omega arith, refl))
+    (λ c. (omega arith, (refl, refl)))
     (λ c. search needs)
     (λ c. search needs)
     (λ c. search needs)
     (λ c. search needs)
     (λ c κs. tt)
-    fields-fail
-    (λ c κs. tt)
-    chains-fail
+    fails
     (λ c. omega arith)
     (λ c. omega arith)
     loop-again
-    (λ c. simp (c .before .loop .inv .1, all-end (c .loop-test .left))))
+    all-pass)

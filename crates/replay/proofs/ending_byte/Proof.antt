@@ -1,11 +1,11 @@
 -- `replay::ending_byte` meets its contract: each way through the code is that of the definition.
 use borrow.Author.Needs.{needs}
-use Rattle.replay.specs.Run.{statusOf, endingByteOf}
+use Rattle.replay.specs.Run.{status-of, ending-byte}
 use Rattle.replay.proofs.ending_byte.Statement.{statement}
 use Rattle.replay.proofs.ending_byte.Tie as tie
 
 pub ending-byte-spec : {M : Type 1} → statement M
-unfolding endingByteOf statusOf
+unfolding ending-byte status-of
 ending-byte-spec =
     tie.close
     (tie.spec

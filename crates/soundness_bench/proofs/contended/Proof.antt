@@ -22,6 +22,7 @@ contended-spec =
     (λ c κs. tt)
     (λ c. tt)
     (λ c κs. tt)
+    (λ c κs. tt)
     (λ c. omega arith)
     (λ c. omega arith)
     (λ c. tt)

@@ -1,22 +1,13 @@
 //! The reference's replay program: standard input to standard output.
 
-use reference::replay::Replay;
-use std::io::{self, Read, Write};
+use reference::replay::replay_stream;
+use std::io;
 
-const BLOCK: usize = 1 << 16;
+#[cfg(feature = "untested")]
+compile_error!(
+    "this program and the tests test every event; build reference_replay_untested alone"
+);
 
 fn main() -> io::Result<()> {
-    let (mut input, mut output) = (io::stdin().lock(), io::stdout().lock());
-    let mut replay = Replay::default();
-    let mut block = vec![0; BLOCK];
-    let mut printed = Vec::with_capacity(8 * BLOCK);
-    while !replay.has_ended() {
-        match input.read(&mut block)? {
-            0 => replay.finish(&mut printed),
-            length => replay.feed(&block[..length], &mut printed),
-        }
-        output.write_all(&printed)?;
-        printed.clear();
-    }
-    output.flush()
+    replay_stream(io::stdin().lock(), io::stdout().lock())
 }

@@ -12,6 +12,8 @@ const DEFAULT_COUNT: u64 = 150_000;
 const DEFAULT_SEED: u64 = 1;
 const FRESH_CASES: u64 = 2_000;
 const REPLAY_CASES: u64 = 200;
+/// One table of so many gets a run too, which the kinds of tables, eight by turns, all come to.
+const RUN_EVERY: u64 = 5;
 
 fn main() -> ExitCode {
     let arguments: Vec<String> = std::env::args().skip(1).collect();
@@ -34,6 +36,9 @@ fn main() -> ExitCode {
     run.check_cases();
     for place in 0..count {
         run.check_table(place);
+        if place % RUN_EVERY == 0 {
+            run.check_run(place);
+        }
     }
     for _ in 0..FRESH_CASES {
         run.check_any_fresh();

@@ -1,11 +1,11 @@
 -- `lock_engine::outcome::refusal_number` meets its contract: each way through the code is that of the definition.
 use borrow.Author.Needs.{needs}
-use Rattle.lock_engine.specs.Outcome.{refusalNumberOf}
+use Rattle.lock_rules.specs.Numbers.{refusal-number}
 use Rattle.lock_engine.proofs.outcome.refusal_number.Statement.{statement}
 use Rattle.lock_engine.proofs.outcome.refusal_number.Tie as tie
 
 pub refusal-number-spec : {M : Type 1} → statement M
-unfolding refusalNumberOf
+unfolding refusal-number
 refusal-number-spec =
     tie.close
     (tie.spec

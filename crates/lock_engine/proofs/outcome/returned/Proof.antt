@@ -1,11 +1,11 @@
 -- `lock_engine::outcome::returned` meets its contract: each way through the code is that of the definition.
 use borrow.Author.Needs.{needs}
-use Rattle.lock_engine.specs.Outcome.{returnedOf}
+use Rattle.lock_engine.specs.Outcome.{reply-returned}
 use Rattle.lock_engine.proofs.outcome.returned.Statement.{statement}
 use Rattle.lock_engine.proofs.outcome.returned.Tie as tie
 
 pub returned-spec : {M : Type 1} → statement M
-unfolding returnedOf
+unfolding reply-returned
 returned-spec =
     tie.close
     (tie.spec

@@ -1,11 +1,11 @@
 -- `lock_engine_c::calls::answer_changes` meets its contract: each way through the code is that of the definition.
 use borrow.Author.Needs.{needs}
-use Rattle.lock_engine_c.specs.Calls.{answerChanges}
+use Rattle.lock_engine_c.specs.Calls.{answer-changes}
 use Rattle.lock_engine_c.proofs.calls.answer_changes.Statement.{statement}
 use Rattle.lock_engine_c.proofs.calls.answer_changes.Tie as tie
 
 pub answer-changes-spec : {M : Type 1} → statement M
-unfolding answerChanges
+unfolding answer-changes
 answer-changes-spec =
     tie.close
     (tie.spec

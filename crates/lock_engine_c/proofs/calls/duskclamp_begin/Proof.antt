@@ -19,16 +19,16 @@ duskclamp-begin-spec =
     (λ c. search needs)
     (λ c.
     let gated = c .before .before in
-    let third = gated .before in
+    let third = gated .before .before in
     let second = third .before in
     let first = second .before in
-    let asked = first .before .before in
+    let asked = first .before in
     let known = asked .is-table .ensures in
     let entry = asked .before .before in
     let given = entry .before .args in
     let small : AreBytes (given .bytes .now) = λ i. omega (arith, entry .slice-known .given i) in (
-      simp (gated .begin-if-table .ensures .0, third .narrow3 .ensures, second .narrow2 .ensures, first .narrow .ensures, known, narrow-begin),
+      simp (gated .handle-if-table .ensures .0, third .narrow3 .ensures, second .narrow2 .ensures, first .narrow .ensures, known, narrow-begin),
       begin-promised (given .bytes .now) small (given .thread) (given .operation) (given .object) _ _
-          (simp (gated .begin-if-table .ensures .0, third .narrow3 .ensures, second .narrow2 .ensures, first .narrow .ensures, known, narrow-begin))
-          (simp (gated .begin-if-table .ensures .1, third .narrow3 .ensures, second .narrow2 .ensures, first .narrow .ensures, known, narrow-begin)),
+          (simp (gated .handle-if-table .ensures .0, third .narrow3 .ensures, second .narrow2 .ensures, first .narrow .ensures, known))
+          (simp (gated .handle-if-table .ensures .1, third .narrow3 .ensures, second .narrow2 .ensures, first .narrow .ensures, known)),
     )))

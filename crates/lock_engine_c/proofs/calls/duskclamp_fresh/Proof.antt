@@ -1,6 +1,6 @@
 -- `lock_engine_c::calls::duskclamp_fresh` meets its contract: what was written over the bytes is the bytes of the fresh table.
 use borrow.Author.Needs.{needs}
-use Rattle.lock_engine_c.specs.Calls.{freshOn}
+use Rattle.lock_engine_c.specs.Calls.{fresh-on}
 use Rattle.lock_table.proofs.Narrowed.{narrow-fresh}
 use Rattle.lock_engine_c.proofs.FreshWritten.{fresh-written}
 use Rattle.lock_engine_c.proofs.calls.duskclamp_fresh.Statement.{statement}
@@ -23,7 +23,7 @@ duskclamp-fresh-spec =
     let second = made .before in
     let first = second .before in
     let given = first .before .before .args in
-    let new = freshOn (given .threads) (given .objects) (given .reserved) in (
+    let new = fresh-on (given .threads) (given .objects) (given .reserved) in (
       simp (gated .fresh-if-sized .ensures .0, made .fresh .ensures, second .narrow2 .ensures, first .narrow .ensures, narrow-fresh),
       simp (gated .fresh-if-sized .ensures .1, made .fresh .ensures, second .narrow2 .ensures, first .narrow .ensures, narrow-fresh) (fresh-written (given .bytes .now) (new .answer) (new .table)),
     )))

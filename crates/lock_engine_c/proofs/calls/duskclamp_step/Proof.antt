@@ -17,14 +17,14 @@ duskclamp-step-spec =
     (λ c. search needs)
     (λ c.
     let gated = c .before .before in
-    let number = gated .before .narrow .ensures in
+    let number = gated .before .before .narrow .ensures in
     let asked = gated .before .before .before in
     let known = asked .is-table .ensures in
     let entry = asked .before .before in
     let given = entry .before .args in
     let small : AreBytes (given .bytes .now) = λ i. omega (arith, entry .slice-known .given i) in (
-      simp (gated .step-if-table .ensures .0, number, known, narrow-step),
+      simp (gated .handle-if-table .ensures .0, number, known, narrow-step),
       step-promised (given .bytes .now) small (given .thread) _ _
-          (simp (gated .step-if-table .ensures .0, number, known, narrow-step))
-          (simp (gated .step-if-table .ensures .1, number, known, narrow-step)),
+          (simp (gated .handle-if-table .ensures .0, number, known))
+          (simp (gated .handle-if-table .ensures .1, number, known)),
     )))

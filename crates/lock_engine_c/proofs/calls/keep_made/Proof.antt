@@ -1,11 +1,11 @@
 -- `lock_engine_c::calls::keep_made` meets its contract: a table that was made is written.
 use borrow.Author.Needs.{needs}
-use Rattle.lock_engine_c.specs.Calls.{madeOver}
+use Rattle.lock_engine_c.specs.Calls.{keep-made}
 use Rattle.lock_engine_c.proofs.calls.keep_made.Statement.{statement}
 use Rattle.lock_engine_c.proofs.calls.keep_made.Tie as tie
 
 pub keep-made-spec : {M : Type 1} → statement M
-unfolding madeOver
+unfolding keep-made
 keep-made-spec =
     tie.close
     (tie.spec

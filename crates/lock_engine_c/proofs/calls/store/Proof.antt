@@ -1,11 +1,11 @@
 -- `lock_engine_c::calls::store` meets its contract: each way through the code is that of the definition.
 use borrow.Author.Needs.{needs}
-use Rattle.lock_engine_c.specs.Calls.{storedOver}
+use Rattle.lock_engine_c.specs.Calls.{stored-over}
 use Rattle.lock_engine_c.proofs.calls.store.Statement.{statement}
 use Rattle.lock_engine_c.proofs.calls.store.Tie as tie
 
 pub store-spec : {M : Type 1} → statement M
-unfolding storedOver
+unfolding stored-over
 store-spec =
     tie.close
     (tie.spec

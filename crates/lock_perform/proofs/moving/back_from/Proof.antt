@@ -1,11 +1,11 @@
 -- `lock_perform::moving::back_from` meets its contract: each way through the code is that of the definition.
 use borrow.Author.Needs.{needs}
-use Rattle.lock_perform.specs.Moving.{backFrom}
+use Rattle.lock_perform.specs.Moving.{back-from}
 use Rattle.lock_perform.proofs.moving.back_from.Statement.{statement}
 use Rattle.lock_perform.proofs.moving.back_from.Tie as tie
 
 pub back-from-spec : {M : Type 1} → statement M
-unfolding backFrom
+unfolding back-from
 back-from-spec =
     tie.close
     (tie.spec

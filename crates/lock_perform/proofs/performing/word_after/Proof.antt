@@ -1,11 +1,11 @@
 -- `lock_perform::performing::word_after` meets its contract: each way through the code is that of the definition.
 use borrow.Author.Needs.{needs}
-use Rattle.lock_perform.specs.Perform.{wordAfter}
+use Rattle.lock_perform.specs.Perform.{word-after}
 use Rattle.lock_perform.proofs.performing.word_after.Statement.{statement}
 use Rattle.lock_perform.proofs.performing.word_after.Tie as tie
 
 pub word-after-spec : {M : Type 1} → statement M
-unfolding wordAfter
+unfolding word-after
 word-after-spec =
     tie.close
     (tie.spec

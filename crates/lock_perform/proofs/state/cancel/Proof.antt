@@ -1,11 +1,11 @@
 -- `lock_perform::state::cancel` meets its contract: each way through the code is that of the definition.
 use borrow.Author.Needs.{needs}
-use Rattle.lock_perform.specs.State.{cancelOf}
+use Rattle.lock_perform.specs.State.{cancel-of}
 use Rattle.lock_perform.proofs.state.cancel.Statement.{statement}
 use Rattle.lock_perform.proofs.state.cancel.Tie as tie
 
 pub cancel-spec : {M : Type 1} → statement M
-unfolding cancelOf
+unfolding cancel-of
 cancel-spec =
     tie.close
     (tie.spec

@@ -1,11 +1,11 @@
 -- `lock_perform::state::carried` meets its contract: each way through the code is that of the definition.
 use borrow.Author.Needs.{needs}
-use Rattle.lock_perform.specs.State.{carriedOf}
+use Rattle.lock_perform.specs.State.{carried-of}
 use Rattle.lock_perform.proofs.state.carried.Statement.{statement}
 use Rattle.lock_perform.proofs.state.carried.Tie as tie
 
 pub carried-spec : {M : Type 1} → statement M
-unfolding carriedOf
+unfolding carried-of
 carried-spec =
     tie.close
     (tie.spec

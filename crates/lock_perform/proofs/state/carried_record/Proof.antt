@@ -1,11 +1,11 @@
 -- `lock_perform::state::carried_record` meets its contract: each way through the code is that of the definition.
 use borrow.Author.Needs.{needs}
-use Rattle.lock_perform.specs.State.{carriedRecordOf}
+use Rattle.lock_perform.specs.State.{carried-record}
 use Rattle.lock_perform.proofs.state.carried_record.Statement.{statement}
 use Rattle.lock_perform.proofs.state.carried_record.Tie as tie
 
 pub carried-record-spec : {M : Type 1} → statement M
-unfolding carriedRecordOf
+unfolding carried-record
 carried-record-spec =
     tie.close
     (tie.spec

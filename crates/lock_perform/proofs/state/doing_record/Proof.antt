@@ -1,11 +1,11 @@
 -- `lock_perform::state::doing_record` meets its contract: each way through the code is that of the definition.
 use borrow.Author.Needs.{needs}
-use Rattle.lock_perform.specs.State.{doingRecordOf}
+use Rattle.lock_perform.specs.State.{doing-record}
 use Rattle.lock_perform.proofs.state.doing_record.Statement.{statement}
 use Rattle.lock_perform.proofs.state.doing_record.Tie as tie
 
 pub doing-record-spec : {M : Type 1} → statement M
-unfolding doingRecordOf
+unfolding doing-record
 doing-record-spec =
     tie.close
     (tie.spec

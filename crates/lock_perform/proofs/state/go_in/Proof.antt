@@ -1,11 +1,11 @@
 -- `lock_perform::state::go_in` meets its contract: each way through the code is that of the definition.
 use borrow.Author.Needs.{needs}
-use Rattle.lock_perform.specs.State.{goInOf}
+use Rattle.lock_perform.specs.State.{go-in-of}
 use Rattle.lock_perform.proofs.state.go_in.Statement.{statement}
 use Rattle.lock_perform.proofs.state.go_in.Tie as tie
 
 pub go-in-spec : {M : Type 1} → statement M
-unfolding goInOf
+unfolding go-in-of
 go-in-spec =
     tie.close
     (tie.spec

@@ -1,11 +1,11 @@
 -- `lock_perform::state::look` meets its contract: each way through the code is that of the definition.
 use borrow.Author.Needs.{needs}
-use Rattle.lock_perform.specs.State.{lookOf}
+use Rattle.lock_perform.specs.State.{look-of}
 use Rattle.lock_perform.proofs.state.look.Statement.{statement}
 use Rattle.lock_perform.proofs.state.look.Tie as tie
 
 pub look-spec : {M : Type 1} → statement M
-unfolding lookOf
+unfolding look-of
 look-spec =
     tie.close
     (tie.spec

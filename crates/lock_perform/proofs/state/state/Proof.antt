@@ -1,11 +1,11 @@
 -- `lock_perform::state::state` meets its contract: each way through the code is that of the definition.
 use borrow.Author.Needs.{needs}
-use Rattle.lock_perform.specs.State.{stateBy}
+use Rattle.lock_perform.specs.State.{state-by}
 use Rattle.lock_perform.proofs.state.state.Statement.{statement}
 use Rattle.lock_perform.proofs.state.state.Tie as tie
 
 pub state-spec : {M : Type 1} → statement M
-unfolding stateBy
+unfolding state-by
 state-spec =
     tie.close
     (tie.spec

@@ -1,11 +1,11 @@
 -- `lock_perform::state::store` meets its contract: each way through the code is that of the definition.
 use borrow.Author.Needs.{needs}
-use Rattle.lock_perform.specs.State.{storeOf}
+use Rattle.lock_perform.specs.State.{store-of}
 use Rattle.lock_perform.proofs.state.store.Statement.{statement}
 use Rattle.lock_perform.proofs.state.store.Tie as tie
 
 pub store-spec : {M : Type 1} → statement M
-unfolding storeOf
+unfolding store-of
 store-spec =
     tie.close
     (tie.spec

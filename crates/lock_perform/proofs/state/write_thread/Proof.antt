@@ -1,11 +1,11 @@
 -- `lock_perform::state::write_thread` meets its contract: each way through the code is that of the definition.
 use borrow.Author.Needs.{needs}
-use Rattle.lock_perform.specs.State.{recordOf}
+use Rattle.lock_perform.specs.State.{write-thread}
 use Rattle.lock_perform.proofs.state.write_thread.Statement.{statement}
 use Rattle.lock_perform.proofs.state.write_thread.Tie as tie
 
 pub write-thread-spec : {M : Type 1} → statement M
-unfolding recordOf
+unfolding write-thread
 write-thread-spec =
     tie.close
     (tie.spec

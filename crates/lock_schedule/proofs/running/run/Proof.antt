@@ -1,5 +1,5 @@
 -- `lock_schedule::running::run` meets its contract: it runs the schedule on the fresh table, and demand 3 holds of that run.
-use Rattle.lock_schedule.specs.Encoding.{eventsOf}
+use Rattle.event_bytes.specs.Encoding.{events-of}
 use Rattle.lock_schedule.proofs.Runs.{run-same, run-claimed}
 use Rattle.lock_schedule.proofs.running.run.Statement.{statement}
 use Rattle.lock_schedule.proofs.running.run.Tie as tie
@@ -7,7 +7,7 @@ use Rattle.lock_schedule.proofs.running.run.Tie as tie
 returns : tie.Need-returns
 returns c =
     let args = c .before .before .before .args in
-    let events = eventsOf (args .events .now) in
+    let events = events-of (args .events .now) in
     let same = run-same (args .threads) (args .objects) (args .reserved) events (c .before .fresh .ensures) (c .run-fresh .ensures) in
     (same, run-claimed (args .threads) (args .objects) (args .reserved) events same)
 

@@ -1,11 +1,11 @@
 -- `lock_schedule::running::run_fresh` meets its contract: each way through the code is that of the definition.
 use borrow.Author.Needs.{needs}
-use Rattle.lock_schedule.specs.Runs.{runFreshOf}
+use Rattle.lock_schedule.specs.Runs.{run-fresh}
 use Rattle.lock_schedule.proofs.running.run_fresh.Statement.{statement}
 use Rattle.lock_schedule.proofs.running.run_fresh.Tie as tie
 
 pub run-fresh-spec : {M : Type 1} → statement M
-unfolding runFreshOf
+unfolding run-fresh
 run-fresh-spec =
     tie.close
     (tie.spec

@@ -1,12 +1,12 @@
 -- `lock_table::access::object_at` meets its contract: each way through the code is that of the definition.
 use borrow.Author.Needs.{needs}
 use borrow.Author.Tests.{eq-eqb, le-ltb, lt-ltb, ne-eqb}
-use Rattle.lock_table.specs.Access.{objectAt}
+use Rattle.lock_table.specs.Access.{object-at}
 use Rattle.lock_table.proofs.access.object_at.Statement.{statement}
 use Rattle.lock_table.proofs.access.object_at.Tie as tie
 
 pub object-at-spec : {M : Type 1} → statement M
-unfolding objectAt
+unfolding object-at
 object-at-spec =
     tie.close
     (tie.spec

@@ -1,12 +1,12 @@
 -- `lock_table::access::set_thread` meets its contract: each way through the code is that of the definition.
 use borrow.Author.Needs.{needs}
 use borrow.Author.Tests.{eq-eqb, le-ltb, lt-ltb, ne-eqb}
-use Rattle.lock_table.specs.Access.{setThread}
+use Rattle.lock_table.specs.Access.{set-thread}
 use Rattle.lock_table.proofs.access.set_thread.Statement.{statement}
 use Rattle.lock_table.proofs.access.set_thread.Tie as tie
 
 pub set-thread-spec : {M : Type 1} → statement M
-unfolding setThread
+unfolding set-thread
 set-thread-spec =
     tie.close
     (tie.spec

@@ -1,12 +1,12 @@
 -- `lock_table::access::thread_at` meets its contract: each way through the code is that of the definition.
 use borrow.Author.Needs.{needs}
 use borrow.Author.Tests.{eq-eqb, le-ltb, lt-ltb, ne-eqb}
-use Rattle.lock_table.specs.Access.{threadAt}
+use Rattle.lock_table.specs.Access.{thread-at}
 use Rattle.lock_table.proofs.access.thread_at.Statement.{statement}
 use Rattle.lock_table.proofs.access.thread_at.Tie as tie
 
 pub thread-at-spec : {M : Type 1} → statement M
-unfolding threadAt
+unfolding thread-at
 thread-at-spec =
     tie.close
     (tie.spec

@@ -1,11 +1,11 @@
 -- `lock_table::chain::carried` meets its contract: each way through the code is that of the definition.
 use borrow.Author.Needs.{needs}
-use Rattle.lock_table.specs.Chain.{carriedOf}
+use Rattle.lock_table.specs.Chain.{carried-of}
 use Rattle.lock_table.proofs.chain.carried.Statement.{statement}
 use Rattle.lock_table.proofs.chain.carried.Tie as tie
 
 pub carried-spec : {M : Type 1} → statement M
-unfolding carriedOf
+unfolding carried-of
 carried-spec =
     tie.close
     (tie.spec

@@ -1,10 +1,10 @@
 -- `lock_table::fresh_table::first_word` meets its contract: each way through the code is that of the definition.
-use Rattle.lock_table.specs.Fresh.{firstWordOf}
+use Rattle.lock_table.specs.Fresh.{first-word}
 use Rattle.lock_table.proofs.fresh_table.first_word.Statement.{statement}
 use Rattle.lock_table.proofs.fresh_table.first_word.Tie as tie
 
 pub first-word-spec : {M : Type 1} → statement M
-unfolding firstWordOf
+unfolding first-word
 first-word-spec =
     tie.close
     (tie.spec

@@ -1,12 +1,12 @@
 -- `lock_table::fresh_table::fresh` meets its contract: each way through the code is that of the definition.
 use borrow.Author.Needs.{needs}
 use borrow.Author.Tests.{eq-eqb, le-ltb, lt-ltb, ne-eqb}
-use Rattle.lock_table.specs.Fresh.{freshOf}
+use Rattle.lock_table.specs.Fresh.{fresh-of}
 use Rattle.lock_table.proofs.fresh_table.fresh.Statement.{statement}
 use Rattle.lock_table.proofs.fresh_table.fresh.Tie as tie
 
 pub fresh-spec : {M : Type 1} → statement M
-unfolding freshOf
+unfolding fresh-of
 fresh-spec =
     tie.close
     (tie.spec

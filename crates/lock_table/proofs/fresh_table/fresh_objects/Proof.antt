@@ -5,14 +5,14 @@ use mathlib.Core.Path.{_≡_, ap, _∙_}
 use borrow.Author.Needs.{needs}
 use native.Mathlib.Omega.{arith}
 use lib.ListN.{set, replicate}
-use Rattle.lock_table.specs.Record.{noObject, withWord}
+use Rattle.lock_table.specs.Record.{no-object, with-word}
 use Rattle.lock_table.specs.declared.record.ObjectRecord.{ObjectRecord}
 use Rattle.lock_table.proofs.FreshObjects.{filled, filled-more}
 use Rattle.lock_table.proofs.fresh_table.fresh_objects.Statement.{statement}
 use Rattle.lock_table.proofs.fresh_table.fresh_objects.Tie as tie
 
 abbrev Inv-loop : tie.InvT-loop
-Inv-loop count word object objects₀ place₀ objects place = (place ≤ count) × (objects ≡ filled 64 object noObject place)
+Inv-loop count word object objects₀ place₀ objects place = (place ≤ count) × (objects ≡ filled 64 object no-object place)
 
 abbrev μ-loop : tie.MeasureT-loop
 μ-loop count word object objects₀ place₀ objects place = count - place
@@ -24,7 +24,7 @@ loop-again : tie.Need-loop-again Inv-loop μ-loop
 loop-again c =
     let place = c .before .loop .place in
     let object = c .before .before .with-word .result in
-    (omega arith, ap (λ (list : List ObjectRecord). set list place object) (c .before .loop .inv .1) ∙ filled-more 64 object noObject place (search needs))
+    (omega arith, ap (λ (list : List ObjectRecord). set list place object) (c .before .loop .inv .1) ∙ filled-more 64 object no-object place (search needs))
 
 returns : tie.Need-returns Inv-loop μ-loop
 returns c =
@@ -33,9 +33,9 @@ returns c =
     let all : c .before .loop .place ≡ count = omega arith in
     let word = made .before .before .args .word in
     c .before .loop .inv .1
-    ∙ (ap (λ (n : ℕ). filled 64 (made .with-word .result) noObject n) all
-    ∙ ap (λ (object : ObjectRecord). filled 64 object noObject count)
-    (made .with-word .ensures ∙ ap (λ (empty : ObjectRecord). withWord empty word) (made .before .no-object .ensures)))
+    ∙ (ap (λ (n : ℕ). filled 64 (made .with-word .result) no-object n) all
+    ∙ ap (λ (object : ObjectRecord). filled 64 object no-object count)
+    (made .with-word .ensures ∙ ap (λ (empty : ObjectRecord). with-word empty word) (made .before .no-object .ensures)))
 
 pub fresh-objects-spec : {M : Type 1} → statement M
 fresh-objects-spec =

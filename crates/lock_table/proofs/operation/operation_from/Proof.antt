@@ -1,11 +1,11 @@
 -- `lock_table::operation::operation_from` meets its contract: each way through the code is that of the definition.
 use borrow.Author.Tests.{eq-eqb, ne-eqb}
-use Rattle.lock_table.specs.Operation.{operationFromOf}
+use Rattle.lock_table.specs.Operation.{operation-from}
 use Rattle.lock_table.proofs.operation.operation_from.Statement.{statement}
 use Rattle.lock_table.proofs.operation.operation_from.Tie as tie
 
 pub operation-from-spec : {M : Type 1} → statement M
-unfolding operationFromOf
+unfolding operation-from
 operation-from-spec =
     tie.close
     (tie.spec

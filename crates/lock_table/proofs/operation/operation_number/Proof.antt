@@ -1,11 +1,11 @@
 -- `lock_table::operation::operation_number` meets its contract: each way through the code is that of the definition.
 use borrow.Author.Needs.{needs}
-use Rattle.lock_table.specs.Operation.{operationNumberOf}
+use Rattle.lock_table.specs.Operation.{operation-number}
 use Rattle.lock_table.proofs.operation.operation_number.Statement.{statement}
 use Rattle.lock_table.proofs.operation.operation_number.Tie as tie
 
 pub operation-number-spec : {M : Type 1} → statement M
-unfolding operationNumberOf
+unfolding operation-number
 operation-number-spec =
     tie.close
     (tie.spec

@@ -1,11 +1,11 @@
 -- `lock_table::phase::carried_number` meets its contract: each way through the code is that of the definition.
 use borrow.Author.Needs.{needs}
-use Rattle.lock_table.specs.Phase.{carriedNumberOf}
+use Rattle.lock_table.specs.Phase.{carried-number}
 use Rattle.lock_table.proofs.phase.carried_number.Statement.{statement}
 use Rattle.lock_table.proofs.phase.carried_number.Tie as tie
 
 pub carried-number-spec : {M : Type 1} → statement M
-unfolding carriedNumberOf
+unfolding carried-number
 carried-number-spec =
     tie.close
     (tie.spec

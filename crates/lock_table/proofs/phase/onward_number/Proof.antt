@@ -1,11 +1,11 @@
 -- `lock_table::phase::onward_number` meets its contract: each way through the code is that of the definition.
 use borrow.Author.Needs.{needs}
-use Rattle.lock_table.specs.Phase.{onwardNumberOf}
+use Rattle.lock_table.specs.Phase.{onward-number}
 use Rattle.lock_table.proofs.phase.onward_number.Statement.{statement}
 use Rattle.lock_table.proofs.phase.onward_number.Tie as tie
 
 pub onward-number-spec : {M : Type 1} → statement M
-unfolding onwardNumberOf
+unfolding onward-number
 onward-number-spec =
     tie.close
     (tie.spec

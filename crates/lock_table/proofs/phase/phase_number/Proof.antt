@@ -1,11 +1,11 @@
 -- `lock_table::phase::phase_number` meets its contract: each way through the code is that of the definition.
 use borrow.Author.Needs.{needs}
-use Rattle.lock_table.specs.Phase.{phaseNumberOf}
+use Rattle.lock_table.specs.Phase.{phase-number}
 use Rattle.lock_table.proofs.phase.phase_number.Statement.{statement}
 use Rattle.lock_table.proofs.phase.phase_number.Tie as tie
 
 pub phase-number-spec : {M : Type 1} → statement M
-unfolding phaseNumberOf
+unfolding phase-number
 phase-number-spec =
     tie.close
     (tie.spec

@@ -1,11 +1,11 @@
 -- `lock_word::meaning::cancel_read` meets its contract: each way through the code is that of the definition.
 use borrow.Author.Needs.{needs}
-use Rattle.lock_word.specs.Meaning.{cancelReadOf}
+use Rattle.lock_word.specs.Meaning.{cancel-read}
 use Rattle.lock_word.proofs.meaning.cancel_read.Statement.{statement}
 use Rattle.lock_word.proofs.meaning.cancel_read.Tie as tie
 
 pub cancel-read-spec : {M : Type 1} → statement M
-unfolding cancelReadOf
+unfolding cancel-read
 cancel-read-spec =
     tie.close
     (tie.spec

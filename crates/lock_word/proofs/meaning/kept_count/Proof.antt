@@ -1,11 +1,11 @@
 -- `lock_word::meaning::kept_count` meets its contract: each way through the code is that of the definition.
 use borrow.Author.Needs.{needs}
-use Rattle.lock_word.specs.Meaning.{keptCountOf}
+use Rattle.lock_word.specs.Meaning.{kept-count}
 use Rattle.lock_word.proofs.meaning.kept_count.Statement.{statement}
 use Rattle.lock_word.proofs.meaning.kept_count.Tie as tie
 
 pub kept-count-spec : {M : Type 1} → statement M
-unfolding keptCountOf
+unfolding kept-count
 kept-count-spec =
     tie.close
     (tie.spec

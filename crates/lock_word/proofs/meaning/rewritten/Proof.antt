@@ -1,11 +1,11 @@
 -- `lock_word::meaning::rewritten` meets its contract: each way through the code is that of the definition.
 use borrow.Author.Needs.{needs}
-use Rattle.lock_word.specs.Meaning.{rewrittenOf}
+use Rattle.lock_word.specs.Meaning.{rewritten-of}
 use Rattle.lock_word.proofs.meaning.rewritten.Statement.{statement}
 use Rattle.lock_word.proofs.meaning.rewritten.Tie as tie
 
 pub rewritten-spec : {M : Type 1} → statement M
-unfolding rewrittenOf
+unfolding rewritten-of
 rewritten-spec =
     tie.close
     (tie.spec

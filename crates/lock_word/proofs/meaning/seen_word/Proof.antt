@@ -1,11 +1,11 @@
 -- `lock_word::meaning::seen_word` meets its contract: each way through the code is that of the definition.
 use borrow.Author.Needs.{needs}
-use Rattle.lock_word.specs.Meaning.{seenOf}
+use Rattle.lock_word.specs.Meaning.{seen-word}
 use Rattle.lock_word.proofs.meaning.seen_word.Statement.{statement}
 use Rattle.lock_word.proofs.meaning.seen_word.Tie as tie
 
 pub seen-word-spec : {M : Type 1} → statement M
-unfolding seenOf
+unfolding seen-word
 seen-word-spec =
     tie.close
     (tie.spec

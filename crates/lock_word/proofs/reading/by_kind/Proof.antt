@@ -1,11 +1,11 @@
 -- `lock_word::reading::by_kind` meets its contract: each way through the code is that of the definition.
 use borrow.Author.Tests.{eq-eqb, ne-eqb}
-use Rattle.lock_word.specs.KindTable.{byKindOf}
+use Rattle.lock_word.specs.KindTable.{by-kind}
 use Rattle.lock_word.proofs.reading.by_kind.Statement.{statement}
 use Rattle.lock_word.proofs.reading.by_kind.Tie as tie
 
 pub by-kind-spec : {M : Type 1} → statement M
-unfolding byKindOf
+unfolding by-kind
 by-kind-spec =
     tie.close
     (tie.spec

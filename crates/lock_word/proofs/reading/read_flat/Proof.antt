@@ -1,11 +1,11 @@
 -- `lock_word::reading::read_flat` meets its contract: each way through the code is that of the definition.
 use borrow.Author.Tests.{eq-eqb, ne-eqb}
-use Rattle.lock_word.specs.Read.{flatOf}
+use Rattle.lock_word.specs.Read.{read-flat}
 use Rattle.lock_word.proofs.reading.read_flat.Statement.{statement}
 use Rattle.lock_word.proofs.reading.read_flat.Tie as tie
 
 pub read-flat-spec : {M : Type 1} → statement M
-unfolding flatOf
+unfolding read-flat
 read-flat-spec =
     tie.close
     (tie.spec

@@ -1,11 +1,11 @@
 -- `lock_word::writing::write_word` meets its contract: each way through the code is that of the definition.
 use borrow.Author.Needs.{needs}
-use Rattle.lock_word.specs.Write.{encodeOf}
+use Rattle.lock_word.specs.Write.{write-word}
 use Rattle.lock_word.proofs.writing.write_word.Statement.{statement}
 use Rattle.lock_word.proofs.writing.write_word.Tie as tie
 
 pub write-word-spec : {M : Type 1} → statement M
-unfolding encodeOf
+unfolding write-word
 write-word-spec =
     tie.close
     (tie.spec

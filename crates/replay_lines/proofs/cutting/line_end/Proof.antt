@@ -3,19 +3,19 @@ use Prim.Native.Nat.{_-_}
 use mathlib.Core.Path.{_≡_, sym, _∙_}
 use lib.ListN.{length, drop}
 use borrow.Author.Needs.{needs}
-use Rattle.replay_lines.specs.Cutting.{lineEnd}
+use Rattle.replay_lines.specs.Cutting.{line-end}
 use Rattle.replay_lines.proofs.LineEnd.{counted-from, counted-first, end-none, end-here, end-later}
 use Rattle.replay_lines.proofs.cutting.line_end.Statement.{statement}
 use Rattle.replay_lines.proofs.cutting.line_end.Tie as tie
 
 abbrev Inv-loop : tie.InvT-loop
-Inv-loop input at₀ at = lineEnd input ≡ counted-from at (lineEnd (drop at input))
+Inv-loop input at₀ at = line-end input ≡ counted-from at (line-end (drop at input))
 
 abbrev μ-loop : tie.MeasureT-loop
 μ-loop input at₀ at = length input - at
 
 loop-holds : tie.Need-loop-holds Inv-loop μ-loop
-loop-holds c = counted-first (lineEnd (c .args .input .now))
+loop-holds c = counted-first (line-end (c .args .input .now))
 
 returns : tie.Need-returns Inv-loop μ-loop
 returns c =

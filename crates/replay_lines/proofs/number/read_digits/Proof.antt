@@ -4,14 +4,14 @@ use mathlib.Core.Path.{_≡_, sym, _∙_}
 use native.Mathlib.Omega.{arith}
 use lib.ListN.{length, drop, getD}
 use borrow.Author.Needs.{needs}
-use Rattle.replay_lines.specs.Number.{number-limit, digitsFrom}
+use Rattle.replay_lines.specs.Number.{number-limit, read-digits}
 use Rattle.replay_lines.proofs.Fields.{digit-low, digit-high, digits-end, digits-stop, digits-over, digits-more}
 use Rattle.replay_lines.proofs.number.read_digits.Statement.{statement}
 use Rattle.replay_lines.proofs.number.read_digits.Tie as tie
 
 abbrev Inv-loop : tie.InvT-loop
 Inv-loop text first value₀ length₀ value at =
-    (value ≤ number-limit) × (digitsFrom value at (drop at text) ≡ digitsFrom first 1 (drop 1 text))
+    (value ≤ number-limit) × (read-digits value at (drop at text) ≡ read-digits first 1 (drop 1 text))
 
 abbrev μ-loop : tie.MeasureT-loop
 μ-loop text first value₀ length₀ value at = length text - at

@@ -4,19 +4,19 @@ use native.Mathlib.Omega.{arith}
 use lib.ListN.{drop, length-drop}
 use borrow.Author.Needs.{needs}
 use borrow.Author.Tests.{eq-eqb, ne-eqb}
-use Rattle.replay_lines.specs.Number.{fieldOf}
+use Rattle.replay_lines.specs.Number.{read-field}
 use Rattle.replay_lines.proofs.Fields.{rest-of, no-bytes, first-byte, number-within, found-within}
 use Rattle.replay_lines.proofs.number.read_field.Statement.{statement}
 use Rattle.replay_lines.proofs.number.read_field.Tie as tie
 
 returns-2 : tie.Need-returns-2
-unfolding fieldOf
+unfolding read-field
 returns-2 c =
     let some = c .before .before in
     rw (first-byte (some .before .before .args .text .now) (some .if1 .left)) (simp (ne-eqb _ _ (c .if2 .taken)))
 
 returns-3 : tie.Need-returns-3
-unfolding fieldOf
+unfolding read-field
 returns-3 c =
     let read = c .before .before in
     let some = read .before .before .before .before in
@@ -34,7 +34,7 @@ add-length c =
     omega (arith, fits, length-drop 1 text, start .good)
 
 returns-4 : tie.Need-returns-4
-unfolding fieldOf
+unfolding read-field
 returns-4 c =
     let read = c .before .before .before in
     let some = read .before .before .before .before in
@@ -43,7 +43,7 @@ returns-4 c =
     rw (first-byte text (some .if1 .left)) (simp (eq-eqb _ _ (read .before .before .if2 .left), found))
 
 pub read-field-spec : {M : Type 1} → statement M
-unfolding fieldOf
+unfolding read-field
 read-field-spec =
     tie.close
     (tie.spec

@@ -2,7 +2,7 @@
 use mathlib.Core.Path.{sym, _∙_}
 use borrow.Author.Needs.{needs}
 use borrow.Author.Tests.{eq-eqb, ne-eqb}
-use Rattle.replay_lines.specs.Grammar.{beginOf}
+use Rattle.replay_lines.specs.Grammar.{read-begin}
 use Rattle.replay_lines.proofs.Grammar.{field-fits, field-next}
 use Rattle.replay_lines.proofs.reading.read_begin.Statement.{statement}
 use Rattle.replay_lines.proofs.reading.read_begin.Tie as tie
@@ -13,7 +13,7 @@ fits c =
     field-fits (read .before .before .before .args .text .now) (read .read-field .ensures) (c .before .value .given .1)
 
 pub read-begin-spec : {M : Type 1} → statement M
-unfolding beginOf
+unfolding read-begin
 read-begin-spec =
     tie.close
     (tie.spec

@@ -1,7 +1,7 @@
 -- `replay_lines::reading::read_begin_object` meets its contract: the object, then the end.
 use mathlib.Core.Path.{sym, _∙_}
 use borrow.Author.Needs.{needs}
-use Rattle.replay_lines.specs.Grammar.{beginObjectOf}
+use Rattle.replay_lines.specs.Grammar.{read-begin-object}
 use Rattle.replay_lines.proofs.Grammar.{field-fits, field-next}
 use Rattle.replay_lines.proofs.reading.read_begin_object.Statement.{statement}
 use Rattle.replay_lines.proofs.reading.read_begin_object.Tie as tie
@@ -12,14 +12,14 @@ fits c =
     field-fits (read .before .before .args .text .now) (read .read-field .ensures) (c .before .value .given .1)
 
 returns-2 : tie.Need-returns-2
-unfolding beginObjectOf
+unfolding read-begin-object
 returns-2 c =
     let found = c .before .before .before in
     let read = found .before .before in
     c .end-line .ensures ∙ field-next (read .before .before .args .text .now) (read .read-field .ensures) (found .value .given .1) _
 
 pub read-begin-object-spec : {M : Type 1} → statement M
-unfolding beginObjectOf
+unfolding read-begin-object
 read-begin-object-spec =
     tie.close
     (tie.spec

@@ -1,7 +1,7 @@
 -- `replay_lines::reading::read_header_objects` meets its contract: the objects, then the rest.
 use mathlib.Core.Path.{sym, _∙_}
 use borrow.Author.Needs.{needs}
-use Rattle.replay_lines.specs.Grammar.{headerObjectsOf}
+use Rattle.replay_lines.specs.Grammar.{read-header-objects}
 use Rattle.replay_lines.proofs.Grammar.{field-fits, field-next}
 use Rattle.replay_lines.proofs.reading.read_header_objects.Statement.{statement}
 use Rattle.replay_lines.proofs.reading.read_header_objects.Tie as tie
@@ -12,14 +12,14 @@ fits c =
     field-fits (read .before .before .args .text .now) (read .read-field .ensures) (c .before .value .given .1)
 
 returns-2 : tie.Need-returns-2
-unfolding headerObjectsOf
+unfolding read-header-objects
 returns-2 c =
     let found = c .before .before .before in
     let read = found .before .before in
     c .read-header-reserved .ensures ∙ field-next (read .before .before .args .text .now) (read .read-field .ensures) (found .value .given .1) _
 
 pub read-header-objects-spec : {M : Type 1} → statement M
-unfolding headerObjectsOf
+unfolding read-header-objects
 read-header-objects-spec =
     tie.close
     (tie.spec

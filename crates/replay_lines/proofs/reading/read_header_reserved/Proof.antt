@@ -2,7 +2,7 @@
 use mathlib.Core.Path.{sym, _∙_}
 use borrow.Author.Needs.{needs}
 use borrow.Author.Tests.{lt-ltb, le-ltb}
-use Rattle.replay_lines.specs.Grammar.{headerReservedOf}
+use Rattle.replay_lines.specs.Grammar.{read-header-reserved}
 use Rattle.replay_lines.proofs.Fields.{rest-of}
 use Rattle.replay_lines.proofs.Grammar.{field-fits}
 use Rattle.replay_lines.proofs.reading.read_header_reserved.Statement.{statement}
@@ -14,7 +14,7 @@ fits c =
     field-fits (read .before .before .args .text .now) (read .read-field .ensures) (c .before .before .value .given .1)
 
 pub read-header-reserved-spec : {M : Type 1} → statement M
-unfolding headerReservedOf
+unfolding read-header-reserved
 read-header-reserved-spec =
     tie.close
     (tie.spec

@@ -1,20 +1,20 @@
 -- `replay_lines::reading::read_line` meets its contract: the letter picks the reader, which gets the part behind it.
 use borrow.Author.Needs.{needs}
 use borrow.Author.Tests.{eq-eqb, ne-eqb}
-use Rattle.replay_lines.specs.Grammar.{lineOf}
+use Rattle.replay_lines.specs.Grammar.{read-line}
 use Rattle.replay_lines.proofs.Fields.{rest-of, no-bytes, first-byte}
 use Rattle.replay_lines.proofs.reading.read_line.Statement.{statement}
 use Rattle.replay_lines.proofs.reading.read_line.Tie as tie
 
 returns-2 : tie.Need-returns-2
-unfolding lineOf
+unfolding read-line
 returns-2 c =
     let some = c .before .before .before .before in
     let line = some .before .before .args .line .now in
     rw (first-byte line (some .if1 .left)) (simp (eq-eqb _ _ (c .before .if2 .taken)) (rw (rest-of 1 line) at (c .read-header .ensures)))
 
 returns-3 : tie.Need-returns-3
-unfolding lineOf
+unfolding read-line
 returns-3 c =
     let some = c .before .before .before .before .before in
     let line = some .before .before .args .line .now in
@@ -22,7 +22,7 @@ returns-3 c =
     (simp (ne-eqb _ _ (c .before .before .if2 .left), eq-eqb _ _ (c .before .if3 .taken)) (rw (rest-of 1 line) at (c .read-step .ensures)))
 
 returns-4 : tie.Need-returns-4
-unfolding lineOf
+unfolding read-line
 returns-4 c =
     let tests = c .before .before in
     let some = tests .before .before .before .before in
@@ -32,7 +32,7 @@ returns-4 c =
     (rw (rest-of 1 line, c .before .operation-of .ensures) at (c .read-begin .ensures)))
 
 pub read-line-spec : {M : Type 1} → statement M
-unfolding lineOf
+unfolding read-line
 read-line-spec =
     tie.close
     (tie.spec

@@ -1,11 +1,11 @@
 -- `replay_session::reacting::closing_by` meets its contract: each way through the code is that of the definition.
 use borrow.Author.Needs.{needs}
-use Rattle.replay_session.specs.Session.{closingBy}
+use Rattle.replay_session.specs.Session.{closing-by}
 use Rattle.replay_session.proofs.reacting.closing_by.Statement.{statement}
 use Rattle.replay_session.proofs.reacting.closing_by.Tie as tie
 
 pub closing-by-spec : {M : Type 1} → statement M
-unfolding closingBy
+unfolding closing-by
 closing-by-spec =
     tie.close
     (tie.spec

@@ -1,11 +1,11 @@
 -- `replay_session::reacting::open_by` meets its contract: each way through the code is that of the definition.
 use borrow.Author.Needs.{needs}
-use Rattle.replay_session.specs.Session.{openOf}
+use Rattle.replay_session.specs.Session.{open-by}
 use Rattle.replay_session.proofs.reacting.open_by.Statement.{statement}
 use Rattle.replay_session.proofs.reacting.open_by.Tie as tie
 
 pub open-by-spec : {M : Type 1} → statement M
-unfolding openOf
+unfolding open-by
 open-by-spec =
     tie.close
     (tie.spec

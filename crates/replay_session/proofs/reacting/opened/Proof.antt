@@ -1,11 +1,11 @@
 -- `replay_session::reacting::opened` meets its contract: each way through the code is that of the definition.
 use borrow.Author.Needs.{needs}
-use Rattle.replay_session.specs.Session.{openedBy}
+use Rattle.replay_session.specs.Session.{opened-by}
 use Rattle.replay_session.proofs.reacting.opened.Statement.{statement}
 use Rattle.replay_session.proofs.reacting.opened.Tie as tie
 
 pub opened-spec : {M : Type 1} → statement M
-unfolding openedBy
+unfolding opened-by
 opened-spec =
     tie.close
     (tie.spec

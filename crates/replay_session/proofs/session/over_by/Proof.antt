@@ -1,11 +1,11 @@
 -- `replay_session::session::over_by` meets its contract: each way through the code is that of the definition.
 use borrow.Author.Needs.{needs}
-use Rattle.replay_session.specs.Session.{overBy}
+use Rattle.replay_session.specs.Session.{over-by}
 use Rattle.replay_session.proofs.session.over_by.Statement.{statement}
 use Rattle.replay_session.proofs.session.over_by.Tie as tie
 
 pub over-by-spec : {M : Type 1} → statement M
-unfolding overBy
+unfolding over-by
 over-by-spec =
     tie.close
     (tie.spec

@@ -4,7 +4,7 @@ use mathlib.Core.List.{List, _++_}
 use Prim.Native.Nat.{ℕ}
 use native.Mathlib.Omega.{arith}
 use borrow.Author.Needs.{needs}
-use Rattle.replay_lines.specs.Grammar.{lineOf}
+use Rattle.replay_lines.specs.Grammar.{read-line}
 use Rattle.replay_session.specs.declared.session.Session.{Session}
 use Rattle.replay_session.specs.Session.{session-replay}
 use Rattle.replay_parts.proofs.Whole.{end-inside, end-empty, end-piece, end-part}
@@ -48,7 +48,7 @@ returns-3 c =
     let none = start .pre .1 in
     let turned = turn .take-line .ensures in
     let end = closed .close3 .ensures in
-    let printed = session-replay .prints (start .args .session) (lineOf input) in
+    let printed = session-replay .prints (start .args .session) (read-line input) in
     rw (c .ended3 .ensures, test .before .if1 .left)
     (end-part none
     (end-piece session-replay (start .args .session) input none (test .if2 .left)

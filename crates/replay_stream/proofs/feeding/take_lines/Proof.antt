@@ -1,56 +1,157 @@
 -- `replay_stream::feeding::take_lines` meets its contract: each turn takes the first line of the rest, and the table is as sound as it was.
-use mathlib.Core.Path.{_≡_, sym, _∙_}
+use mathlib.Core.Path.{sym, _∙_}
 use mathlib.Core.Logic.{inl, inr}
+use native.Mathlib.Omega.{arith}
 use lib.ListN.{length}
 use borrow.Author.Needs.{needs}
+use borrow.Author.Tests.{not-false}
+use Rattle.laws.proofs.Choice.{either-way}
+use Rattle.lock_table.specs.Limits.{thread-limit, object-limit}
+use Rattle.lock_engine.proofs.InPlace.{Taken, none-wait, stored-so, worked-so}
+use Rattle.lock_table.proofs.Places.{place-inside}
 use Rattle.replay_lines.proofs.Lines.{line-fits, line-length, rest-shorter}
-use Rattle.replay_session.specs.Session.{session-replay}
-use Rattle.replay_session.specs.Known.{soundSession}
-use Rattle.replay_parts.proofs.Turn.{Going, going-first, going-next, going-stops}
+use Rattle.replay_session.proofs.OwnedSession.{session-whole}
+use Rattle.replay_parts.proofs.Turn.{going-first, going-stops}
+use Rattle.replay_stream.proofs.Known.{whole-by}
+use Rattle.replay_stream.proofs.InPlace.{line-in-place}
+use Rattle.replay_stream.proofs.Turned.{Between, next-line}
 use Rattle.replay_stream.proofs.feeding.take_lines.Statement.{statement}
 use Rattle.replay_stream.proofs.feeding.take_lines.Tie as tie
 
 abbrev Inv-loop : tie.InvT-loop
-Inv-loop input out₀ issound session₀ rest₀ wrote₀ out session rest wrote =
-    Going session-replay session₀ input out₀ out session rest wrote × (issound ≡ soundSession session)
+Inv-loop input out₀ issound stage₀ table₀ rest₀ wrote₀ out stage table rest wrote =
+    Between (record { stage = stage₀; table = table₀ }) input out₀ issound out (record { stage = stage; table = table }) rest wrote
 
 abbrev μ-loop : tie.MeasureT-loop
-μ-loop input out₀ issound session₀ rest₀ wrote₀ out session rest wrote = length rest
+μ-loop input out₀ issound stage₀ table₀ rest₀ wrote₀ out stage table rest wrote = length rest
+
+loop-holds : tie.Need-loop-holds Inv-loop μ-loop
+loop-holds c =
+    let start = c .before .before .before .before in (
+      going-first _ _ _ _,
+      c .before .session-sound .ensures,
+      whole-by (start .args .start .stage) (session-whole (start .args .start) _ (start .good .0)),
+    )
 
 returns : tie.Need-returns Inv-loop μ-loop
 returns c =
-    let loop = c .before .before .before in
-    λ last goes-on.
-    going-stops (loop .loop .inv .0) (inr (sym (c .before .line-end .ensures) ∙ c .if1 .taken)) (loop .before .before .before .before .pre) goes-on
+    let stop = c .before in
+    let loop = stop .before .before .before in
+    rw (c .progressed .ensures)
+    (λ last goes-on.
+    going-stops (loop .loop .inv .0) (inr (sym (stop .before .line-end .ensures) ∙ stop .if1 .taken)) (loop .before .before .before .before .before .pre) goes-on)
 
-line-count : tie.Need-slice-aggregate-take-line Inv-loop μ-loop
+line-count : tie.Need-slice-aggregate-read-line Inv-loop μ-loop
 line-count c =
     let end = c .before .before in
     line-length (end .line-end .result) (end .before .before .loop .rest .now) (end .line-end .ensures)
 
 fits : tie.Need-sub-rest Inv-loop μ-loop
 fits c =
-    let end = c .before .before .before .before .before .before .before in
+    let end = c .before .before .before in
     line-fits (end .line-end .result) (end .before .before .loop .rest .now) (end .line-end .ensures)
 
 loop-less : tie.Need-loop-less Inv-loop μ-loop
 loop-less c =
-    let test = c .before .before .before .before .before .before .before in
+    let test = c .before .before .before .before .before .before .before .before .before .before .before .before in
     let end = test .before in
     rest-shorter (end .line-end .result) (end .before .before .loop .rest .now) (end .line-end .ensures) (test .if1 .left)
 
+-- a line that is no event of a running session
 loop-again : tie.Need-loop-again Inv-loop μ-loop
 loop-again c =
-    let turn = c .before .before .before .before in
-    let test = turn .before .before .before in
-    let turned = turn .take-line .ensures in
-    let (going, known) = test .before .before .before .loop .inv in (
-      going-next going (test .before .line-end .ensures) (test .if1 .left) (turned .moved) (turned .front) (turned .within) (turn .take-line .kept .1 .1 .1 .0),
-      known ∙ sym (turned .sound-kept),
-    )
+    let put = c .before .before in
+    let react = put .before .before .before .before in
+    let read = react .before .before .before .before in
+    let test = read .before .before in
+    let end = test .before in
+    let loop = end .before .before in
+    next-line (loop .loop .inv) (end .line-end .ensures) (test .if1 .left) (end .before .loop-test .taken)
+    (rw (read .read-line .ensures) at (react .react-trusting .ensures)) (put .put-answer .ensures) (put .put-answer .kept .0)
+
+place-in : tie.Need-element-copy-out-own Inv-loop μ-loop
+place-in c = rw (c .thread-place .ensures) (place-inside thread-limit _ (omega arith))
+
+home-in : tie.Need-element-copy-out-object Inv-loop μ-loop
+home-in c = rw (c .object-place .ensures) (place-inside object-limit _ (omega arith))
+
+loop-less-2 : tie.Need-loop-less-2 Inv-loop μ-loop
+loop-less-2 c =
+    let test = c .before .before .before .before .before .before .before .before .before .before .before .before .before .before .before .before .before .before .before .before .before .before .before .before in
+    let end = test .before in
+    rest-shorter (end .line-end .result) (end .before .before .loop .rest .now) (end .line-end .ensures) (test .if1 .left)
+
+loop-again-2 : tie.Need-loop-again-2 Inv-loop μ-loop
+loop-again-2 c =
+    let stay = c .before in
+    let put = stay .before .before .before in
+    let turned = put .before .before .before .before .before in
+    let joined = turned .before in
+    let home = joined .before .before .before in
+    let number = home .before in
+    let place = number .before .before in
+    let asks = place .before .before in
+    let runs = asks .before .before in
+    let read = runs .before .before in
+    let test = read .before .before in
+    let end = test .before in
+    let loop = end .before .before in
+    let taken : Taken (loop .loop .table) (asks .line-event .result) _ (place .before .event-thread .result) (place .thread-place .result) (number .event-object .result) (home .object-place .result) (joined .if3 .waiters) (turned .take-turn .result) = record {
+      thread-is = place .before .event-thread .ensures;
+      place-is = place .thread-place .ensures;
+      number-is = number .event-object .ensures;
+      home-is = home .object-place .ensures;
+      waiters-are = either-way (joined .if3 .came) (λ some. some .2 ∙ some .1 .ensures) (λ none. none .1 ∙ none-wait _ (none .0 .left));
+      turn-is = turned .take-turn .ensures;
+    } in
+    let (going, known, whole) = loop .loop .inv in
+    next-line (loop .loop .inv) (end .line-end .ensures) (test .if1 .left) (end .before .loop-test .taken)
+    (line-in-place (loop .loop .stage) taken (sym (runs .runs-event .ensures) ∙ not-false (runs .runs-event .result) (asks .before .if2 .left))
+    (read .read-line .ensures) (asks .line-event .ensures) known whole
+    (stored-so taken (sym (stay .stays .ensures) ∙ c .if4 .taken)) (put .before .turn-answer .ensures))
+    (put .put-answer2 .ensures) (put .put-answer2 .kept .0)
+
+loop-less-3 : tie.Need-loop-less-3 Inv-loop μ-loop
+loop-less-3 c =
+    let test = c .before .before .before .before .before .before .before .before .before .before .before .before .before .before .before .before .before .before .before .before .before .before .before .before .before in
+    let end = test .before in
+    rest-shorter (end .line-end .result) (end .before .before .loop .rest .now) (end .line-end .ensures) (test .if1 .left)
+
+loop-again-3 : tie.Need-loop-again-3 Inv-loop μ-loop
+loop-again-3 c =
+    let stay = c .before .before in
+    let put = stay .before .before .before in
+    let turned = put .before .before .before .before .before in
+    let joined = turned .before in
+    let home = joined .before .before .before in
+    let number = home .before in
+    let place = number .before .before in
+    let asks = place .before .before in
+    let runs = asks .before .before in
+    let read = runs .before .before in
+    let test = read .before .before in
+    let end = test .before in
+    let loop = end .before .before in
+    let taken : Taken (loop .loop .table) (asks .line-event .result) _ (place .before .event-thread .result) (place .thread-place .result) (number .event-object .result) (home .object-place .result) (joined .if3 .waiters) (turned .take-turn .result) = record {
+      thread-is = place .before .event-thread .ensures;
+      place-is = place .thread-place .ensures;
+      number-is = number .event-object .ensures;
+      home-is = home .object-place .ensures;
+      waiters-are = either-way (joined .if3 .came) (λ some. some .2 ∙ some .1 .ensures) (λ none. none .1 ∙ none-wait _ (none .0 .left));
+      turn-is = turned .take-turn .ensures;
+    } in
+    let (going, known, whole) = loop .loop .inv in
+    next-line (loop .loop .inv) (end .line-end .ensures) (test .if1 .left) (end .before .loop-test .taken)
+    (line-in-place (loop .loop .stage) taken (sym (runs .runs-event .ensures) ∙ not-false (runs .runs-event .result) (asks .before .if2 .left))
+    (read .read-line .ensures) (asks .line-event .ensures) known whole
+    (worked-so taken (sym (stay .stays .ensures) ∙ c .before .if4 .left) (c .work-done .ensures)) (put .before .turn-answer .ensures))
+    (put .put-answer2 .ensures) (put .put-answer2 .kept .0)
 
 returns-2 : tie.Need-returns-2 Inv-loop μ-loop
-returns-2 c = λ last goes-on. going-stops (c .before .loop .inv .0) (inl (c .loop-test .left)) (c .before .before .before .before .before .pre) goes-on
+returns-2 c =
+    let loop = c .before .before in
+    rw (c .progressed2 .ensures)
+    (λ last goes-on. going-stops (loop .loop .inv .0) (inl (c .before .loop-test .left)) (loop .before .before .before .before .before .pre) goes-on)
 
 pub take-lines-spec : {M : Type 1} → statement M
 take-lines-spec =
@@ -59,19 +160,47 @@ take-lines-spec =
     Inv-loop
     μ-loop
     (λ c κs. tt)
-    (λ c. (going-first _ _ _ _, c .session-sound .ensures))
+    loop-holds
     (λ c. search needs)
     (λ c κs. tt)
-    (λ c. search needs)
+    (λ c. c .before .before .before .loop .inv .0 .rest-within)
+    (λ c κs. tt)
     (λ c. search needs)
     returns
     line-count
-    (λ c κs. (search needs, c .before .before .before .before .before .loop .inv .1))
+    (λ c κs. tt)
     fits
     fits
     (λ c. search needs)
+    (λ c κs. tt)
+    (λ c κs. tt)
+    (λ c κs. tt)
     loop-less
     loop-again
-    (λ c. search needs)
+    (λ c κs. tt)
+    (λ c κs. tt)
+    (λ c κs. tt)
+    (λ c. let inside = place-in c in omega (arith, inside))
+    place-in
+    (λ c κs. tt)
+    (λ c κs. tt)
+    (λ c. let inside = home-in c in omega (arith, inside))
+    home-in
+    (λ c κs. tt)
+    (λ c κs. tt)
+    (λ c κs. tt)
+    (λ c κs. tt)
+    (λ c κs. tt)
+    (λ c. let inside = place-in (c .before .before .before .before .before .before .before .before .before .before .before .before .before .before .before .before) in omega (arith, inside))
+    (λ c. place-in (c .before .before .before .before .before .before .before .before .before .before .before .before .before .before .before .before))
+    (λ c. let inside = home-in (c .before .before .before .before .before .before .before .before .before .before .before .before .before) in omega (arith, inside))
+    (λ c. home-in (c .before .before .before .before .before .before .before .before .before .before .before .before .before))
+    loop-less-2
+    loop-again-2
+    (λ c κs. tt)
+    loop-less-3
+    loop-again-3
+    (λ c. c .before .loop .inv .0 .rest-within)
+    (λ c κs. tt)
     (λ c. search needs)
     returns-2)

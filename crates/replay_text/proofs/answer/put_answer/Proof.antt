@@ -1,12 +1,12 @@
 -- `replay_text::answer::put_answer` meets its contract: each answer has its own line, or none.
 use borrow.Author.Needs.{needs}
-use Rattle.replay_text.specs.Text.{answerText}
+use Rattle.replay_text.specs.Text.{answer-text}
 use Rattle.replay_text.proofs.Room.{put-nothing}
 use Rattle.replay_text.proofs.answer.put_answer.Statement.{statement}
 use Rattle.replay_text.proofs.answer.put_answer.Tie as tie
 
 pub put-answer-spec : {M : Type 1} → statement M
-unfolding answerText
+unfolding answer-text
 put-answer-spec =
     tie.close
     (tie.spec

@@ -1,7 +1,7 @@
 -- `replay_text::answer::put_field` meets its contract: the number, and the byte behind it.
 use native.Mathlib.Omega.{arith}
 use borrow.Author.Needs.{needs}
-use Rattle.replay_text.specs.Text.{fieldText}
+use Rattle.replay_text.specs.Text.{field-text}
 use Rattle.replay_text.proofs.Lengths.{decimal-fits}
 use Rattle.replay_text.proofs.Stores.{wrote-both}
 use Rattle.replay_text.proofs.answer.put_field.Statement.{statement}
@@ -14,7 +14,7 @@ put-byte-requires c κs =
     omega (arith, number .put-decimal .ensures .place, decimal-fits (start .args .number), number .put-decimal .kept .0, start .pre)
 
 returns : tie.Need-returns
-unfolding fieldText
+unfolding field-text
 returns c =
     let end = c .before .before in
     let number = end .before .before .before .before in

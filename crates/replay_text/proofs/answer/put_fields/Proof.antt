@@ -1,12 +1,12 @@
 -- `replay_text::answer::put_fields` meets its contract: three fields and the word, one behind the other.
 use borrow.Author.Needs.{needs}
-use Rattle.replay_text.specs.Text.{answerLine}
+use Rattle.replay_text.specs.Text.{answer-line}
 use Rattle.replay_text.proofs.Stores.{wrote-both}
 use Rattle.replay_text.proofs.answer.put_fields.Statement.{statement}
 use Rattle.replay_text.proofs.answer.put_fields.Tie as tie
 
 returns : tie.Need-returns
-unfolding answerLine
+unfolding answer-line
 returns c =
     let word = c .before .before in
     let woken = word .before .before .before .before in

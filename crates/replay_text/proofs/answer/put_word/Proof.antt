@@ -1,7 +1,7 @@
 -- `replay_text::answer::put_word` meets its contract: the digits, and the newline behind them.
 use native.Mathlib.Omega.{arith}
 use borrow.Author.Needs.{needs}
-use Rattle.replay_text.specs.Text.{wordText}
+use Rattle.replay_text.specs.Text.{word-text}
 use Rattle.replay_text.proofs.Stores.{digits-length, wrote-both}
 use Rattle.replay_text.proofs.answer.put_word.Statement.{statement}
 use Rattle.replay_text.proofs.answer.put_word.Tie as tie
@@ -13,7 +13,7 @@ put-byte-requires c κs =
     omega (arith, rw (digits-length) at (word .put-digits .ensures .place), word .put-digits .kept .0, start .pre)
 
 pub put-word-spec : {M : Type 1} → statement M
-unfolding wordText
+unfolding word-text
 put-word-spec =
     tie.close
     (tie.spec

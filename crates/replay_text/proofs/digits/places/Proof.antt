@@ -1,11 +1,11 @@
 -- `replay_text::digits::places` meets its contract: each way through the code is that of the definition.
 use Rattle.laws.proofs.Choice.{tests}
-use Rattle.replay_text.specs.Digits.{placesOf}
+use Rattle.replay_text.specs.Digits.{places-of}
 use Rattle.replay_text.proofs.digits.places.Statement.{statement}
 use Rattle.replay_text.proofs.digits.places.Tie as tie
 
 pub places-spec : {M : Type 1} → statement M
-unfolding placesOf
+unfolding places-of
 places-spec =
     tie.close
     (tie.spec

@@ -1,11 +1,11 @@
 -- `table_bytes::reading::carried_known` meets its contract: each way through the code is that of the definition.
 use borrow.Author.Tests.{eq-eqb, ne-eqb}
-use Rattle.table_bytes.specs.Reading.{carriedKnown}
+use Rattle.table_bytes.specs.Reading.{carried-known}
 use Rattle.table_bytes.proofs.reading.carried_known.Statement.{statement}
 use Rattle.table_bytes.proofs.reading.carried_known.Tie as tie
 
 pub carried-known-spec : {M : Type 1} → statement M
-unfolding carriedKnown
+unfolding carried-known
 carried-known-spec =
     tie.close
     (tie.spec

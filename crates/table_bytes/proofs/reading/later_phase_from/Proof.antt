@@ -1,11 +1,11 @@
 -- `table_bytes::reading::later_phase_from` meets its contract: each way through the code is that of the definition.
 use borrow.Author.Tests.{eq-eqb, ne-eqb}
-use Rattle.table_bytes.specs.Reading.{laterPhaseFrom}
+use Rattle.table_bytes.specs.Reading.{later-phase-from}
 use Rattle.table_bytes.proofs.reading.later_phase_from.Statement.{statement}
 use Rattle.table_bytes.proofs.reading.later_phase_from.Tie as tie
 
 pub later-phase-from-spec : {M : Type 1} → statement M
-unfolding laterPhaseFrom
+unfolding later-phase-from
 later-phase-from-spec =
     tie.close
     (tie.spec

@@ -1,5 +1,9 @@
--- `table_bytes::reading::object_from` meets its contract: each way through the code is that of the definition.
+-- `table_bytes::reading::object_from` meets its contract: the part that is lent begins with the record.
+use mathlib.Core.Path.{ap, _∙_}
 use borrow.Author.Needs.{needs}
+use Rattle.table_bytes.specs.Layout.{object-layout, object-start}
+use Rattle.table_bytes.specs.Reading.{object-of}
+use Rattle.table_bytes.proofs.Rows.{read-part}
 use Rattle.table_bytes.proofs.reading.object_from.Statement.{statement}
 use Rattle.table_bytes.proofs.reading.object_from.Tie as tie
 
@@ -10,17 +14,8 @@ object-from-spec =
     (λ c. search needs)
     (λ c. search needs)
     (λ c. search needs)
-    (λ c κs. search needs)
     (λ c. search needs)
-    (λ c κs. tt)
-    (λ c. search needs)
-    (λ c κs. tt)
-    (λ c. search needs)
-    (λ c κs. tt)
-    (λ c. search needs)
-    (λ c κs. tt)
     (λ c. search needs)
     (λ c κs. search needs)
-    (λ c. search needs)
-    (λ c κs. tt)
-    (λ c. simp (c .byte-at5 .ensures, c .before .word-at .ensures, c .before .before .byte-at4 .ensures, c .before .before .before .byte-at3 .ensures, c .before .before .before .before .byte-at2 .ensures, c .before .before .before .before .before .byte-at .ensures, c .before .before .before .before .before .before .half-at .ensures)))
+    (λ c. let args = c .before .before .before .args in
+    c .object-of .ensures ∙ ap object-of (read-part object-layout (args .bytes .now) (object-start (args .place)))))

@@ -6,12 +6,12 @@ use borrow.Author.Needs.{needs}
 use borrow.Author.Tests.{not-true, not-false}
 use Rattle.laws.specs.Every.{all-below}
 use Rattle.laws.proofs.Every.{all-step, all-end}
-use Rattle.table_bytes.specs.Reading.{objectKnown}
+use Rattle.table_bytes.specs.Reading.{object-known, object-numbers}
 use Rattle.table_bytes.proofs.reading.objects_known.Statement.{statement}
 use Rattle.table_bytes.proofs.reading.objects_known.Tie as tie
 
 abbrev Inv-loop : tie.InvT-loop
-Inv-loop bytes left₀ left = (left ≤ 64) × (all-below 64 (objectKnown bytes) ≡ all-below left (objectKnown bytes))
+Inv-loop bytes left₀ left = (left ≤ 64) × (all-below 64 (λ place. object-known (object-numbers bytes place)) ≡ all-below left (λ place. object-known (object-numbers bytes place)))
 
 abbrev μ-loop : tie.MeasureT-loop
 μ-loop bytes left₀ left = left
@@ -38,7 +38,7 @@ objects-known-spec =
     μ-loop
     (λ c. (omega arith, refl))
     (λ c. search needs)
-    (λ c κs. tt)
+    (λ c κs. search needs)
     unknown
     (λ c. omega arith)
     loop-again

@@ -1,11 +1,11 @@
 -- `table_bytes::reading::phase_from` meets its contract: each way through the code is that of the definition.
 use borrow.Author.Tests.{eq-eqb, ne-eqb}
-use Rattle.table_bytes.specs.Reading.{phaseFrom}
+use Rattle.table_bytes.specs.Reading.{phase-from}
 use Rattle.table_bytes.proofs.reading.phase_from.Statement.{statement}
 use Rattle.table_bytes.proofs.reading.phase_from.Tie as tie
 
 pub phase-from-spec : {M : Type 1} → statement M
-unfolding phaseFrom
+unfolding phase-from
 phase-from-spec =
     tie.close
     (tie.spec

@@ -1,5 +1,9 @@
--- `table_bytes::reading::thread_from` meets its contract: each way through the code is that of the definition.
+-- `table_bytes::reading::thread_from` meets its contract: the part that is lent begins with the record.
+use mathlib.Core.Path.{ap, _∙_}
 use borrow.Author.Needs.{needs}
+use Rattle.table_bytes.specs.Layout.{thread-layout, thread-start}
+use Rattle.table_bytes.specs.Reading.{thread-of}
+use Rattle.table_bytes.proofs.Rows.{read-part}
 use Rattle.table_bytes.proofs.reading.thread_from.Statement.{statement}
 use Rattle.table_bytes.proofs.reading.thread_from.Tie as tie
 
@@ -10,19 +14,8 @@ thread-from-spec =
     (λ c. search needs)
     (λ c. search needs)
     (λ c. search needs)
-    (λ c κs. search needs)
+    (λ c. search needs)
     (λ c. search needs)
     (λ c κs. search needs)
-    (λ c. search needs)
-    (λ c κs. tt)
-    (λ c. search needs)
-    (λ c κs. tt)
-    (λ c. search needs)
-    (λ c κs. tt)
-    (λ c κs. tt)
-    (λ c. search needs)
-    (λ c κs. tt)
-    (λ c. search needs)
-    (λ c κs. tt)
-    (λ c κs. tt)
-    (λ c. simp (c .phase-from .ensures, c .before .byte-at5 .ensures, c .before .before .byte-at4 .ensures, c .before .before .before .operation-from .ensures, c .before .before .before .before .byte-at3 .ensures, c .before .before .before .before .before .byte-at2 .ensures, c .before .before .before .before .before .before .byte-at .ensures, c .before .before .before .before .before .before .before .half-at .ensures, c .before .before .before .before .before .before .before .before .word-at .ensures)))
+    (λ c. let args = c .before .before .before .args in
+    c .thread-of .ensures ∙ ap thread-of (read-part thread-layout (args .bytes .now) (thread-start (args .place)))))

@@ -6,12 +6,12 @@ use borrow.Author.Needs.{needs}
 use borrow.Author.Tests.{not-true, not-false}
 use Rattle.laws.specs.Every.{all-below}
 use Rattle.laws.proofs.Every.{all-step, all-end}
-use Rattle.table_bytes.specs.Reading.{threadKnown}
+use Rattle.table_bytes.specs.Reading.{thread-known, thread-numbers}
 use Rattle.table_bytes.proofs.reading.threads_known.Statement.{statement}
 use Rattle.table_bytes.proofs.reading.threads_known.Tie as tie
 
 abbrev Inv-loop : tie.InvT-loop
-Inv-loop bytes left₀ left = (left ≤ 32) × (all-below 32 (threadKnown bytes) ≡ all-below left (threadKnown bytes))
+Inv-loop bytes left₀ left = (left ≤ 32) × (all-below 32 (λ place. thread-known (thread-numbers bytes place)) ≡ all-below left (λ place. thread-known (thread-numbers bytes place)))
 
 abbrev μ-loop : tie.MeasureT-loop
 μ-loop bytes left₀ left = left
@@ -38,7 +38,7 @@ threads-known-spec =
     μ-loop
     (λ c. (omega arith, refl))
     (λ c. search needs)
-    (λ c κs. tt)
+    (λ c κs. search needs)
     unknown
     (λ c. omega arith)
     loop-again

@@ -1,10 +1,10 @@
 -- `table_bytes::writing::flag_byte` meets its contract: each way through the code is that of the definition.
-use Rattle.table_bytes.specs.Writing.{flagByte}
+use Rattle.table_bytes.specs.Layout.{flag-byte}
 use Rattle.table_bytes.proofs.writing.flag_byte.Statement.{statement}
 use Rattle.table_bytes.proofs.writing.flag_byte.Tie as tie
 
 pub flag-byte-spec : {M : Type 1} → statement M
-unfolding flagByte
+unfolding flag-byte
 flag-byte-spec =
     tie.close
     (tie.spec

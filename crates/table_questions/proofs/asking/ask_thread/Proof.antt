@@ -1,5 +1,5 @@
 -- `table_questions::asking::ask_thread` meets its contract: the question put to the table that the bytes say; a number is the same narrowed.
-use Rattle.table_bytes.specs.Reading.{isTable, tableOf}
+use Rattle.table_bytes.specs.Reading.{is-table, table-of}
 use Rattle.table_questions.proofs.Narrow.{narrow-thread}
 use Rattle.table_questions.proofs.asking.ask_thread.Statement.{statement}
 use Rattle.table_questions.proofs.asking.ask_thread.Tie as tie
@@ -17,4 +17,4 @@ ask-thread-spec =
     let given = read .before .before .before .args in
     let bytes = given .bytes .now in
     simp (c .thread-in .ensures, c .before .narrow .ensures, read .read-table .ensures, read .before .is-table .ensures)
-    (narrow-thread (isTable bytes) (tableOf bytes) (given .question) (given .thread))))
+    (narrow-thread (is-table bytes) (table-of bytes) (given .question) (given .thread))))

@@ -1,11 +1,11 @@
 -- `table_questions::asking::blocker` meets its contract: each way through the code is that of the definition.
 use borrow.Author.Tests.{eq-eqb, ne-eqb}
-use Rattle.table_questions.specs.Questions.{blockerOf}
+use Rattle.table_questions.specs.Questions.{blocker-of}
 use Rattle.table_questions.proofs.asking.blocker.Statement.{statement}
 use Rattle.table_questions.proofs.asking.blocker.Tie as tie
 
 pub blocker-spec : {M : Type 1} → statement M
-unfolding blockerOf
+unfolding blocker-of
 blocker-spec =
     tie.close
     (tie.spec

@@ -1,12 +1,12 @@
 -- `table_questions::asking::holder_blocks` meets its contract: each way through the code is that of the definition.
 use borrow.Author.Needs.{needs}
 use borrow.Author.Tests.{eq-eqb, ne-eqb}
-use Rattle.table_questions.specs.Questions.{holderBlocks}
+use Rattle.table_questions.specs.Questions.{holder-blocks}
 use Rattle.table_questions.proofs.asking.holder_blocks.Statement.{statement}
 use Rattle.table_questions.proofs.asking.holder_blocks.Tie as tie
 
 pub holder-blocks-spec : {M : Type 1} → statement M
-unfolding holderBlocks
+unfolding holder-blocks
 holder-blocks-spec =
     tie.close
     (tie.spec

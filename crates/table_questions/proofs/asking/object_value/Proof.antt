@@ -1,11 +1,11 @@
 -- `table_questions::asking::object_value` meets its contract: each way through the code is that of the definition.
 use borrow.Author.Needs.{needs}
-use Rattle.table_questions.specs.Questions.{objectValue}
+use Rattle.table_questions.specs.Questions.{object-value}
 use Rattle.table_questions.proofs.asking.object_value.Statement.{statement}
 use Rattle.table_questions.proofs.asking.object_value.Tie as tie
 
 pub object-value-spec : {M : Type 1} → statement M
-unfolding objectValue
+unfolding object-value
 object-value-spec =
     tie.close
     (tie.spec

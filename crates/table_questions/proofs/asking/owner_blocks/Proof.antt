@@ -1,11 +1,11 @@
 -- `table_questions::asking::owner_blocks` meets its contract: each way through the code is that of the definition.
 use borrow.Author.Tests.{eq-eqb, ne-eqb}
-use Rattle.table_questions.specs.Questions.{ownerBlocks}
+use Rattle.table_questions.specs.Questions.{owner-blocks}
 use Rattle.table_questions.proofs.asking.owner_blocks.Statement.{statement}
 use Rattle.table_questions.proofs.asking.owner_blocks.Tie as tie
 
 pub owner-blocks-spec : {M : Type 1} → statement M
-unfolding ownerBlocks
+unfolding owner-blocks
 owner-blocks-spec =
     tie.close
     (tie.spec

@@ -1,11 +1,11 @@
 -- `table_questions::asking::said` meets its contract: each way through the code is that of the definition.
 use borrow.Author.Needs.{needs}
-use Rattle.table_questions.specs.Questions.{saidOf}
+use Rattle.table_questions.specs.Questions.{said-of}
 use Rattle.table_questions.proofs.asking.said.Statement.{statement}
 use Rattle.table_questions.proofs.asking.said.Tie as tie
 
 pub said-spec : {M : Type 1} → statement M
-unfolding saidOf
+unfolding said-of
 said-spec =
     tie.close
     (tie.spec

@@ -1,11 +1,11 @@
 -- `table_questions::asking::thread_value` meets its contract: each way through the code is that of the definition.
 use borrow.Author.Needs.{needs}
-use Rattle.table_questions.specs.Questions.{threadValue}
+use Rattle.table_questions.specs.Questions.{thread-value}
 use Rattle.table_questions.proofs.asking.thread_value.Statement.{statement}
 use Rattle.table_questions.proofs.asking.thread_value.Tie as tie
 
 pub thread-value-spec : {M : Type 1} → statement M
-unfolding threadValue
+unfolding thread-value
 thread-value-spec =
     tie.close
     (tie.spec

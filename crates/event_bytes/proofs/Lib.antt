@@ -1,0 +1,2 @@
+-- The laws of events in bytes.
+pub mod Encoding

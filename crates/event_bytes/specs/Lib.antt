@@ -1,0 +1,2 @@
+-- Events in bytes.
+pub mod Encoding

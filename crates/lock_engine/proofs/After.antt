@@ -1,0 +1,141 @@
+-- What an event that is not refused leaves in the records of its thread and its object: those of its turn.
+use Prim.Native.Nat.{ℕ, _-_, _≤_, _<_}
+use mathlib.Core.Path.{_≡_, refl, sym, ap, _∙_, subst}
+use mathlib.Core.Logic.{_⊎_, inl, inr}
+use mathlib.Core.Bool.{Bool, true, false}
+use mathlib.Core.List.{List}
+use native.Mathlib.Omega.{arith}
+use lib.Dec.{eqb, ltb, leb}
+use lib.ListN.{getD}
+use Rattle.laws.specs.Choice.{pick}
+use Rattle.laws.proofs.Choice.{by-test, both-first}
+use Rattle.laws.proofs.Update.{update-same}
+use Rattle.lock_rules.specs.Numbers.{first-refusal, refusal-number}
+use Rattle.lock_rules.specs.Gate.{event-thread}
+use Rattle.lock_rules.specs.declared.event.Event.{Event}
+use Rattle.lock_rules.specs.declared.event.Event.the-variants.{Begin, Step}
+use Rattle.lock_rules.specs.declared.event.Refusal.{Refusal}
+use Rattle.lock_rules.specs.declared.event.Refusal.the-variants.{
+  NotSound,
+  NoSuchThread,
+  NoSuchObject,
+  NotIdle,
+  ThreadIdle,
+  ThreadParked,
+  NoSuchOperation,
+}
+use Rattle.lock_rules.specs.declared.event.Gate.{Gate}
+use Rattle.lock_rules.specs.declared.event.Gate.the-variants.{Open, Shut}
+use Rattle.lock_rules.specs.declared.ChainWork.{ChainWork}
+use Rattle.lock_rules.proofs.Gate.{Passed, by-gate}
+use Rattle.lock_table.specs.Limits.{thread-limit, object-limit}
+use Rattle.lock_table.specs.Record.{no-thread, with-next, with-monitor}
+use Rattle.lock_table.specs.Access.{thread-at, set-thread, object-at, set-object, next-of}
+use Rattle.lock_table.specs.declared.record.ThreadRecord.{ThreadRecord}
+use Rattle.lock_table.specs.declared.record.ObjectRecord.{ObjectRecord}
+use Rattle.lock_table.specs.declared.record.Table.{Table}
+use Rattle.lock_table.proofs.Records.{thread-set, object-set, thread-beside-object}
+use Rattle.lock_table.proofs.Places.{Has, Lacks, has?}
+use Rattle.lock_perform.specs.Moving.{carry-out}
+use Rattle.lock_perform.specs.Perform.{stays, work-done, settled}
+use Rattle.lock_soundness.specs.Sound.{sound-of}
+use Rattle.lock_engine.specs.Outcome.{reply-returned}
+use Rattle.lock_engine.specs.Turn.{gate-turn}
+use Rattle.lock_gate.specs.Status.{thread-status}
+use Rattle.lock_engine.specs.Handle.{event-object, trusted, handle-with, handle-trusting}
+use Rattle.lock_engine.specs.declared.outcome.Outcome.{Outcome}
+use Rattle.lock_engine.proofs.InPlace.{parts-of, keeps-object, shut-thread, own-in-place, number-in-place, object-in-place}
+use Rattle.lock_engine.proofs.InPlace.{gate-here, turn-here, own-here, object-here}
+use Rattle.lock_engine.proofs.Full.{Full, full-thread, full-carried}
+use Rattle.lock_engine.proofs.Narrow.{sizes}
+
+pub refusal-high : (refusal : Refusal) → first-refusal ≤ refusal-number refusal
+unfolding refusal-number
+refusal-high NotSound = omega arith
+refusal-high NoSuchThread = omega arith
+refusal-high NoSuchObject = omega arith
+refusal-high NotIdle = omega arith
+refusal-high ThreadIdle = omega arith
+refusal-high ThreadParked = omega arith
+refusal-high NoSuchOperation = omega arith
+
+-- both records are read as they were written
+both-read : (t : Table) → Full t → (n o : ℕ) (own : ThreadRecord) (object : ObjectRecord) → Has thread-limit n → Has object-limit o
+    → let after = set-object (set-thread t n own) o object in (thread-at after n ≡ own) × (object-at after o ≡ object)
+both-read t full n o own object (some, high) (real, small) = (
+  thread-beside-object (set-thread t n own) n o object
+      ∙ (ap (λ (f : ℕ → ThreadRecord). f n) (thread-set t n own (full .threads) (omega (arith, some)) high) ∙ update-same (thread-at t) n own),
+  ap (λ (f : ℕ → ObjectRecord). f o) (object-set (set-thread t n own) o object (full-thread n own full .objects) (omega (arith, real)) small)
+      ∙ update-same (object-at (set-thread t n own)) o object,
+)
+
+-- the phase and the word after a turn
+abbrev pub Leaves : ℕ → ℕ → ThreadRecord → ObjectRecord → Table → Type 0
+Leaves n o own object after = (thread-at after n .phase ≡ own .phase) × (object-at after o .word ≡ object .word)
+
+settled-leaves : (t : Table) → Full t → (n o : ℕ) (own : ThreadRecord) (object : ObjectRecord) (work : ChainWork) → Has thread-limit n
+    → Has object-limit o → Leaves n o own object (settled t n o own object work)
+settled-leaves t full n o own object work has-n has-o =
+    by-test (Leaves n o own object) (stays work)
+    (λ stay.
+    let (thread, home) = both-read t full n o own object has-n has-o in
+    (ap (λ (x : ThreadRecord). x .phase) thread, ap (λ (x : ObjectRecord). x .word) home))
+    (λ some.
+    let carried = carry-out t (object .monitor) work n o in
+    let (thread, home) = both-read (carried .table) (full-carried t (object .monitor) work n o full) n o
+    (with-next own (next-of (carried .table) n)) (with-monitor object (carried .monitor)) has-n has-o in
+    (ap (λ (x : ThreadRecord). x .phase) thread, ap (λ (x : ObjectRecord). x .word) home))
+
+module _ (t : Table) (event : Event) (issound : Bool) (known : issound ≡ sound-of t) where
+  abbrev pub Accepted : Type 0
+  Accepted = reply-returned (turn-here t event issound .reply) < first-refusal
+
+  pub has-thread : Accepted → Has thread-limit (event-thread event)
+  unfolding gate-turn reply-returned
+  has-thread low = at (has? thread-limit (event-thread event))
+    where
+      at : Has thread-limit (event-thread event) ⊎ Lacks thread-limit (event-thread event) → Has thread-limit (event-thread event)
+      at (inl has) = has
+      at (inr lacks) =
+          let (refusal, shut) = shut-thread issound (t .threadcount) (t .objectcount) event lacks in
+          absurd (omega (arith, refusal-high refusal, rw (shut (thread-status (own-in-place t event issound .phase))) at low))
+
+  -- what is said of an object that has no record is refused
+  refused-here : Lacks object-limit (number-in-place t event issound)
+      → reply-returned (parts-of (gate-here t event issound) event (own-in-place t event issound) .reply) < first-refusal → ⊥
+  unfolding reply-returned
+  refused-here lacks =
+      by-gate (trusted t issound) (t .threadcount) (t .objectcount)
+      (λ (gated : Gate). reply-returned (parts-of gated event (own-in-place t event issound) .reply) < first-refusal → ⊥)
+      (λ unsound low. omega (arith, refusal-high NotSound, low)) (λ refusal is high low. omega (arith, refusal-high refusal, low)) event
+      (thread-status (own-in-place t event issound .phase)) (λ is passed. at event (sym known ∙ both-first issound _ is) passed lacks)
+    where
+      at : (event : Event) → sound-of t ≡ true → Passed (t .threadcount) (t .objectcount) event (thread-status (own-in-place t event issound .phase))
+          → Lacks object-limit (number-in-place t event issound)
+          → reply-returned (parts-of Open event (own-in-place t event issound) .reply) < first-refusal → ⊥
+      at (Begin operation thread object) sound (low, high, known, real, small, idle) (inl none) accepted = omega (arith, real, none)
+      at (Begin operation thread object) sound (low, high, known, real, small, idle) (inr past) accepted =
+          let few = sizes t sound .1 in omega (arith, small, few, past)
+      at (Step thread) sound passed lacks accepted = omega (arith, refusal-high NotSound, accepted)
+
+  has-object : Accepted → Has object-limit (number-in-place t event issound)
+  has-object low = at (has? object-limit (number-in-place t event issound))
+    where
+      at : Has object-limit (number-in-place t event issound) ⊎ Lacks object-limit (number-in-place t event issound)
+          → Has object-limit (number-in-place t event issound)
+      at (inl has) = has
+      at (inr lacks) =
+          absurd
+          (refused-here lacks
+          (rw (keeps-object (gate-here t event issound) event (own-in-place t event issound) (object-in-place t event issound) _ lacks) at low))
+
+  pub event-leaves : Full t → Accepted
+      → Leaves (event-thread event) (number-in-place t event issound) (turn-here t event issound .own) (turn-here t event issound .object)
+      (handle-trusting t event issound .table)
+  unfolding handle-trusting
+  event-leaves full low =
+      let thread = has-thread low in
+      let object = has-object low in
+      rw (own-here t event issound thread, object-here t event issound object)
+      (settled-leaves t full (event-thread event) (number-in-place t event issound) (turn-here t event issound .own) (turn-here t event issound .object)
+      (turn-here t event issound .work) thread object)

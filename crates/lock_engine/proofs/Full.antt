@@ -1,0 +1,71 @@
+-- A table has thirty-two thread records and sixty-four object records, and every event keeps it so.
+use Prim.Native.Nat.{ℕ, zero, suc}
+use mathlib.Core.Path.{_≡_, ap, _∙_}
+use lib.Dec.{eqb}
+use lib.ListN.{length}
+use Rattle.laws.proofs.Choice.{by-test}
+use Rattle.lock_rules.specs.Gate.{event-thread}
+use Rattle.lock_rules.specs.declared.event.Event.{Event}
+use Rattle.lock_rules.specs.declared.ChainWork.{ChainWork}
+use Rattle.lock_table.specs.Limits.{thread-limit, object-limit}
+use Rattle.lock_table.specs.Access.{thread-at, set-thread, set-object, next-of}
+use Rattle.lock_table.specs.Chain.{hang, moved, move-all}
+use Rattle.lock_table.specs.declared.record.ThreadRecord.{ThreadRecord}
+use Rattle.lock_table.specs.declared.record.ObjectRecord.{ObjectRecord}
+use Rattle.lock_table.specs.declared.record.Monitor.{Monitor}
+use Rattle.lock_table.specs.declared.record.Table.{Table}
+use Rattle.lock_table.proofs.Records.{thread-beside, object-beside}
+use Rattle.lock_perform.specs.Moving.{relink, moved-whole, after-whole, carry-out}
+use Rattle.lock_perform.specs.Perform.{stays, settled}
+use Rattle.lock_perform.specs.declared.moving.CarriedOut.{CarriedOut}
+use Rattle.lock_engine.specs.Handle.{handle-trusting, handle}
+
+pub record Full (table : Table) : Type 0 where
+  pub threads : length (table .threads) ≡ thread-limit
+  pub objects : length (table .objects) ≡ object-limit
+
+-- writes to a record
+pub full-thread : {table : Table} (number : ℕ) (thread : ThreadRecord) → Full table → Full (set-thread table number thread)
+full-thread {table} number thread full =
+    let beside = thread-beside table number thread in
+    record { threads = beside .length-kept ∙ full .threads; objects = ap length (beside .objects) ∙ full .objects }
+
+pub full-object : {table : Table} (number : ℕ) (object : ObjectRecord) → Full table → Full (set-object table number object)
+full-object {table} number object full =
+    let beside = object-beside table number object in
+    record { threads = ap length (beside .threads) ∙ full .threads; objects = beside .length-kept ∙ full .objects }
+
+-- chains hung behind each other, and moved whole
+full-hang : (fuel : ℕ) (table : Table) (front back : ℕ) → Full table → Full (hang fuel table front back)
+unfolding hang
+full-hang zero table front back full = full
+full-hang (suc fuel) table front back full =
+    by-test Full (eqb front 0) (λ none. full)
+    (λ some. by-test Full (eqb (next-of table front) 0) (λ last. full-thread _ _ full) (λ more. full-hang fuel table (next-of table front) back full))
+
+full-move : (fuel : ℕ) (table : Table) (first : ℕ) → Full table → Full (move-all fuel table first)
+unfolding move-all
+full-move zero table first full = full
+full-move (suc fuel) table first full =
+    by-test Full (eqb first 0) (λ none. full)
+    (λ some. full-move fuel (set-thread table first (moved (thread-at table first))) (next-of table first) (full-thread _ _ full))
+
+full-relink : {table : Table} (monitor : Monitor) (work : ChainWork) (thread number : ℕ) → Full table → Full (relink table monitor work thread number .table)
+full-relink monitor work thread number full = full-hang thread-limit _ _ _ (full-thread _ _ full)
+
+pub full-carried : (table : Table) (monitor : Monitor) (work : ChainWork) (thread number : ℕ) → Full table
+    → Full (carry-out table monitor work thread number .table)
+unfolding after-whole
+full-carried table monitor work thread number full =
+    by-test (λ (after : CarriedOut). Full (after .table)) (eqb (moved-whole work monitor) 0) (λ none. full-relink monitor work thread number full)
+    (λ some. full-relink monitor work thread number (full-move thread-limit table (moved-whole work monitor) full))
+
+full-settled : (table : Table) (thread number : ℕ) (own : ThreadRecord) (object : ObjectRecord) (work : ChainWork) → Full table
+    → Full (settled table thread number own object work)
+full-settled table thread number own object work full =
+    by-test Full (stays work) (λ stay. full-object number object (full-thread thread own full))
+    (λ some. full-object _ _ (full-thread _ _ (full-carried table (object .monitor) work thread number full)))
+
+pub full-handle : (table : Table) (event : Event) → Full table → Full (handle table event .table)
+unfolding handle handle-trusting
+full-handle table event full = full-settled table (event-thread event) _ _ _ _ full

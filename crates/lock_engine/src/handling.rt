@@ -1,0 +1,112 @@
+// An event on a table: the two records that it touches are read in place, take their turn and are written back in place.
+use crate::outcome::Outcome;
+use crate::turning::Turn;
+use crate::turning::take_turn;
+use lock_perform::length_from;
+use lock_perform::stays;
+use lock_perform::work_done;
+use lock_rules::Event;
+use lock_table::THREADS;
+use lock_table::Table;
+use lock_table::object_place;
+use lock_table::thread_place;
+ghost use mathlib.Core.Path.{_≡_};
+ghost use Rattle.lock_rules.specs.Gate.{event-thread};
+ghost use Rattle.lock_engine.specs.Handle.{event-object, handle-trusting, handle, begin, step};
+
+pub fn event_thread(event: Event) -> u8
+    ensures { λ r. ⌜ r ≡ event-thread event ⌝ }
+{
+    match event {
+        Event::Begin {
+            operation: _,
+            thread,
+            object: _,
+        } => thread,
+        Event::Step { thread } => thread,
+    }
+}
+
+// The object that an event is about, where the thread's operation is on this one.
+pub fn event_object(event: Event, object: u8) -> u8
+    ensures { λ r. ⌜ r ≡ event-object event object ⌝ }
+{
+    match event {
+        Event::Begin {
+            operation: _,
+            thread: _,
+            object: named,
+        } => named,
+        Event::Step { thread: _ } => object,
+    }
+}
+
+// 11. For a caller that knows whether the table is sound.
+pub fn handle_trusting(table: Table, event: Event, issound: bool) -> Outcome
+    ensures { λ r. ⌜ r ≡ handle-trusting table event issound ⌝ }
+{
+    let mut changed = table;
+    let thread = event_thread(event);
+    let place = thread_place(thread);
+    let own = changed.threads[place];
+    let number = event_object(event, own.object);
+    let home = object_place(number);
+    let object = changed.objects[home];
+    let mut waiters: u8 = 0;
+    if object.monitor.waiting != 0 {
+        waiters = length_from(changed, object.monitor.waiting);
+    }
+    let issound = issound & (changed.threadcount <= THREADS);
+    let turn = take_turn(
+        issound,
+        changed.threadcount,
+        changed.objectcount,
+        event,
+        own,
+        object,
+        waiters,
+    );
+    let ownafter = turn.own;
+    let objectafter = turn.object;
+    let work = turn.work;
+    let reply = turn.reply;
+    if stays(work) {
+        changed.threads[place] = ownafter;
+        changed.objects[home] = objectafter;
+    } else {
+        changed = work_done(changed, thread, number, ownafter, objectafter, work);
+    }
+    Outcome {
+        table: changed,
+        reply: reply,
+        commits: turn.commits,
+    }
+}
+
+// Every event on every table.
+pub fn handle(table: Table, event: Event) -> Outcome
+    ensures { λ r. ⌜ r ≡ handle table event ⌝ }
+{
+    handle_trusting(table, event, lock_soundness::sound(table))
+}
+
+// The thread begins the operation with this number on the object.
+pub fn begin(table: Table, thread: u8, operation: u8, object: u8) -> Outcome
+    ensures { λ r. ⌜ r ≡ begin table thread operation object ⌝ }
+{
+    handle(
+        table,
+        Event::Begin {
+            operation: operation,
+            thread: thread,
+            object: object,
+        },
+    )
+}
+
+// The thread takes one step.
+pub fn step(table: Table, thread: u8) -> Outcome
+    ensures { λ r. ⌜ r ≡ step table thread ⌝ }
+{
+    handle(table, Event::Step { thread: thread })
+}

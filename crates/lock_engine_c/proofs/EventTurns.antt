@@ -1,0 +1,29 @@
+-- An event by its turn: what the code's locals are when the turn has been stored gives what the definitions say.
+use Prim.Native.Nat.{ℕ}
+use mathlib.Core.Path.{_≡_, refl, _∙_}
+use mathlib.Core.Bool.{Bool}
+use mathlib.Core.List.{List}
+use Rattle.lock_rules.specs.Gate.{event-thread}
+use Rattle.lock_rules.specs.declared.event.Event.{Event}
+use Rattle.lock_table.specs.Access.{thread-at, object-at}
+use Rattle.lock_table.specs.declared.record.ThreadRecord.{ThreadRecord}
+use Rattle.lock_table.specs.declared.record.ObjectRecord.{ObjectRecord}
+use Rattle.lock_table.specs.declared.record.Table.{Table}
+use Rattle.lock_soundness.specs.Sound.{sound-of}
+use Rattle.lock_engine.specs.Outcome.{reply-returned, reply-woken}
+use Rattle.lock_engine.specs.Handle.{event-object, turn-with, handle-trusting, handle}
+use Rattle.lock_engine.specs.declared.turning.Turn.{Turn}
+use Rattle.lock_engine_c.specs.Calls.{packed-of, outcome-answer, reply-changes, event-number, event-turn, store-turn}
+
+module _ (event : Event) {first table : Table} {thread number : ℕ} {own : ThreadRecord} {object : ObjectRecord} {issound : Bool} {turn : Turn}
+    (table-is : table ≡ first) (thread-is : thread ≡ event-thread event) (own-is : own ≡ thread-at table thread)
+    (number-is : number ≡ event-object event (own .object)) (object-is : object ≡ object-at table number) (sound-is : issound ≡ sound-of table)
+    (turn-is : turn ≡ turn-with table event issound own object) where
+  pub turn-answers : packed-of (reply-returned (turn .reply)) (reply-woken (turn .reply)) (turn .commits) ≡ outcome-answer (handle first event)
+  unfolding handle handle-trusting
+  turn-answers = rw (turn-is, sound-is, object-is, number-is, own-is, thread-is, table-is) refl
+
+  pub turn-stores : (bytes : List ℕ)
+      → store-turn bytes table thread number turn (reply-changes (turn .reply))
+      ≡ store-turn bytes first (event-thread event) (event-number first event) (event-turn first event) (reply-changes (event-turn first event .reply))
+  turn-stores bytes = rw (turn-is, sound-is, object-is, number-is, own-is, thread-is, table-is) refl

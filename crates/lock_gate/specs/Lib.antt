@@ -1,0 +1,2 @@
+-- What the gate looks at.
+pub mod Status

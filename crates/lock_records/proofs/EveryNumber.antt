@@ -1,0 +1,178 @@
+-- What holds of a sound table at every number, in range or not: numbers out of range have the empty record. And what a thread's state says of its record.
+use Prim.Native.Nat.{ℕ, zero, suc, _≤_, _<_}
+use mathlib.Core.Path.{_≡_, refl, sym, ap, _∙_, subst}
+use mathlib.Core.Logic.{_≢_, _⊎_, inl, inr}
+use mathlib.Core.Bool.{Bool, true, false}
+use native.Mathlib.Omega.{arith}
+use lib.Dec.{ltb, leb}
+use Rattle.laws.specs.Count.{count}
+use Rattle.laws.proofs.Choice.{equal?, Below, below, AtMost, at-most}
+use Rattle.laws.proofs.Count.{count-none}
+use Rattle.chains.proofs.Chain.{Chain as Linked, members-none, chain-once}
+use Rattle.lock_rules.specs.Numbers.{phase-of}
+use Rattle.lock_rules.specs.declared.Doing.{Doing}
+use Rattle.lock_rules.specs.declared.ThreadState.{ThreadState}
+use Rattle.lock_rules.specs.declared.ThreadState.the-variants.{Idle, Running}
+use Rattle.lock_rules.proofs.Tables.{ListThread, seen-from, seen-here}
+use Rattle.chains.specs.declared.named.Chain.{Chain}
+use Rattle.lock_rules.proofs.ListChains.{times-in, seen-or-at}
+use Rattle.lock_table.specs.Limits.{thread-limit, object-limit}
+use Rattle.lock_table.specs.Phase.{phase-number}
+use Rattle.lock_table.specs.Record.{no-thread, no-monitor, no-object}
+use Rattle.lock_table.specs.Access.{thread-at, object-at, next-of, phase-number-at}
+use Rattle.lock_table.specs.Parked.{chain-named, thread-chain, first-in, chain-first}
+use Rattle.lock_table.specs.declared.record.ThreadRecord.{ThreadRecord}
+use Rattle.lock_table.specs.declared.record.Table.{Table}
+use Rattle.lock_table.proofs.Records.{thread-none, thread-past, object-beyond}
+use Rattle.lock_perform.specs.State.{read-thread}
+use Rattle.lock_soundness.specs.Sound.{sound-of}
+use Rattle.sound_records.proofs.Reading.{Within}
+use Rattle.lock_soundness.proofs.Reading.{threads-in-chain, Sound}
+use Rattle.lock_soundness.proofs.Chained.{leads-chain}
+use Rattle.lock_soundness.proofs.Reading.{sound-reads}
+use Rattle.lock_records.proofs.Naming.{
+  chain-number,
+  chain-number-low,
+  chain-number-high,
+  running-names-none,
+  idle-by-phase,
+  idle-never,
+  named-once,
+  unnamed-never,
+}
+use Rattle.lock_records.proofs.ReadBack.{IsWritten, fits-written, none-written, state-back, phase-back}
+
+-- a thread's record read as a thread of a table with lists
+abbrev pub thread-read : Table → ℕ → ListThread
+thread-read t n = record { object = thread-at t n .object; state = read-thread (thread-at t n) }
+
+object-none : (t : Table) → object-at t 0 ≡ no-object
+unfolding object-at
+object-none t = refl
+
+-- no chain of the empty record has a thread
+no-first : (chain : Chain) → first-in no-monitor (chain-number chain) ≡ 0
+unfolding first-in
+no-first Chain.Entry = refl
+no-first Chain.Contention = refl
+no-first Chain.Waiting = refl
+
+-- records by number, of which those in use are 1 to `last`: any other is empty
+by-range : {A : Type 0} (at : ℕ → A) (none : A) (last limit : ℕ) → at 0 ≡ none → ((n : ℕ) → limit < n → at n ≡ none)
+    → ((n : ℕ) → 1 ≤ n → n ≤ limit → last < n → at n ≡ none) → (n : ℕ) → Within 1 last n ⊎ (at n ≡ none)
+by-range at none last limit first beyond past n = by (equal? n 0) (leb n last) (at-most n last) (ltb limit n) (below limit n)
+  where
+    by : (n ≡ 0) ⊎ (n ≢ 0) → (used : Bool) → AtMost used n last → (far : Bool) → Below far limit n → Within 1 last n ⊎ (at n ≡ none)
+    by (inl zero-it-is) used is-used far is-far = inr (ap at zero-it-is ∙ first)
+    by (inr some) true is-used far is-far = inl (omega (arith, some), is-used)
+    by (inr some) false unused true is-far = inr (beyond n is-far)
+    by (inr some) false unused false near = inr (past n (omega (arith, some)) near unused)
+
+module _ (t : Table) (sound : Sound t) where
+  pub thread-where : (n : ℕ) → Within 1 (t .threadcount) n ⊎ (thread-at t n ≡ no-thread)
+  thread-where = by-range (thread-at t) no-thread (t .threadcount) thread-limit (thread-none t) (thread-past t) (sound .threads-past)
+
+  pub object-where : (o : ℕ) → Within 1 (t .objectcount) o ⊎ (object-at t o ≡ no-object)
+  object-where = by-range (object-at t) no-object (t .objectcount) object-limit (object-none t) (object-beyond t) (sound .objects-past)
+
+  -- every thread record is a fine state, written
+  pub written-at : (n : ℕ) → IsWritten (t .objectcount) n (thread-at t n)
+  written-at n = at (thread-where n)
+    where
+      at : Within 1 (t .threadcount) n ⊎ (thread-at t n ≡ no-thread) → IsWritten (t .objectcount) n (thread-at t n)
+      at (inl (low, high)) =
+          fits-written (t .objectcount) n (low, omega (arith, high, sound .sizes .0 .1)) (thread-at t n)
+          (sound .threads n low high)
+      at (inr empty) = subst (IsWritten (t .objectcount) n) (sym empty) (none-written (t .objectcount) n)
+
+  -- the state that it is read as has its phase
+  pub phase-at : (n : ℕ) → phase-number-at t n ≡ phase-of (read-thread (thread-at t n))
+  phase-at n =
+      phase-back (t .objectcount) n (thread-at t n) (written-at n)
+      ∙ ap phase-of (sym (state-back (t .objectcount) n (thread-at t n) (written-at n)))
+
+  pub named-at : (n : ℕ) → thread-chain (thread-at t n) ≡ chain-named (phase-of (read-thread (thread-at t n)))
+  named-at n = ap chain-named (phase-at n)
+
+  -- a thread whose phase names no chain has no next index
+  pub no-next-at : (n : ℕ) → thread-chain (thread-at t n) ≡ 0 → next-of t n ≡ 0
+  no-next-at n none = at (thread-where n)
+    where
+      at : Within 1 (t .threadcount) n ⊎ (thread-at t n ≡ no-thread) → next-of t n ≡ 0
+      at (inl (low, high)) = sound .threads n low high .unused .next none
+      at (inr empty) = ap (λ (thread : ThreadRecord). thread .next) empty
+
+  -- each chain ends; its members are threads of the table, at its object in a phase that names it
+  pub chain-at : (o : ℕ) (chain : Chain) → Linked (next-of t) (chain-first t o (chain-number chain)) (threads-in-chain t o (chain-number chain))
+  chain-at o chain = at (object-where o)
+    where
+      at : Within 1 (t .objectcount) o ⊎ (object-at t o ≡ no-object)
+          → Linked (next-of t) (chain-first t o (chain-number chain)) (threads-in-chain t o (chain-number chain))
+      at (inl (low, high)) =
+          leads-chain (t .threadcount) (next-of t) (chain-first t o (chain-number chain))
+          (sound .chains-end o low high (chain-number chain) (chain-number-low chain) (chain-number-high chain))
+      at (inr empty) = rw (empty, no-first chain, members-none (t .threadcount) (next-of t)) refl
+
+  pub members-at : (o : ℕ) (chain : Chain) (n : ℕ) → 0 < count n (threads-in-chain t o (chain-number chain))
+      → (thread-at t n .object ≡ o) × (thread-chain (thread-at t n) ≡ chain-number chain)
+  members-at o chain n inside = at (object-where o)
+    where
+      at : Within 1 (t .objectcount) o ⊎ (object-at t o ≡ no-object) → (thread-at t n .object ≡ o) × (thread-chain (thread-at t n) ≡ chain-number chain)
+      at (inl (low, high)) = sound .no-others o low high (chain-number chain) (chain-number-low chain) (chain-number-high chain) n inside
+      at (inr empty) = absurd (omega (arith, count-none n, rw (empty, no-first chain, members-none (t .threadcount) (next-of t)) at inside))
+
+  -- a thread whose phase names a chain is in that chain of its object
+  pub parked-at : (chain : Chain) (n : ℕ) → thread-chain (thread-at t n) ≡ chain-number chain
+      → 0 < count n (threads-in-chain t (thread-at t n .object) (chain-number chain))
+  parked-at chain n names = at (thread-where n)
+    where
+      some : thread-chain (thread-at t n) ≢ 0
+      some none = omega (arith, none, names, chain-number-low chain)
+
+      at : Within 1 (t .threadcount) n ⊎ (thread-at t n ≡ no-thread) → 0 < count n (threads-in-chain t (thread-at t n .object) (chain-number chain))
+      at (inl (low, high)) =
+          subst (λ (k : ℕ). 0 < count n (threads-in-chain t (thread-at t n .object) k)) names (sound .parked n low high some)
+      at (inr empty) = absurd (some (ap thread-chain empty ∙ no-chain))
+        where
+          no-chain : thread-chain no-thread ≡ 0
+          no-chain = unfold chain-named phase-number in refl
+
+  -- so each thread is in each chain as often as its state, seen from there, says
+  pub counted-at : (o : ℕ) (chain : Chain) (n : ℕ)
+      → count n (threads-in-chain t o (chain-number chain)) ≡ times-in chain (seen-from o (thread-read t n))
+  counted-at o chain n = at (count n (threads-in-chain t o (chain-number chain))) refl (seen-or-at o (thread-read t n))
+    where
+      state : ThreadState
+      state = read-thread (thread-at t n)
+
+      once : count n (threads-in-chain t o (chain-number chain)) ≤ 1
+      once = chain-once (next-of t) (chain-first t o (chain-number chain)) (threads-in-chain t o (chain-number chain)) n (chain-at o chain)
+
+      unnamed : count n (threads-in-chain t o (chain-number chain)) ≡ 0 → thread-at t n .object ≡ o → chain-named (phase-of state) ≢ chain-number chain
+      unnamed none here names = omega (arith, none, rw here at (parked-at chain n (named-at n ∙ names)))
+
+      at : (times : ℕ) → count n (threads-in-chain t o (chain-number chain)) ≡ times → (seen-from o (thread-read t n) ≡ Idle) ⊎ (thread-at t n .object ≡ o)
+          → count n (threads-in-chain t o (chain-number chain)) ≡ times-in chain (seen-from o (thread-read t n))
+      at (suc times) e seen =
+          let (here, names) = members-at o chain n (omega (arith, e)) in
+          let one : count n (threads-in-chain t o (chain-number chain)) ≡ 1 = omega (arith, e, once) in
+          one ∙ sym (ap (times-in chain) (seen-here o (thread-read t n) here) ∙ named-once chain state (sym (named-at n) ∙ names))
+      at zero e (inl idle) = e ∙ sym (ap (times-in chain) idle ∙ idle-never chain)
+      at zero e (inr here) = e ∙ sym (ap (times-in chain) (seen-here o (thread-read t n) here) ∙ unnamed-never chain state (unnamed e here))
+
+-- What the state that a record is read as says of it, in a table that passes the test.
+module _ (t : Table) (sound : sound-of t ≡ true) (n : ℕ) where
+  pub phase-of-state : phase-number-at t n ≡ phase-of (read-thread (thread-at t n))
+  phase-of-state = phase-at t (sound-reads t sound) n
+
+  pub idle-phase : read-thread (thread-at t n) ≡ Idle → phase-number-at t n ≡ 0
+  idle-phase idle = phase-of-state ∙ ap phase-of idle
+
+  pub phase-idle : phase-number-at t n ≡ 0 → read-thread (thread-at t n) ≡ Idle
+  phase-idle e = idle-by-phase (read-thread (thread-at t n)) (sym phase-of-state ∙ e)
+
+  -- a thread that can take a step is in no chain, so its next index is 0
+  pub running-next : (doing : Doing) → read-thread (thread-at t n) ≡ Running doing → next-of t n ≡ 0
+  running-next doing running =
+      no-next-at t (sound-reads t sound) n
+      (named-at t (sound-reads t sound) n ∙ ap (λ (state : ThreadState). chain-named (phase-of state)) running ∙ running-names-none doing)

@@ -1,0 +1,116 @@
+-- A fine state is written as soundness asks of one thread record.
+use Prim.Native.Nat.{ℕ, _-_, _≤_}
+use mathlib.Core.Path.{_≡_, refl}
+use mathlib.Core.Bool.{Bool, true}
+use native.Mathlib.Omega.{arith}
+use lib.Dec.{T}
+use borrow.Author.Tests.{eq-eqb, le-leb}
+use Rattle.laws.specs.Choice.{within}
+use Rattle.lock_word.specs.Layout.{count-limit}
+use Rattle.lock_word.specs.Read.{read-word, thread-number}
+use Rattle.lock_word.specs.Write.{write-word, InRange, reserved-word}
+use Rattle.lock_word.specs.declared.reading.LockWord.the-variants.{Reserved}
+use Rattle.lock_word.specs.declared.reading.Decoded.the-variants.{Valid}
+use Rattle.lock_word.proofs.RoundTrip.{meaning-of-word}
+use Rattle.lock_rules.specs.Numbers.{phase-of}
+use Rattle.lock_rules.specs.Rules.{onward}
+use Rattle.lock_rules.specs.Status.{unfinished}
+use Rattle.lock_rules.specs.declared.Suspension.{Suspension}
+use Rattle.lock_rules.specs.declared.Carried.{Carried}
+use Rattle.lock_rules.specs.declared.Carried.the-variants.{ToCheck, ToTell, ToInflate, ToResume}
+use Rattle.lock_rules.specs.declared.Doing.{Doing}
+use Rattle.lock_rules.specs.declared.Doing.the-variants.{EnterLook, EnterStore, EnterCancel, EnterGoIn, EnterCheck, EnterTry, ExitLook}
+use Rattle.lock_rules.specs.declared.Doing.the-variants.{ExitStore, ExitGoIn, ExitTest, ExitTell, ExitLeave, WaitLook, WaitCancel, WaitGoIn}
+use Rattle.lock_rules.specs.declared.Doing.the-variants.{WaitInflate, WaitGiveUp, WaitResume, NotifyLook, NotifyAllLook}
+use Rattle.lock_rules.specs.declared.ThreadState.{ThreadState}
+use Rattle.lock_rules.specs.declared.ThreadState.the-variants.{Idle, Running, Queued, Contending, Waiting}
+use Rattle.lock_rules.proofs.ListSound.{SuspensionFine, DoingFine, StateFine}
+use Rattle.lock_table.specs.Limits.{thread-limit, depth-limit}
+use Rattle.lock_table.specs.Operation.{operation-number}
+use Rattle.lock_table.specs.Phase.{onward-number, phase-number, carried-number}
+use Rattle.lock_table.specs.Parked.{chain-named}
+use Rattle.lock_table.specs.declared.record.ThreadRecord.{ThreadRecord}
+use Rattle.lock_perform.specs.State.{doing-record, carried-record, write-thread}
+use Rattle.sound_records.specs.Records.{
+  uses-phase,
+  carries-phase,
+  operation-fits,
+  kept-count-fits,
+  reserved-for,
+  kept-fits,
+  saves-depth,
+  saved-fits,
+  unused-fits,
+  used-thread-fits,
+}
+use Rattle.sound_records.proofs.Reading.{Within, ThreadFits}
+use Rattle.laws.proofs.Facts.{reads-within}
+use Rattle.sound_records.proofs.Reading.{reads-thread}
+use Rattle.lock_records.proofs.Naming.{running-names-none}
+
+-- the clauses that are about one thread's record, as one test that computes on a record that is written
+abbrev fits? : ℕ → ℕ → ThreadRecord → Bool
+fits? objects n thread = used-thread-fits objects n (phase-number (thread .phase)) (carried-number (thread .phase)) thread
+
+-- a kept word is read as it was written
+kept-read : (n count : ℕ) → 1 ≤ n → n ≤ thread-limit → count ≤ count-limit → read-word (reserved-word n count) ≡ Valid (Reserved (thread-number n) count)
+unfolding write-word InRange
+kept-read n count low high small = meaning-of-word (Reserved (thread-number n) count) ((low, omega arith), omega arith)
+
+-- a saved depth is in range
+saved-inside : (suspension : Suspension) → SuspensionFine suspension → within 1 depth-limit (suspension .depth) ≡ true
+saved-inside suspension fine = reads-within 1 depth-limit (suspension .depth) .make fine
+
+module _ (objects n o next : ℕ) (low : 1 ≤ n) (high : n ≤ thread-limit) where
+  abbrev Home : Type 0
+  Home = within 1 objects o ≡ true
+
+  doing-fits : (doing : Doing) → DoingFine doing → Home → next ≡ 0 → fits? objects n (doing-record n o doing next) ≡ true
+  unfolding operation-fits uses-phase carries-phase kept-fits reserved-for kept-count-fits saves-depth saved-fits chain-named unused-fits
+      operation-number phase-number carried-number doing-record
+  doing-fits EnterLook fine home out = rw (home, out)
+  doing-fits (EnterStore count) fine home out =
+      rw (home, out, kept-read n count low high (omega arith), eq-eqb n n refl, le-leb count (count-limit - 1) (omega arith))
+  doing-fits EnterCancel fine home out = rw (home, out)
+  doing-fits EnterGoIn fine home out = rw (home, out)
+  doing-fits EnterCheck fine home out = rw (home, out)
+  doing-fits EnterTry fine home out = rw (home, out)
+  doing-fits ExitLook fine home out = rw (home, out)
+  doing-fits (ExitStore count) (some, most) home out =
+      rw (home, out, kept-read n count low high most, eq-eqb n n refl, le-leb 1 count some, le-leb count count-limit most)
+  doing-fits ExitGoIn fine home out = rw (home, out)
+  doing-fits ExitTest fine home out = rw (home, out)
+  doing-fits ExitTell fine home out = rw (home, out)
+  doing-fits ExitLeave fine home out = rw (home, out)
+  doing-fits WaitLook fine home out = rw (home, out)
+  doing-fits WaitCancel fine home out = rw (home, out)
+  doing-fits WaitGoIn fine home out = rw (home, out)
+  doing-fits WaitInflate fine home out = rw (home, out)
+  doing-fits WaitGiveUp fine home out = rw (home, out)
+  doing-fits (WaitResume suspension) fine home out = rw (home, out, saved-inside suspension fine)
+  doing-fits NotifyLook fine home out = rw (home, out)
+  doing-fits NotifyAllLook fine home out = rw (home, out)
+
+  carried-fits : (carried : Carried) → DoingFine (onward carried) → Home → fits? objects n (carried-record o carried next) ≡ true
+  unfolding operation-fits uses-phase carries-phase kept-fits saves-depth saved-fits chain-named unused-fits
+      operation-number phase-number carried-number onward-number carried-record
+  carried-fits ToCheck fine home = rw home
+  carried-fits ToTell fine home = rw home
+  carried-fits ToInflate fine home = rw home
+  carried-fits (ToResume suspension) fine home = rw (home, saved-inside suspension fine)
+
+  state-fits : (state : ThreadState) → StateFine state → (T (unfinished state) → Home) → (chain-named (phase-of state) ≡ 0 → next ≡ 0)
+      → fits? objects n (write-thread n o state next) ≡ true
+  unfolding operation-fits uses-phase carries-phase kept-fits saves-depth saved-fits chain-named unused-fits
+      operation-number phase-number carried-number write-thread
+  state-fits Idle fine home out = rw (out refl)
+  state-fits (Running doing) fine home out = doing-fits doing fine (home tt) (out (running-names-none doing))
+  state-fits (Queued carried) fine home out = carried-fits carried fine (home tt)
+  state-fits Contending fine home out = rw (home tt)
+  state-fits (Waiting suspension) fine home out = rw (home tt, saved-inside suspension fine)
+
+  -- a fine state at an object of the table, with no next index where it is in no chain
+  pub written-fits : (state : ThreadState) → StateFine state → (T (unfinished state) → Within 1 objects o)
+      → (chain-named (phase-of state) ≡ 0 → next ≡ 0) → ThreadFits objects n (write-thread n o state next)
+  written-fits state fine home out =
+      reads-thread objects n (write-thread n o state next) .read (state-fits state fine (λ busy. reads-within 1 objects o .make (home busy)) out)

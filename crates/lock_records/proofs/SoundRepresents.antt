@@ -1,0 +1,235 @@
+-- Every table that passes the engine's test represents a sound table with lists: the one that it is read as.
+use Prim.Native.Nat.{ℕ, _≤_, _<_}
+use mathlib.Core.Path.{_≡_, refl, sym, ap, _∙_, subst, fun-ext}
+use mathlib.Core.Logic.{_≢_, _⊎_, inl, inr}
+use mathlib.Core.Bool.{true}
+use native.Mathlib.Omega.{arith}
+use lib.Dec.{T}
+use lib.ListN.{length}
+use Rattle.laws.specs.Count.{count}
+use Rattle.laws.proofs.Choice.{equal?}
+use Rattle.chains.specs.Chain.{members}
+use Rattle.chains.proofs.Chain.{Chain as Linked, head, chain-head, members-none}
+use Rattle.chains.proofs.Links.{Links, Stands}
+use Rattle.lock_word.specs.Read.{read-word}
+use Rattle.lock_rules.specs.Status.{unfinished}
+use Rattle.lock_rules.specs.declared.ThreadState.{ThreadState}
+use Rattle.lock_rules.specs.declared.ThreadState.the-variants.{Idle}
+use Rattle.lock_rules.proofs.Objects.{ListObject, object-of}
+use Rattle.lock_rules.proofs.Tables.{ListTable, seen-idle}
+use Rattle.lock_rules.proofs.ListSound.{StateFine, WordFine, InTable, SoundTable}
+use Rattle.chains.specs.declared.named.Chain.{Chain}
+use Rattle.lock_rules.proofs.Objects.{chain-of}
+use Rattle.lock_table.specs.Limits.{thread-limit, object-limit, depth-limit}
+use Rattle.lock_table.specs.Record.{no-thread, no-object}
+use Rattle.lock_table.specs.Access.{thread-at, object-at, next-of, phase-number-at}
+use Rattle.lock_table.specs.Parked.{thread-chain, first-in, chain-first}
+use Rattle.lock_table.specs.declared.record.ObjectRecord.{ObjectRecord}
+use Rattle.lock_table.specs.declared.record.Table.{Table}
+use Rattle.lock_table.proofs.Records.{thread-none}
+use Rattle.lock_perform.specs.State.{write-thread, state-by, read-thread}
+use Rattle.lock_records.proofs.Numbering.{number, lists-of, list-at, by-number}
+use Rattle.lock_records.proofs.Represents.{object-record, thread-record, Represents}
+use Rattle.lock_soundness.specs.Sound.{sound-of}
+use Rattle.sound_records.proofs.Reading.{Within, chain-kinds, UnheldFits}
+use Rattle.lock_soundness.proofs.Reading.{threads-in-chain, Sound}
+use Rattle.lock_soundness.proofs.Reading.{sound-reads}
+use Rattle.lock_records.proofs.Naming.{chain-number, by-chain, one-chain, idle-or-busy}
+use Rattle.lock_records.proofs.ReadBack.{state-back}
+use Rattle.lock_records.proofs.Words.{seen-in, word-back, no-word-fine}
+use Rattle.lock_records.proofs.Depths.{DepthsFit}
+use Rattle.lock_records.proofs.EveryNumber.{
+  thread-read,
+  thread-where,
+  object-where,
+  written-at,
+  no-next-at,
+  chain-at,
+  members-at,
+  parked-at,
+  counted-at,
+}
+
+-- the table with lists that a table is read as
+abbrev pub object-read : Table → ℕ → ListObject
+object-read t o =
+    object-of (seen-in (read-word (object-at t o .word))) (object-at t o .flag) (object-at t o .monitor .holder) (object-at t o .monitor .depth)
+    (threads-in-chain t o 1) (threads-in-chain t o 2) (threads-in-chain t o 3)
+
+abbrev pub lists-read : Table → ListTable
+lists-read t = record { threads = thread-read t; objects = object-read t }
+
+list-read : (t : Table) (o : ℕ) (chain : Chain) → chain-of chain (object-read t o) ≡ threads-in-chain t o (chain-number chain)
+list-read t o Chain.Entry = refl
+list-read t o Chain.Contention = refl
+list-read t o Chain.Waiting = refl
+
+list-numbered : (t : Table) (o : ℕ) (chain : Chain) → lists-of (object-read t) (number o chain) ≡ threads-in-chain t o (chain-number chain)
+list-numbered t o chain = list-at (object-read t) o chain ∙ list-read t o chain
+
+-- its links: the first thread of a numbered chain is its list's
+abbrev links-read : Table → Links
+links-read t = record { next = next-of t; first = λ c. head (lists-of (object-read t) c) }
+
+-- the empty record is read as an idle thread
+idle-none : read-thread no-thread ≡ Idle
+unfolding state-by
+idle-none = refl
+
+-- what the list object that a record is read as owes to soundness
+record ObjectFine (threads : ℕ) (object : ObjectRecord) : Type 0 where
+  word : WordFine threads (seen-in (read-word (object .word)))
+  holder : object .monitor .holder ≤ threads
+  deep : object .monitor .depth ≤ depth-limit
+  unheld : UnheldFits (object .monitor)
+
+module _ (t : Table) (sound : Sound t) where
+  first-read : (o : ℕ) (chain : Chain) → links-read t .first (number o chain) ≡ chain-first t o (chain-number chain)
+  first-read o chain =
+      ap head (list-numbered t o chain)
+      ∙ sym (chain-head (next-of t) (chain-first t o (chain-number chain)) (threads-in-chain t o (chain-number chain)) (chain-at t sound o chain))
+
+  -- the chain that a thread is in is that of its object which its phase names
+  member-number : (c n : ℕ) → 0 < count n (lists-of (object-read t) c)
+      → (chain : Chain) × (thread-chain (thread-at t n) ≡ chain-number chain) × (c ≡ number (thread-at t n .object) chain)
+  member-number =
+      by-number
+      (λ c. (n : ℕ) → 0 < count n (lists-of (object-read t) c)
+      → (chain : Chain) × (thread-chain (thread-at t n) ≡ chain-number chain) × (c ≡ number (thread-at t n .object) chain))
+      (λ o chain n inside.
+      let (here, names) = members-at t sound o chain n (rw (list-numbered t o chain) at inside) in
+      (chain, names, ap (λ (k : ℕ). number k chain) (sym here)))
+
+  stands : Stands (links-read t) (lists-of (object-read t))
+  stands = record { chain = by-number (λ c. Linked (next-of t) (links-read t .first c) (lists-of (object-read t) c)) linked; apart = apart; loose = loose }
+    where
+      linked : (o : ℕ) (chain : Chain) → Linked (next-of t) (links-read t .first (number o chain)) (lists-of (object-read t) (number o chain))
+      linked o chain = rw (first-read o chain, list-numbered t o chain) (chain-at t sound o chain)
+
+      apart : (c d n : ℕ) → 0 < count n (lists-of (object-read t) c) → 0 < count n (lists-of (object-read t) d) → c ≡ d
+      apart c d n in-c in-d =
+          let (a, names-a, c-is) = member-number c n in-c in
+          let (b, names-b, d-is) = member-number d n in-d in
+          c-is ∙ (ap (number (thread-at t n .object)) (one-chain a b (sym names-a ∙ names-b)) ∙ sym d-is)
+
+      loose : (n : ℕ) → ((c : ℕ) → count n (lists-of (object-read t) c) ≡ 0) → next-of t n ≡ 0
+      loose n nowhere = at (equal? (thread-chain (thread-at t n)) 0)
+        where
+          found : (chain : Chain) → thread-chain (thread-at t n) ≡ chain-number chain → ⊥
+          found chain names =
+              let none : count n (threads-in-chain t (thread-at t n .object) (chain-number chain)) ≡ 0 =
+              rw (list-numbered t (thread-at t n .object) chain) at (nowhere (number (thread-at t n .object) chain)) in
+              omega (arith, none, parked-at t sound chain n names)
+
+          at : (thread-chain (thread-at t n) ≡ 0) ⊎ (thread-chain (thread-at t n) ≢ 0) → next-of t n ≡ 0
+          at (inl none) = no-next-at t sound n none
+          at (inr some) =
+              absurd
+              (by-chain (λ k. thread-chain (thread-at t n) ≡ k → ⊥) found (thread-chain (thread-at t n)) (omega (arith, some)) (chain-kinds (phase-number-at t n)) refl)
+
+  -- every thread record is the thread that it is read as, written
+  thread-written : (n : ℕ) → thread-at t n ≡ thread-record n (thread-read t n) (next-of t n)
+  thread-written n =
+      written-at t sound n .written
+      ∙ ap (λ (state : ThreadState). write-thread n (thread-at t n .object) state (next-of t n))
+      (sym (state-back (t .objectcount) n (thread-at t n) (written-at t sound n)))
+
+  -- and so is every object record in use
+  object-written : (o : ℕ) → 1 ≤ o → o ≤ t .objectcount → object-at t o ≡ object-record o (object-read t o) (links-read t)
+  unfolding first-in
+  object-written o low high =
+      let (word, fine) = word-back (t .threadcount) o (object-at t o .word) (sound .objects o low high .word) in
+      λ j.
+      record {
+        word = sym word j;
+        monitor = record {
+          depth = object-at t o .monitor .depth;
+          holder = object-at t o .monitor .holder;
+          entry = sym (first-read o Chain.Entry) j;
+          contention = sym (first-read o Chain.Contention) j;
+          waiting = sym (first-read o Chain.Waiting) j;
+        };
+        flag = object-at t o .flag;
+      }
+
+  represents-read : length (t .threads) ≡ thread-limit → length (t .objects) ≡ object-limit
+      → Represents (t .threadcount) (t .objectcount) t (lists-read t)
+  represents-read threads-full objects-full =
+      record {
+        threadcount = refl;
+        objectcount = refl;
+        thread-room = sound .sizes .0 .1;
+        object-room = sound .sizes .1 .1;
+        links = links-read t;
+        chains = stands;
+        written = record { records = fun-ext thread-written; full = threads-full };
+        objects-full = objects-full;
+        object-is = object-written;
+        object-past = λ o past. at o past (object-where t sound o);
+      }
+    where
+      at : (o : ℕ) → t .objectcount < o → Within 1 (t .objectcount) o ⊎ (object-at t o ≡ no-object) → object-at t o ≡ no-object
+      at o past (inl (low, high)) = absurd (omega (arith, past, high))
+      at o past (inr empty) = empty
+
+  -- what the table with lists owes to soundness, thread by thread
+  range-read : (n : ℕ) → InTable (t .threadcount) (t .objectcount) n (thread-read t n)
+  range-read n = at (thread-where t sound n) (idle-or-busy (read-thread (thread-at t n)))
+    where
+      at : Within 1 (t .threadcount) n ⊎ (thread-at t n ≡ no-thread) → (read-thread (thread-at t n) ≡ Idle) ⊎ T (unfinished (read-thread (thread-at t n)))
+          → InTable (t .threadcount) (t .objectcount) n (thread-read t n)
+      at used (inl idle) = inl idle
+      at (inl (low, high)) (inr busy) =
+          let (first, last) = written-at t sound n .home (rw (state-back (t .objectcount) n (thread-at t n) (written-at t sound n)) at busy) in
+          inr (high, first, last)
+      at (inr empty) (inr busy) = inl (ap read-thread empty ∙ idle-none)
+
+  fine-read : (n : ℕ) → StateFine (read-thread (thread-at t n))
+  fine-read n = subst StateFine (sym (state-back (t .objectcount) n (thread-at t n) (written-at t sound n))) (written-at t sound n .fine)
+
+  -- and object by object
+  module _ (depths : DepthsFit t) where
+    object-fine : (o : ℕ) → ObjectFine (t .threadcount) (object-at t o)
+    object-fine o = at (object-where t sound o)
+      where
+        at : Within 1 (t .objectcount) o ⊎ (object-at t o ≡ no-object) → ObjectFine (t .threadcount) (object-at t o)
+        at (inl (low, high)) =
+            record {
+              word = word-back (t .threadcount) o (object-at t o .word) (sound .objects o low high .word) .1;
+              holder = sound .objects o low high .holder;
+              deep = depths o low high;
+              unheld = sound .objects o low high .unheld;
+            }
+        at (inr empty) =
+            subst (ObjectFine (t .threadcount)) (sym empty)
+            (record { word = no-word-fine (t .threadcount); holder = omega arith; deep = omega arith; unheld = λ unheld. (refl, refl) })
+
+    sound-read : SoundTable (t .threadcount) (t .objectcount) (lists-read t)
+    unfolding first-in
+    sound-read =
+        record {
+          range = range-read;
+          fine = fine-read;
+          sound = λ o.
+              record {
+                nobody = seen-idle o (thread-read t 0) (ap read-thread (thread-none t) ∙ idle-none);
+                placed = λ n.
+                    record {
+                      entry = counted-at t sound o Chain.Entry n;
+                      contention = counted-at t sound o Chain.Contention n;
+                      waiting = counted-at t sound o Chain.Waiting n;
+                    };
+                word = object-fine o .word;
+                holder = object-fine o .holder;
+                deep = object-fine o .deep;
+                shallow = λ nobody. object-fine o .unheld nobody .0;
+                empty = λ nobody.
+                    ap (members (t .threadcount) (next-of t)) (object-fine o .unheld nobody .1) ∙ members-none (t .threadcount) (next-of t);
+              };
+        }
+
+-- the lengths are those of the code's arrays, the depths those of its 16 bits
+pub sound-represents : (t : Table) → length (t .threads) ≡ thread-limit → length (t .objects) ≡ object-limit → DepthsFit t → sound-of t ≡ true
+    → (lists : ListTable) × Represents (t .threadcount) (t .objectcount) t lists × SoundTable (t .threadcount) (t .objectcount) lists
+sound-represents t threads-full objects-full depths sound =
+    (lists-read t, represents-read t (sound-reads t sound) threads-full objects-full, sound-read t (sound-reads t sound) depths)

@@ -1,0 +1,42 @@
+-- What represents a sound table with lists is whole; so a fresh table is.
+use Prim.Native.Nat.{ℕ, _≤_}
+use mathlib.Core.Path.{_≡_, sym, subst}
+use mathlib.Core.Logic.{_≢_, _⊎_, inl, inr}
+use mathlib.Core.Bool.{Bool, true, false}
+use native.Mathlib.Omega.{arith}
+use lib.Dec.{leb}
+use Rattle.laws.proofs.Choice.{equal?, AtMost, at-most}
+use Rattle.lock_rules.proofs.Tables.{ListTable, fresh}
+use Rattle.lock_rules.proofs.ListSound.{SoundTable}
+use Rattle.lock_rules.proofs.SoundKept.{sound-fresh}
+use Rattle.lock_table.specs.Limits.{thread-limit, object-limit, depth-limit}
+use Rattle.lock_table.specs.Record.{no-object}
+use Rattle.lock_table.specs.Access.{object-at}
+use Rattle.lock_table.specs.Fresh.{fresh-of}
+use Rattle.lock_table.specs.Whole.{Whole}
+use Rattle.lock_table.specs.declared.record.ObjectRecord.{ObjectRecord}
+use Rattle.lock_table.specs.declared.record.Table.{Table}
+use Rattle.lock_records.proofs.Represents.{Represents}
+use Rattle.lock_records.proofs.FreshRecords.{fresh-represents}
+
+abbrev DepthFits : ObjectRecord → Type 0
+DepthFits object = object .monitor .depth ≤ depth-limit
+
+none-fits : (t : Table) → DepthFits (object-at t 0)
+unfolding object-at
+none-fits t = omega arith
+
+pub represented-whole : (threads objects : ℕ) (t : Table) (lists : ListTable) → Represents threads objects t lists → SoundTable threads objects lists → Whole t
+represented-whole threads objects t lists represents sound =
+    record { threads = represents .written .full; objects = represents .objects-full; depths = λ o. at o (equal? o 0) (leb o objects) (at-most o objects) }
+  where
+    at : (o : ℕ) → (o ≡ 0) ⊎ (o ≢ 0) → (used : Bool) → AtMost used o objects → DepthFits (object-at t o)
+    at o (inl none) used is = subst (λ (n : ℕ). DepthFits (object-at t n)) (sym none) (none-fits t)
+    at o (inr some) true inside = subst DepthFits (sym (represents .object-is o (omega (arith, some)) inside)) (sound .sound o .deep)
+    at o (inr some) false past = subst DepthFits (sym (represents .object-past o past)) (omega arith)
+
+pub fresh-whole : (threads objects : ℕ) (reserved : Bool) → 1 ≤ threads → threads ≤ thread-limit → 1 ≤ objects → objects ≤ object-limit
+    → Whole (fresh-of threads objects reserved .table)
+fresh-whole threads objects reserved some-threads thread-room some-objects object-room =
+    represented-whole threads objects (fresh-of threads objects reserved .table) (fresh reserved)
+    (fresh-represents threads objects reserved some-threads thread-room some-objects object-room) (sound-fresh threads objects reserved)

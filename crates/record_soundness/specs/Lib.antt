@@ -1,1 +1,0 @@
--- Nothing here has to be believed: all of it is in proofs/.

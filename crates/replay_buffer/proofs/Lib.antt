@@ -1,3 +1,0 @@
--- The laws of the definitions in specs/.
-pub mod MovedDown
-pub mod Kept

@@ -1,2 +1,0 @@
--- What the buffer holds after its rest was kept.
-pub mod Keeping

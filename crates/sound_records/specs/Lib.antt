@@ -1,0 +1,3 @@
+-- What soundness asks of one record.
+pub mod Records
+pub mod OnePass

@@ -1,0 +1,10 @@
+// What soundness asks of one record, a thread's or an object's (document 01, "Lock words", the sentence "Sound means").
+mod choice;
+mod object;
+mod thread;
+
+pub use choice::within;
+pub use object::empty_object;
+pub use object::used_object_fits;
+pub use thread::names_chain;
+pub use thread::thread_passes;

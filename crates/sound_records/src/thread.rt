@@ -1,0 +1,207 @@
+// What soundness asks of one thread's record. `phase` and `carried` are document 01's numbers of the thread's phase and of the one it carries.
+use crate::choice::implies;
+use crate::choice::within;
+use lock_table::Operation;
+use lock_table::ThreadRecord;
+use lock_table::carried_number;
+use lock_table::operation_number;
+use lock_table::phase_number;
+use lock_word::COUNT_LIMIT;
+use lock_word::DEPTH_LIMIT;
+use lock_word::Decoded;
+use lock_word::LockWord;
+ghost use mathlib.Core.Path.{_≡_};
+ghost use Rattle.lock_table.specs.Empty.{empty-thread};
+ghost use Rattle.lock_table.specs.Parked.{chain-named, thread-chain};
+ghost use Rattle.sound_records.specs.Records.{uses-phase, carries-phase, operation-fits, kept-count-fits, reserved-for, kept-fits};
+ghost use Rattle.sound_records.specs.Records.{saves-depth, saved-fits, unused-fits, used-thread-fits, names-chain};
+ghost use Rattle.sound_records.specs.OnePass.{thread-passes};
+
+// The largest counts of a kept word: storing it adds one for enter and takes one off for exit.
+const ENTER_COUNT_LIMIT: u8 = COUNT_LIMIT - 1;
+
+const EXIT_COUNT_LIMIT: u8 = COUNT_LIMIT;
+
+// The phases that each operation uses.
+fn uses_phase(operation: Operation, phase: u8) -> bool
+    ensures { λ r. ⌜ r ≡ uses-phase operation phase ⌝ }
+{
+    match operation {
+        Operation::Idle => false,
+        Operation::Enter => within(1, 8, phase),
+        Operation::Exit => within(1, 2, phase) | (within(4, 5, phase) | within(9, 11, phase)),
+        Operation::Wait => (phase == 1) | (within(3, 5, phase) | within(12, 15, phase)),
+        Operation::Notify => phase == 1,
+        Operation::NotifyAll => phase == 1,
+    }
+}
+
+// The phases that a queued thread can carry.
+fn carries_phase(operation: Operation, carried: u8) -> bool
+    ensures { λ r. ⌜ r ≡ carries-phase operation carried ⌝ }
+{
+    match operation {
+        Operation::Idle => false,
+        Operation::Enter => carried == 6,
+        Operation::Exit => carried == 10,
+        Operation::Wait => (carried == 12) | (carried == 15),
+        Operation::Notify => false,
+        Operation::NotifyAll => false,
+    }
+}
+
+// A thread that is not idle has an object, and a phase that its operation uses.
+fn operation_fits(objects: u8, phase: u8, carried: u8, thread: ThreadRecord) -> bool
+    ensures { λ r. ⌜ r ≡ operation-fits objects phase carried thread ⌝ }
+{
+    let operation = thread.operation;
+    let object = within(1, objects, thread.object);
+    let uses = uses_phase(operation, phase);
+    let carries = implies(phase == 5, carries_phase(operation, carried));
+    (phase == 0) | (object & (uses & carries))
+}
+
+fn kept_count_fits(operation: Operation, count: u8) -> bool
+    ensures { λ r. ⌜ r ≡ kept-count-fits operation count ⌝ }
+{
+    match operation {
+        Operation::Idle => false,
+        Operation::Enter => count <= ENTER_COUNT_LIMIT,
+        Operation::Exit => within(1, EXIT_COUNT_LIMIT, count),
+        Operation::Wait => false,
+        Operation::Notify => false,
+        Operation::NotifyAll => false,
+    }
+}
+
+// Reserved for this thread, with a count that the operation can store the next of.
+fn reserved_for(number: u8, operation: Operation, decoded: Decoded) -> bool
+    ensures { λ r. ⌜ r ≡ reserved-for number operation decoded ⌝ }
+{
+    let Decoded::Valid(meaning) = decoded else {
+        return false;
+    };
+    match meaning {
+        LockWord::Free => false,
+        LockWord::Flat(_, _) => false,
+        LockWord::Anonymous => false,
+        LockWord::Reserved(thread, count) => (thread.value() == (number as u16))
+            & kept_count_fits(operation, count),
+        LockWord::Fat(_) => false,
+    }
+}
+
+fn kept_fits(number: u8, phase: u8, thread: ThreadRecord) -> bool
+    ensures { λ r. ⌜ r ≡ kept-fits number phase thread ⌝ }
+{
+    if phase == 2 {
+        let operation = thread.operation;
+        return reserved_for(number, operation, lock_word::read_word(thread.kept));
+    }
+    true
+}
+
+// The phases in which a saved depth is used.
+fn saves_depth(phase: u8, carried: u8) -> bool
+    ensures { λ r. ⌜ r ≡ saves-depth phase carried ⌝ }
+{
+    within(14, 15, phase) | (carried == 15)
+}
+
+fn saved_fits(phase: u8, carried: u8, thread: ThreadRecord) -> bool
+    ensures { λ r. ⌜ r ≡ saved-fits phase carried thread ⌝ }
+{
+    implies(
+        saves_depth(phase, carried),
+        (1 <= thread.saved) & (thread.saved <= DEPTH_LIMIT),
+    )
+}
+
+// The chain that a parked thread's phase names: 1 entry, 2 contention, 3 waiting; 0 where a phase names none.
+fn chain_named(phase: u8) -> u8
+    ensures { λ r. ⌜ r ≡ chain-named phase ⌝ }
+{
+    if phase == 5 {
+        return 1;
+    }
+    if phase == 8 {
+        return 2;
+    }
+    if phase == 14 {
+        return 3;
+    }
+    0
+}
+
+// The chain that the thread is parked in.
+fn thread_chain(thread: ThreadRecord) -> u8
+    ensures { λ r. ⌜ r ≡ thread-chain thread ⌝ }
+{
+    let phase = thread.phase;
+    chain_named(phase_number(phase))
+}
+
+// The thread is parked in this chain of the object.
+pub fn names_chain(object: u8, chain: u8, thread: ThreadRecord) -> bool
+    ensures { λ r. ⌜ r ≡ names-chain object chain thread ⌝ }
+{
+    (thread.object == object) & (thread_chain(thread) == chain)
+}
+
+// Every field that the phase does not use is 0.
+fn unused_fits(phase: u8, carried: u8, thread: ThreadRecord) -> bool
+    ensures { λ r. ⌜ r ≡ unused-fits phase carried thread ⌝ }
+{
+    let operation = thread.operation;
+    let idle = implies(
+        phase == 0,
+        (operation_number(operation) == 0) & (thread.object == 0),
+    );
+    let kept = (phase == 2) | (thread.kept == 0);
+    let next = implies(chain_named(phase) == 0, thread.next == 0);
+    let saved = saves_depth(phase, carried) | (thread.saved == 0);
+    idle & (kept & (next & saved))
+}
+
+// A row for each clause about a thread's record.
+fn used_thread_fits(objects: u8, number: u8, phase: u8, carried: u8, thread: ThreadRecord) -> bool
+    ensures { λ r. ⌜ r ≡ used-thread-fits objects number phase carried thread ⌝ }
+{
+    let operation = operation_fits(objects, phase, carried, thread);
+    let kept = kept_fits(number, phase, thread);
+    let saved = saved_fits(phase, carried, thread);
+    let unused = unused_fits(phase, carried, thread);
+    operation & (kept & (saved & unused))
+}
+
+fn empty_thread(thread: ThreadRecord) -> bool
+    ensures { λ r. ⌜ r ≡ empty-thread thread ⌝ }
+{
+    let operation = thread.operation;
+    let phase = thread.phase;
+    let idle = (operation_number(operation) == 0) & (phase_number(phase) == 0);
+    (thread.kept == 0)
+        & ((thread.saved == 0) & ((thread.object == 0) & ((thread.next == 0) & idle)))
+}
+
+// An empty record passes at once, and most are. Any other is one of a thread in use, which was met in a walk if it is parked.
+pub fn thread_passes(threads: u8, objects: u8, number: u8, thread: ThreadRecord, met: bool) -> bool
+    ensures { λ r. ⌜ r ≡ thread-passes threads objects number thread met ⌝ }
+{
+    let empty = empty_thread(thread);
+    if empty {
+        return true;
+    }
+    if threads < number {
+        return false;
+    }
+    let phase = thread.phase;
+    let fits = used_thread_fits(
+        objects,
+        number,
+        phase_number(phase),
+        carried_number(phase),
+        thread,
+    );
+    fits & ((thread_chain(thread) == 0) | met)
+}
