@@ -9,8 +9,8 @@
  *
  * `bytes` must point to `length` bytes that may be read and, in duskclamp_fresh, duskclamp_begin, duskclamp_step and duskclamp_run, written. That is
  * all that is asked of a caller, with the events and the room for answers of duskclamp_run: any bytes and any numbers are answered. A refused event
- * stores nothing in the table, save that 18 and 19 write it back with the thread idle. What each call answers, and which bytes it leaves, is proved of
- * the library; this declaration of it is not checked against its source.
+ * stores nothing in the table, save that 18 and 19 make the thread's record that of an idle one. What each call answers, and which bytes it leaves, is
+ * proved of the library; this declaration of it is not checked against its source.
  *
  * What bytes are no table, and are answered 11 by every call that takes a table:
  *  - any number of bytes but DUSKCLAMP_TABLE_SIZE;

@@ -1,6 +1,6 @@
 -- One chain and the list of its threads: what walks find, that no thread is in it twice, and what joining, moving and leaving do to it.
 -- The arguments of a law stand in the order of the definitions: fuel, next indexes, first thread, list.
-use Prim.Native.Nat.{ℕ, zero, suc, _+_, _≤_, _<_}
+use Prim.Native.Nat.{ℕ, zero, suc, _≤_, _<_}
 use mathlib.Core.Path.{_≡_, refl, sym, ap, _∙_}
 use mathlib.Core.Logic.{_≢_, _⊎_, inl, inr}
 use mathlib.Core.Bool.{Bool, true, false}
@@ -14,7 +14,7 @@ use Rattle.laws.specs.Update.{update}
 use Rattle.laws.specs.Count.{count}
 use Rattle.laws.proofs.Choice.{equal?, Equal, equal}
 use Rattle.laws.proofs.Update.{update-same, update-other, update-id}
-use Rattle.laws.proofs.Count.{count-none, count-same, count-other, distinct-within}
+use Rattle.laws.proofs.Count.{count-none, count-same, count-other}
 use Rattle.chains.specs.Chain.{members, last-of, first-with, linked}
 
 -- from `first`, by the next indexes, the chain's threads are these, in order
@@ -107,16 +107,6 @@ chain-once next first (x ∷ rest) n chain = at (equal? n x) (chain-once next (n
     at : (n ≡ x) ⊎ (n ≢ x) → count n rest ≤ 1 → count n (x ∷ rest) ≤ 1
     at (inl e) later = rw e (omega (arith, count-same x rest, chain-first-once next first x rest chain))
     at (inr away) later = omega (arith, count-other n x rest away)
-
--- threads from 1 to `top` make no chain longer than that
-pub chain-short : (top : ℕ) (next : ℕ → ℕ) (first : ℕ) (list : List ℕ) → Chain next first list → ((n : ℕ) → 0 < count n list → n ≤ top)
-    → length list ≤ top
-chain-short top next first list chain inside = distinct-within top list (λ n. chain-once next first list n chain) (λ n h. (real n h, inside n h))
-  where
-    real : (n : ℕ) → 0 < count n list → 0 < n
-    real n h =
-        let some : n ≢ 0 = λ e. omega (arith, chain-without-zero next first list chain, rw e at h) in
-        omega arith
 
 -- the last is a member
 pub last-member : (x : ℕ) (rest : List ℕ) → 0 < count (last x rest) (x ∷ rest)

@@ -18,7 +18,7 @@ use Rattle.laws.proofs.Count.{count-none, count-same, count-other, count-append
 use Rattle.chains.specs.Chain.{first-with, linked}
 use Rattle.chains.proofs.Chain.{Chain, head, chain-frame, chain-without-zero, chain-first-once, chain-once, chain-leave, chain-link}
 use Rattle.chains.proofs.Chain.{linked-other}
-use Rattle.chains.proofs.Family.{Apart, Chains, others}
+use Rattle.chains.proofs.Family.{Chains, others}
 
 -- the next indexes, with those of a list's threads set so that they stand in its order
 abbrev pub follow : List ℕ → (ℕ → ℕ) → ℕ → ℕ

@@ -7,13 +7,13 @@ use mathlib.Core.List.{List, [], _∷_}
 use native.Mathlib.Omega.{arith}
 use lib.Dec.{eqb, ltb}
 use lib.ListN.{length}
-use borrow.Author.Tests.{eq-eqb, ne-eqb, eqb-true, ltb-true, lt-ltb, le-ltb}
+use borrow.Author.Tests.{eq-eqb, ne-eqb, eqb-true, lt-ltb, le-ltb}
 use Rattle.laws.specs.Choice.{pick}
 use Rattle.laws.specs.Count.{count}
 use Rattle.laws.proofs.Choice.{false≢true, equal?, Equal, equal}
 use Rattle.laws.proofs.Count.{count-none, count-same, count-other}
 use Rattle.chains.specs.Chain.{members, chain-test, in-chain}
-use Rattle.chains.proofs.Chain.{Chain, chain-members}
+use Rattle.chains.proofs.Chain.{Chain}
 
 -- the chain is this list, it ends within `fuel` links, and each of its threads passes `ok`
 pub record Passes (fuel : ℕ) (next : ℕ → ℕ) (ok : ℕ → Bool) (first : ℕ) (list : List ℕ) : Type 0 where
@@ -76,16 +76,3 @@ in-chain-count (suc fuel) next n first = at (eqb first 0) (eqb first n) (equal f
     at false true e later =
         sym (lt-ltb 0 (count n (first ∷ members fuel next (next first))) (rw e (omega (arith, count-same n (members fuel next (next n))))))
     at false false e later = later ∙ sym (ap (ltb 0) (count-other n first (members fuel next (next first)) (λ q. e (sym q))))
-
--- a thread that is found is in the list
-pub in-chain-reads : (fuel : ℕ) (next : ℕ → ℕ) (n first : ℕ) (list : List ℕ) → Chain next first list → length list ≤ fuel
-    → in-chain fuel next n first ≡ true → 0 < count n list
-in-chain-reads fuel next n first list chain short found =
-    rw (chain-members fuel next first list chain short) at
-    (ltb-true 0 (count n (members fuel next first)) (sym (in-chain-count fuel next n first) ∙ found))
-
--- and one that is in the list is found
-pub in-chain-of : (fuel : ℕ) (next : ℕ → ℕ) (n first : ℕ) (list : List ℕ) → Chain next first list → length list ≤ fuel
-    → 0 < count n list → in-chain fuel next n first ≡ true
-in-chain-of fuel next n first list chain short h =
-    in-chain-count fuel next n first ∙ rw (chain-members fuel next first list chain short) (lt-ltb 0 (count n list) h)

@@ -7,7 +7,7 @@ use native.Mathlib.Omega.{arith}
 use lib.Dec.{eqb}
 use lib.ListN.{length}
 use Rattle.laws.specs.Choice.{pick}
-use Rattle.chains.specs.Chain.{members, chain-length, chain-test, in-chain}
+use Rattle.chains.specs.Chain.{members, chain-length, chain-test}
 
 -- what a loop's test says of the fuel, taken and left
 one-left : {fuel : ℕ} → 0 < fuel → fuel ≡ suc (fuel - 1)
@@ -47,13 +47,3 @@ chain-test-step h next ok first = ap (λ (k : ℕ). chain-test k next ok first) 
 pub chain-test-end : {fuel : ℕ} → fuel ≤ 0 → (next : ℕ → ℕ) (ok : ℕ → Bool) (first : ℕ) → chain-test fuel next ok first ≡ eqb first 0
 unfolding chain-test
 chain-test-end h next ok first = ap (λ (k : ℕ). chain-test k next ok first) (none-left h)
-
--- the walk that looks for a thread
-pub in-chain-step : {fuel : ℕ} → 0 < fuel → (next : ℕ → ℕ) (n first : ℕ)
-    → in-chain fuel next n first ≡ pick (eqb first 0) false (pick (eqb first n) true (in-chain (fuel - 1) next n (next first)))
-unfolding in-chain
-in-chain-step h next n first = ap (λ (k : ℕ). in-chain k next n first) (one-left h)
-
-pub in-chain-end : {fuel : ℕ} → fuel ≤ 0 → (next : ℕ → ℕ) (n first : ℕ) → in-chain fuel next n first ≡ false
-unfolding in-chain
-in-chain-end h next n first = ap (λ (k : ℕ). in-chain k next n first) (none-left h)

@@ -34,10 +34,6 @@ pub count-joined : (n : ℕ) (xs : List ℕ) → count n (xs ++ (n ∷ [])) ≡ 
 unfolding count
 count-joined n xs = omega (arith, count-append n xs (n ∷ []), count-same n [])
 
-pub count-joined-other : (n x : ℕ) (xs : List ℕ) → n ≢ x → count n (xs ++ (x ∷ [])) ≡ count n xs
-unfolding count
-count-joined-other n x xs away = omega (arith, count-append n xs (x ∷ []), count-other n x [] away)
-
 without : ℕ → List ℕ → List ℕ
 without n [] = []
 without n (x ∷ xs) = pick (eqb n x) (without n xs) (x ∷ without n xs)

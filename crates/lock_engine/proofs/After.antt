@@ -1,13 +1,9 @@
 -- What an event that is not refused leaves in the records of its thread and its object: those of its turn.
-use Prim.Native.Nat.{ℕ, _-_, _≤_, _<_}
-use mathlib.Core.Path.{_≡_, refl, sym, ap, _∙_, subst}
+use Prim.Native.Nat.{ℕ, _≤_, _<_}
+use mathlib.Core.Path.{_≡_, sym, ap, _∙_}
 use mathlib.Core.Logic.{_⊎_, inl, inr}
-use mathlib.Core.Bool.{Bool, true, false}
-use mathlib.Core.List.{List}
+use mathlib.Core.Bool.{Bool, true}
 use native.Mathlib.Omega.{arith}
-use lib.Dec.{eqb, ltb, leb}
-use lib.ListN.{getD}
-use Rattle.laws.specs.Choice.{pick}
 use Rattle.laws.proofs.Choice.{by-test, both-first}
 use Rattle.laws.proofs.Update.{update-same}
 use Rattle.lock_rules.specs.Numbers.{first-refusal, refusal-number}
@@ -25,11 +21,11 @@ use Rattle.lock_rules.specs.declared.event.Refusal.the-variants.{
   NoSuchOperation,
 }
 use Rattle.lock_rules.specs.declared.event.Gate.{Gate}
-use Rattle.lock_rules.specs.declared.event.Gate.the-variants.{Open, Shut}
+use Rattle.lock_rules.specs.declared.event.Gate.the-variants.{Open}
 use Rattle.lock_rules.specs.declared.ChainWork.{ChainWork}
 use Rattle.lock_rules.proofs.Gate.{Passed, by-gate}
 use Rattle.lock_table.specs.Limits.{thread-limit, object-limit}
-use Rattle.lock_table.specs.Record.{no-thread, with-next, with-monitor}
+use Rattle.lock_table.specs.Record.{with-next, with-monitor}
 use Rattle.lock_table.specs.Access.{thread-at, set-thread, object-at, set-object, next-of}
 use Rattle.lock_table.specs.declared.record.ThreadRecord.{ThreadRecord}
 use Rattle.lock_table.specs.declared.record.ObjectRecord.{ObjectRecord}
@@ -37,13 +33,12 @@ use Rattle.lock_table.specs.declared.record.Table.{Table}
 use Rattle.lock_table.proofs.Records.{thread-set, object-set, thread-beside-object}
 use Rattle.lock_table.proofs.Places.{Has, Lacks, has?}
 use Rattle.lock_perform.specs.Moving.{carry-out}
-use Rattle.lock_perform.specs.Perform.{stays, work-done, settled}
+use Rattle.lock_perform.specs.Perform.{stays, settled}
 use Rattle.lock_soundness.specs.Sound.{sound-of}
 use Rattle.lock_engine.specs.Outcome.{reply-returned}
 use Rattle.lock_engine.specs.Turn.{gate-turn}
 use Rattle.lock_gate.specs.Status.{thread-status}
-use Rattle.lock_engine.specs.Handle.{event-object, trusted, handle-with, handle-trusting}
-use Rattle.lock_engine.specs.declared.outcome.Outcome.{Outcome}
+use Rattle.lock_engine.specs.Handle.{trusted, handle-trusting}
 use Rattle.lock_engine.proofs.InPlace.{parts-of, keeps-object, shut-thread, own-in-place, number-in-place, object-in-place}
 use Rattle.lock_engine.proofs.InPlace.{gate-here, turn-here, own-here, object-here}
 use Rattle.lock_engine.proofs.Full.{Full, full-thread, full-carried}

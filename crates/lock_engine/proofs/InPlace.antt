@@ -1,17 +1,16 @@
 -- An event carried out in place: the code reads and writes the two records where they are in their arrays. It does what the definition says of their
 -- numbers, also where a number has no record.
-use Prim.Native.Nat.{ℕ, _-_, _≤_, _<_}
+use Prim.Native.Nat.{ℕ, _≤_}
 use mathlib.Core.Path.{_≡_, refl, sym, ap, _∙_}
-use mathlib.Core.Logic.{_≢_, _⊎_, inl, inr}
+use mathlib.Core.Logic.{_⊎_, inl, inr}
 use mathlib.Core.Bool.{Bool, true, false}
-use mathlib.Core.List.{List}
 use native.Mathlib.Omega.{arith}
-use lib.Dec.{eqb, ltb, leb}
+use lib.Dec.{leb}
 use lib.ListN.{getD, set}
 use lib.Seq.{set-getD}
-use borrow.Author.Tests.{eq-eqb, ne-eqb, lt-ltb, le-ltb, leb-true, le-leb, lt-leb}
+use borrow.Author.Tests.{leb-true, le-leb, lt-leb}
 use Rattle.laws.specs.Choice.{pick, both, within}
-use Rattle.laws.proofs.Choice.{split, equal?, both-first, both-second, both-no, Equal, equal, Below, below}
+use Rattle.laws.proofs.Choice.{split, both-second}
 use Rattle.chains.specs.Chain.{chain-length}
 use Rattle.lock_rules.specs.Gate.{gate, event-thread}
 use Rattle.lock_rules.specs.declared.event.Event.{Event}
@@ -36,7 +35,7 @@ use Rattle.lock_engine.specs.Turn.{refused, begun, gate-turn, open-turn,
 use Rattle.lock_gate.specs.Status.{thread-status}
 use Rattle.lock_table.specs.Place.{thread-place, object-place}
 use Rattle.lock_table.proofs.Places.{Has, Lacks, has?, place-has}
-use Rattle.lock_engine.specs.Handle.{event-object, waiters-of, trusted, turn-with, outcome-of, handle-with, handle-trusting}
+use Rattle.lock_engine.specs.Handle.{event-object, waiters-of, trusted, turn-with, handle-with, handle-trusting}
 use Rattle.lock_engine.specs.declared.outcome.Reply.{Reply}
 use Rattle.lock_engine.specs.declared.outcome.Reply.the-variants.{Begun, Refused}
 use Rattle.lock_engine.specs.declared.outcome.Outcome.{Outcome}

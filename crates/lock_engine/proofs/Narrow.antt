@@ -5,10 +5,10 @@ use mathlib.Core.Path.{_≡_, refl, sym, _∙_}
 use mathlib.Core.Bool.{Bool, true, false}
 use native.Mathlib.Omega.{arith}
 use lib.Dec.{leb}
-use borrow.Author.Tests.{lt-leb, leb-true}
-use Rattle.laws.specs.Choice.{pick, both, within}
-use Rattle.laws.proofs.Choice.{split, both-first, both-second, both-no}
-use Rattle.lock_rules.specs.Gate.{begin-rows, step-rows, first-refusing, gate, event-thread}
+use borrow.Author.Tests.{lt-leb}
+use Rattle.laws.specs.Choice.{pick, within}
+use Rattle.laws.proofs.Choice.{split, both-first, both-no}
+use Rattle.lock_rules.specs.Gate.{begin-rows, step-rows, first-refusing, gate}
 use Rattle.lock_rules.specs.Operations.{operation-limit}
 use Rattle.lock_rules.specs.declared.event.Event.{Event}
 use Rattle.lock_rules.specs.declared.event.Event.the-variants.{Begin, Step}
@@ -22,7 +22,7 @@ use Rattle.lock_table.specs.declared.record.Table.{Table}
 use Rattle.lock_table.proofs.Narrowed.{narrowed}
 use Rattle.lock_soundness.specs.Sound.{sizes-fit, sound-of}
 use Rattle.lock_soundness.proofs.Reading.{reads-sizes}
-use Rattle.lock_engine.specs.Handle.{trusted, handle-trusting, handle, begin, step}
+use Rattle.lock_engine.specs.Handle.{trusted, handle, begin, step}
 use Rattle.lock_engine.proofs.Refused.{handle-shut}
 
 outside : (limit n : ℕ) → limit < n → within 1 limit n ≡ false

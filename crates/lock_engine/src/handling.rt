@@ -1,6 +1,5 @@
 // An event on a table: the two records that it touches are read in place, take their turn and are written back in place.
 use crate::outcome::Outcome;
-use crate::turning::Turn;
 use crate::turning::take_turn;
 use lock_perform::length_from;
 use lock_perform::stays;
@@ -41,7 +40,7 @@ pub fn event_object(event: Event, object: u8) -> u8
     }
 }
 
-// 11. For a caller that knows whether the table is sound.
+// For a caller that knows whether the table is sound.
 pub fn handle_trusting(table: Table, event: Event, issound: bool) -> Outcome
     ensures { λ r. ⌜ r ≡ handle-trusting table event issound ⌝ }
 {

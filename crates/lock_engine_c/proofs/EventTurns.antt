@@ -1,6 +1,6 @@
 -- An event by its turn: what the code's locals are when the turn has been stored gives what the definitions say.
 use Prim.Native.Nat.{ℕ}
-use mathlib.Core.Path.{_≡_, refl, _∙_}
+use mathlib.Core.Path.{_≡_, refl}
 use mathlib.Core.Bool.{Bool}
 use mathlib.Core.List.{List}
 use Rattle.lock_rules.specs.Gate.{event-thread}

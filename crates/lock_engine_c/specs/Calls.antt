@@ -27,7 +27,7 @@ use Rattle.lock_engine.specs.declared.outcome.Reply.{Reply}
 use Rattle.lock_engine.specs.declared.outcome.Reply.the-variants.{Begun, Refused, Answered}
 use Rattle.lock_engine.specs.declared.outcome.Outcome.{Outcome}
 use Rattle.table_bytes.specs.Layout.{table-size}
-use Rattle.table_bytes.specs.Reading.{is-table, table-of}
+use Rattle.table_bytes.specs.Reading.{table-of}
 use Rattle.table_bytes.specs.Writing.{bytes-of, kept-over, write-thread, write-object, idled-bytes}
 
 -- the library's version, 0.3.0 in three bytes

@@ -37,7 +37,6 @@ ghost use Rattle.lock_rules.specs.Numbers.{first-refusal};
 ghost use Rattle.lock_engine.specs.Handle.{turn-with, handle};
 ghost use Rattle.table_bytes.specs.Layout.{table-size};
 ghost use Rattle.table_bytes.specs.Reading.{is-table, table-of};
-ghost use Rattle.table_bytes.specs.Writing.{kept-over};
 ghost use Rattle.lock_engine_c.specs.Calls.{packed-of, returned-in, event-answer, event-bytes, RefusedLeaves};
 ghost use Rattle.lock_engine_c.specs.Calls.{answer-changes, reply-changes, stored-over, store-turn, event-over};
 ghost use Rattle.lock_engine_c.specs.Calls.{begun-on, stepped-on, fresh-on, has-size, keep-made, fresh-answer, fresh-bytes, fresh-if-sized};

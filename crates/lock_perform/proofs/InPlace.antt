@@ -1,5 +1,5 @@
 -- A record read and written at its place is that of its number; a number that has none reads as the empty record and writes nothing.
-use Prim.Native.Nat.{ℕ, _-_, _<_}
+use Prim.Native.Nat.{ℕ, _-_}
 use mathlib.Core.Path.{_≡_, refl, sym, ap, _∙_}
 use mathlib.Core.Bool.{Bool, true, false}
 use mathlib.Core.List.{List}
@@ -8,7 +8,6 @@ use lib.Dec.{eqb, ltb}
 use lib.ListN.{getD, set}
 use lib.Seq.{set-getD}
 use Rattle.laws.specs.Choice.{pick}
-use Rattle.laws.proofs.Choice.{Below, below}
 use Rattle.lock_table.specs.Limits.{thread-limit}
 use Rattle.lock_table.specs.Record.{no-thread}
 use Rattle.lock_table.specs.Access.{thread-at, set-thread}

@@ -27,7 +27,7 @@ fn word_after(thread: u8, object: u8, word: u32, change: WordChange) -> u32
     }
 }
 
-// The monitor that the chain action begins with.
+// Holder and depth by the effect, before its work on chains.
 fn begun_monitor(monitor: Monitor, holder: u8, depth: Depth) -> Monitor
     ensures { λ r. ⌜ r ≡ begun-monitor monitor holder depth ⌝ }
 {

@@ -1,13 +1,12 @@
 -- The work on chains, on records: the threads that it writes are those of the table with lists, and its links stand for the lists.
 use Prim.Native.Nat.{ℕ, _≤_, _<_}
 use mathlib.Core.Path.{_≡_, refl, sym, ap, _∙_, subst}
-use mathlib.Core.Logic.{_≢_, _⊎_, inl, inr}
+use mathlib.Core.Logic.{_⊎_, inl, inr}
 use mathlib.Core.Bool.{Bool, true, false}
 use mathlib.Core.List.{List, [], _∷_}
 use native.Mathlib.Omega.{arith}
 use lib.Dec.{eqb}
 use lib.ListN.{length}
-use borrow.Author.Tests.{eq-eqb}
 use Rattle.laws.specs.Choice.{pick}
 use Rattle.laws.specs.Update.{update}
 use Rattle.laws.specs.Count.{count}
@@ -17,11 +16,10 @@ use Rattle.chains.specs.Chain.{first-with, linked}
 use Rattle.chains.specs.declared.named.Chain.{Chain}
 use Rattle.chains.proofs.Chain.{Chain as ChainOf, head}
 use Rattle.chains.proofs.Walk.{walk}
-use Rattle.chains.proofs.Links.{Links, leave-links, leave-lists, join-links, leave-within, leave-short, stands-leave}
-use Rattle.lock_rules.specs.Changes.{handed, moved}
+use Rattle.chains.proofs.Links.{Links, leave-links, leave-lists, leave-within, leave-short, stands-leave}
+use Rattle.lock_rules.proofs.Changes.{handed, moved}
 use Rattle.lock_rules.specs.declared.ThreadState.{ThreadState}
 use Rattle.lock_rules.specs.declared.ThreadState.the-variants.{Idle}
-use Rattle.lock_rules.specs.declared.Taken.{Taken}
 use Rattle.lock_rules.specs.declared.Taken.the-variants.{First, All}
 use Rattle.lock_rules.specs.declared.ChainWork.{ChainWork}
 use Rattle.lock_rules.specs.declared.ChainWork.the-variants.{Stay, Join, JoinAndHand, Hand, Move, SendBack}
@@ -33,7 +31,7 @@ use Rattle.lock_rules.proofs.ListSound.{SoundTable}
 use Rattle.lock_rules.proofs.ListChains.{member-at, member-in, short}
 use Rattle.lock_table.specs.Limits.{thread-limit}
 use Rattle.lock_table.specs.Record.{with-next}
-use Rattle.lock_table.specs.Access.{thread-at, set-thread, next-of}
+use Rattle.lock_table.specs.Access.{thread-at, set-thread}
 use Rattle.lock_table.specs.Monitor.{hand-of, first-in, with-first, join}
 use Rattle.lock_table.specs.Chain.{hang, handed-of, moved as moved-record, move-all}
 use Rattle.lock_table.specs.Narrow.{narrow-of}

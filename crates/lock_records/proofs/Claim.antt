@@ -15,7 +15,7 @@ use Rattle.lock_rules.specs.Numbers.{phase-of-doing, phase-of}
 use Rattle.lock_word.specs.Meaning.{owner-of, depth-of, ownership-of}
 use Rattle.lock_word.proofs.Ownership.{owned-both}
 use Rattle.lock_word.specs.declared.meaning.Ownership.{Ownership}
-use Rattle.lock_rules.specs.Status.{is-woken, parked-for-entry, unparked, unfinished}
+use Rattle.lock_rules.proofs.Status.{is-woken, parked-for-entry, unparked, unfinished}
 use Rattle.lock_rules.specs.declared.event.Event.{Event}
 use Rattle.lock_rules.specs.Feed.{Plain, feed-all, blank}
 use Rattle.lock_rules.specs.declared.Doing.{Doing}

@@ -35,7 +35,6 @@ use Rattle.lock_records.proofs.Naming.{
   chain-number-low,
   chain-number-high,
   running-names-none,
-  idle-by-phase,
   idle-never,
   named-once,
   unnamed-never,
@@ -167,9 +166,6 @@ module _ (t : Table) (sound : sound-of t ≡ true) (n : ℕ) where
 
   pub idle-phase : read-thread (thread-at t n) ≡ Idle → phase-number-at t n ≡ 0
   idle-phase idle = phase-of-state ∙ ap phase-of idle
-
-  pub phase-idle : phase-number-at t n ≡ 0 → read-thread (thread-at t n) ≡ Idle
-  phase-idle e = idle-by-phase (read-thread (thread-at t n)) (sym phase-of-state ∙ e)
 
   -- a thread that can take a step is in no chain, so its next index is 0
   pub running-next : (doing : Doing) → read-thread (thread-at t n) ≡ Running doing → next-of t n ≡ 0

@@ -14,7 +14,7 @@ use Rattle.lock_word.specs.declared.reading.Decoded.the-variants.{Valid}
 use Rattle.lock_word.proofs.RoundTrip.{meaning-of-word}
 use Rattle.lock_rules.specs.Numbers.{phase-of}
 use Rattle.lock_rules.specs.Rules.{onward}
-use Rattle.lock_rules.specs.Status.{unfinished}
+use Rattle.lock_rules.proofs.Status.{unfinished}
 use Rattle.lock_rules.specs.declared.Suspension.{Suspension}
 use Rattle.lock_rules.specs.declared.Carried.{Carried}
 use Rattle.lock_rules.specs.declared.Carried.the-variants.{ToCheck, ToTell, ToInflate, ToResume}
@@ -25,7 +25,8 @@ use Rattle.lock_rules.specs.declared.Doing.the-variants.{WaitInflate, WaitGiveU
 use Rattle.lock_rules.specs.declared.ThreadState.{ThreadState}
 use Rattle.lock_rules.specs.declared.ThreadState.the-variants.{Idle, Running, Queued, Contending, Waiting}
 use Rattle.lock_rules.proofs.ListSound.{SuspensionFine, DoingFine, StateFine}
-use Rattle.lock_table.specs.Limits.{thread-limit, depth-limit}
+use Rattle.lock_table.specs.Limits.{thread-limit}
+use Rattle.lock_word.specs.Depth.{depth-limit}
 use Rattle.lock_table.specs.Operation.{operation-number}
 use Rattle.lock_table.specs.Phase.{onward-number, phase-number, carried-number}
 use Rattle.lock_table.specs.Parked.{chain-named}

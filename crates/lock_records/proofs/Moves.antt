@@ -17,7 +17,7 @@ use Rattle.laws.proofs.Count.{count-same}
 use Rattle.chains.specs.Chain.{linked}
 use Rattle.chains.proofs.Chain.{Chain, last, chain-some, last-member, linked-last}
 use Rattle.chains.proofs.Walk.{walk}
-use Rattle.lock_rules.specs.Changes.{moved, sent-back}
+use Rattle.lock_rules.proofs.Changes.{moved, sent-back}
 use Rattle.lock_rules.specs.declared.ThreadState.{ThreadState}
 use Rattle.lock_rules.specs.declared.ThreadState.the-variants.{Idle}
 use Rattle.lock_rules.proofs.Tables.{ListThread}

@@ -4,7 +4,7 @@ use Prim.Native.Nat.{ℕ, zero, suc, _+_, _*_, _/_, _%_, _≤_, _<_}
 use mathlib.Core.Path.{_≡_, refl, sym, _∙_, subst, fun-ext}
 use mathlib.Core.Logic.{_≢_, _⊎_, inl, inr}
 use mathlib.Core.Bool.{Bool, true, false}
-use mathlib.Core.List.{List, [], _∷_, _++_, tail, append-nil}
+use mathlib.Core.List.{List, [], _∷_, _++_, tail}
 use native.Mathlib.Omega.{arith}
 use lib.Dec.{eqb}
 use lib.ListN.{length, take}
@@ -85,10 +85,6 @@ update-number f o a b value = at (eqb (place-of b) (place-of a)) (equal (place-o
         → update f (3 * o + place-of a) value (3 * o + place-of b) ≡ pick same value (f (3 * o + place-of b))
     at true e = rw (e, update-same f (3 * o + place-of a) value)
     at false away = update-other f (3 * o + place-of a) value (3 * o + place-of b) (λ q. away (omega (arith, q)))
-
-pub chains-apart : (o : ℕ) (a b : Chain) → place-of a ≢ place-of b → number o a ≢ number o b
-unfolding number
-chains-apart o a b away q = away (omega (arith, q))
 
 pub objects-apart : (o p : ℕ) (a b : Chain) → p ≢ o → number p a ≢ number o b
 unfolding number

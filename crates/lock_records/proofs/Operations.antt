@@ -1,6 +1,6 @@
 -- The engine's operations, of which one stands for none, against those that a begin asks for.
 use Prim.Native.Nat.{ℕ}
-use mathlib.Core.Path.{_≡_, refl, sym, _∙_}
+use mathlib.Core.Path.{_≡_, refl}
 use mathlib.Core.Bool.{Bool, true, false}
 use lib.Dec.{eqb}
 use Rattle.laws.specs.Choice.{pick}
@@ -45,18 +45,6 @@ asked-from number = at (eqb number 1) (eqb number 2) (eqb number 3) (eqb number 
     at false false false true e = refl
     at false false false false true = refl
     at false false false false false = refl
-
--- so a number that asks for an operation is the engine's number of it
-pub operation-asked : (number : ℕ) (operation : AskedOperation) → asked-for number ≡ Known operation → operation-from number ≡ operation-of operation
-operation-asked number operation asked = at (operation-from number) (sym (asked-from number) ∙ asked)
-  where
-    at : (found : Operation) → asked-of found ≡ Known operation → found ≡ operation-of operation
-    at Idle e = cc
-    at Enter e = let same : AskEnter ≡ operation = cc in rw (← same)
-    at Exit e = let same : AskExit ≡ operation = cc in rw (← same)
-    at Wait e = let same : AskWait ≡ operation = cc in rw (← same)
-    at Notify e = let same : AskNotify ≡ operation = cc in rw (← same)
-    at NotifyAll e = let same : AskNotifyAll ≡ operation = cc in rw (← same)
 
 -- begin sets phase 1
 pub begun-written : (n o : ℕ) (operation : AskedOperation) → write-thread n o (Running (begun operation)) 0 ≡ with-fields (operation-of operation) o Look 0 0 0

@@ -11,7 +11,7 @@ use Rattle.laws.proofs.Choice.{equal?}
 use Rattle.laws.proofs.Update.{update-same, update-other, update-id}
 use Rattle.chains.proofs.Chain.{head}
 use Rattle.chains.proofs.Links.{Links, Stands, first-head}
-use Rattle.lock_rules.specs.Changes.{seen-after}
+use Rattle.lock_rules.proofs.Changes.{seen-after}
 use Rattle.lock_rules.specs.declared.Doing.{Doing}
 use Rattle.lock_rules.specs.declared.ThreadState.{ThreadState}
 use Rattle.lock_rules.specs.declared.ThreadState.the-variants.{Idle, Running}

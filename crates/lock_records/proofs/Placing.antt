@@ -16,7 +16,7 @@ use Rattle.laws.proofs.Update.{update-same, update-other, update-id}
 use Rattle.laws.proofs.Count.{count-none, count-same, count-other}
 use Rattle.chains.proofs.Chain.{Chain, head}
 use Rattle.chains.proofs.Walk.{walk, if-counted, walk-changes}
-use Rattle.lock_rules.specs.Changes.{sent-back}
+use Rattle.lock_rules.proofs.Changes.{sent-back}
 use Rattle.lock_rules.specs.declared.ThreadState.{ThreadState}
 use Rattle.lock_rules.specs.declared.ThreadState.the-variants.{Idle}
 use Rattle.lock_rules.specs.declared.Taken.the-variants.{First}

@@ -14,7 +14,7 @@ use Rattle.chains.proofs.Chain.{head, chain-members}
 use Rattle.chains.proofs.Links.{first-head, head-real}
 use Rattle.lock_word.specs.Read.{read-word}
 use Rattle.lock_word.specs.declared.reading.Decoded.the-variants.{Valid}
-use Rattle.lock_rules.specs.Status.{unfinished}
+use Rattle.lock_rules.proofs.Status.{unfinished}
 use Rattle.lock_rules.specs.declared.ThreadState.the-variants.{Idle}
 use Rattle.lock_rules.proofs.Objects.{empty, sight-of}
 use Rattle.lock_rules.proofs.Tables.{ListTable, seen-here}

@@ -8,7 +8,7 @@ use lib.Dec.{T}
 use Rattle.laws.specs.Count.{count}
 use Rattle.chains.proofs.Chain.{Chain as Linked, head, chain-members}
 use Rattle.lock_rules.specs.Numbers.{phase-of}
-use Rattle.lock_rules.specs.Status.{unfinished}
+use Rattle.lock_rules.proofs.Status.{unfinished}
 use Rattle.lock_rules.specs.declared.ThreadState.{ThreadState}
 use Rattle.lock_rules.proofs.Tables.{ListTable, states-at, seen-here}
 use Rattle.lock_rules.proofs.ListSound.{InTable, SoundTable}

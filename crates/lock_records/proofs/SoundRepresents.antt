@@ -12,7 +12,7 @@ use Rattle.chains.specs.Chain.{members}
 use Rattle.chains.proofs.Chain.{Chain as Linked, head, chain-head, members-none}
 use Rattle.chains.proofs.Links.{Links, Stands}
 use Rattle.lock_word.specs.Read.{read-word}
-use Rattle.lock_rules.specs.Status.{unfinished}
+use Rattle.lock_rules.proofs.Status.{unfinished}
 use Rattle.lock_rules.specs.declared.ThreadState.{ThreadState}
 use Rattle.lock_rules.specs.declared.ThreadState.the-variants.{Idle}
 use Rattle.lock_rules.proofs.Objects.{ListObject, object-of}
@@ -20,7 +20,8 @@ use Rattle.lock_rules.proofs.Tables.{ListTable, seen-idle}
 use Rattle.lock_rules.proofs.ListSound.{StateFine, WordFine, InTable, SoundTable}
 use Rattle.chains.specs.declared.named.Chain.{Chain}
 use Rattle.lock_rules.proofs.Objects.{chain-of}
-use Rattle.lock_table.specs.Limits.{thread-limit, object-limit, depth-limit}
+use Rattle.lock_table.specs.Limits.{thread-limit, object-limit}
+use Rattle.lock_word.specs.Depth.{depth-limit}
 use Rattle.lock_table.specs.Record.{no-thread, no-object}
 use Rattle.lock_table.specs.Access.{thread-at, object-at, next-of, phase-number-at}
 use Rattle.lock_table.specs.Parked.{thread-chain, first-in, chain-first}

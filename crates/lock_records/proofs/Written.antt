@@ -1,10 +1,9 @@
 -- What a rule's view of a word and a thread's state are written as, how they are read back, and what the changes of words and records make of them.
-use Prim.Native.Nat.{ℕ, _-_, _%_, _≤_, _<_}
+use Prim.Native.Nat.{ℕ, _-_, _≤_}
 use mathlib.Core.Path.{_≡_, refl, sym, ap, _∙_}
 use mathlib.Core.Logic.{_⊎_, inl, inr}
 use mathlib.Core.Bool.{Bool, true, false}
 use native.Mathlib.Omega.{arith}
-use native.Mathlib.Nat.{mod-eq-of-lt}
 use lib.Dec.{T, eqb}
 use Rattle.laws.specs.Choice.{pick}
 use Rattle.laws.proofs.Choice.{pick-same}
@@ -18,9 +17,8 @@ use Rattle.lock_word.specs.declared.reading.LockWord.the-variants.{Free, Flat, 
 use Rattle.lock_word.specs.declared.reading.Decoded.the-variants.{Valid}
 use Rattle.lock_rules.specs.Numbers.{phase-of-doing, phase-of}
 use Rattle.lock_rules.specs.Rules.{onward}
-use Rattle.lock_rules.specs.Changes.{seen-after, handed, moved, look-again, sent-back}
-use Rattle.lock_rules.specs.Status.{unfinished}
-use Rattle.lock_rules.specs.declared.Suspension.{Suspension}
+use Rattle.lock_rules.proofs.Changes.{seen-after, handed, moved, look-again, sent-back}
+use Rattle.lock_rules.proofs.Status.{unfinished}
 use Rattle.lock_rules.specs.declared.Carried.{Carried}
 use Rattle.lock_rules.specs.declared.Carried.the-variants.{ToCheck, ToTell, ToInflate, ToResume}
 use Rattle.lock_rules.specs.declared.Doing.{Doing}

@@ -10,7 +10,8 @@ use borrow.Author.Tests.{eq-eqb, ne-eqb}
 use Rattle.laws.specs.Choice.{pick, both}
 use Rattle.laws.proofs.Choice.{Equal, equal, Below, below}
 use Rattle.lock_rules.specs.Actions.{keep-object, finish-depth, become-holder}
-use Rattle.lock_rules.specs.Limits.{depth-limit, count-limit}
+use Rattle.lock_word.specs.Depth.{depth-limit}
+use Rattle.lock_word.specs.Layout.{count-limit}
 use Rattle.lock_word.specs.Meaning.{owner-of}
 use Rattle.lock_rules.specs.Rules.{
   holder-only,

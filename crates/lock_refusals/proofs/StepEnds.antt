@@ -1,16 +1,15 @@
 -- How every step of a thread that can take one ends, by the rows of document 01's list.
 use Prim.Native.Nat.{ℕ, _≤_}
-use mathlib.Core.Path.{_≡_, refl, sym, _∙_}
+use mathlib.Core.Path.{_≡_, sym, _∙_}
 use mathlib.Core.Logic.{_≢_}
-use mathlib.Core.Bool.{Bool, true, false}
+use mathlib.Core.Bool.{Bool}
 use mathlib.Core.List.{List, [], _∷_}
-use lib.Dec.{eqb}
 use Rattle.laws.specs.Choice.{pick}
 use Rattle.lock_word.specs.Meaning.{seen-word, owner-of, depth-of}
 use Rattle.lock_word.proofs.Ownership.{owner-owned}
 use Rattle.lock_word.specs.declared.reading.LockWord.{LockWord}
 use Rattle.lock_word.specs.declared.reading.Decoded.the-variants.{Valid}
-use Rattle.lock_rules.specs.Limits.{depth-limit}
+use Rattle.lock_word.specs.Depth.{depth-limit}
 use Rattle.lock_rules.specs.Rules.{owner-seen, decide}
 use Rattle.lock_rules.specs.declared.Carried.the-variants.{ToTell, ToInflate}
 use Rattle.lock_rules.specs.declared.Doing.{Doing}

@@ -1,10 +1,10 @@
 -- An event is refused with the first of document 01's list that applies, and leaves what it says then.
-use Prim.Native.Nat.{ℕ, _≤_}
-use mathlib.Core.Path.{_≡_, refl, sym, ap, _∙_, subst, subst₂}
+use Prim.Native.Nat.{ℕ}
+use mathlib.Core.Path.{_≡_, refl, sym, ap, _∙_, subst}
 use mathlib.Core.Logic.{_≢_}
 use mathlib.Core.Bool.{Bool, true, false}
 use native.Mathlib.Omega.{arith}
-use lib.Dec.{T, leb}
+use lib.Dec.{leb}
 use borrow.Author.Tests.{le-leb}
 use Rattle.laws.specs.Choice.{pick, both, within}
 use Rattle.laws.proofs.Choice.{split, false≢true}
@@ -14,7 +14,6 @@ use Rattle.lock_word.specs.declared.reading.Decoded.the-variants.{Valid, Invali
 use Rattle.lock_rules.specs.Numbers.{refusal-number}
 use Rattle.lock_rules.specs.Gate.{is-idle, is-parked, gate-rows, gate, event-thread}
 use Rattle.lock_rules.specs.Rules.{decide}
-use Rattle.lock_rules.specs.Status.{unfinished}
 use Rattle.lock_rules.specs.declared.event.Event.{Event}
 use Rattle.lock_rules.specs.declared.event.Event.the-variants.{Begin, Step}
 use Rattle.lock_rules.specs.declared.event.ThreadStatus.{ThreadStatus}
@@ -43,9 +42,9 @@ use Rattle.lock_soundness.proofs.Reading.{sound-reads}
 use Rattle.lock_engine.specs.Outcome.{reply-returned}
 use Rattle.lock_engine.specs.Turn.{word-turn, state-turn, step-turn, open-turn, gate-turn, refused}
 use Rattle.lock_gate.specs.Status.{thread-status}
-use Rattle.lock_engine.specs.Handle.{event-object, waiters-of, trusted, outcome-of, handle-trusting, handle}
+use Rattle.lock_engine.specs.Handle.{event-object, waiters-of, outcome-of, handle-trusting, handle}
 use Rattle.lock_engine.specs.declared.outcome.Outcome.{Outcome}
-use Rattle.lock_engine.proofs.Refused.{refusing, refused-stays, handle-shut}
+use Rattle.lock_engine.proofs.Refused.{refused-stays, handle-shut}
 use Rattle.lock_engine.proofs.Narrow.{sizes}
 use Rattle.lock_records.proofs.ReadBack.{IsWritten, state-back}
 use Rattle.lock_records.proofs.EveryNumber.{written-at, running-next}

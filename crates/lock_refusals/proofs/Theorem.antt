@@ -1,5 +1,5 @@
 -- Demand 1: an event is refused with the first refusal that applies and otherwise accepted, and what a refused event leaves.
-use Prim.Native.Nat.{ℕ, _≤_}
+use Prim.Native.Nat.{_≤_}
 use mathlib.Core.Path.{_≡_, refl, sym, _∙_}
 use mathlib.Core.Logic.{_⊎_, inl, inr}
 use mathlib.Core.Bool.{true}

@@ -20,7 +20,7 @@ use Rattle.lock_rules.specs.declared.ThreadState.{ThreadState}
 use Rattle.lock_rules.specs.declared.ThreadState.the-variants.{Idle, Running, Queued, Contending, Waiting}
 use Rattle.lock_rules.specs.declared.Action.{Action}
 use Rattle.lock_rules.specs.declared.Action.the-variants.{Unruled, Do}
-use Rattle.lock_table.specs.Limits.{depth-limit}
+use Rattle.lock_word.specs.Depth.{depth-limit}
 use Rattle.lock_table.specs.Operation.{operation-number}
 use Rattle.lock_table.specs.Access.{thread-at, object-at, phase-number-at}
 use Rattle.lock_table.specs.declared.record.Monitor.{Monitor}

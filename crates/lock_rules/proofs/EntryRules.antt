@@ -10,7 +10,7 @@ use Rattle.laws.specs.Update.{update}
 use Rattle.laws.proofs.Choice.{by-below, by-equal}
 use Rattle.laws.proofs.Count.{count-none, count-same, count-joined}
 use Rattle.chains.specs.declared.named.Chain.{Chain}
-use Rattle.lock_rules.specs.Limits.{depth-limit}
+use Rattle.lock_word.specs.Depth.{depth-limit}
 use Rattle.lock_rules.specs.Actions.{keep-object, inflate, become-holder, raise-flag}
 use Rattle.lock_rules.specs.Rules.{onward, go-in-again, go-in, enter-check, enter-try}
 use Rattle.lock_rules.specs.Operations.{Operation}

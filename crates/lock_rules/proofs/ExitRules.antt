@@ -14,7 +14,7 @@ use Rattle.laws.proofs.Count.{count-none, count-same}
 use Rattle.chains.specs.declared.named.Chain.{Chain}
 use Rattle.lock_rules.specs.Actions.{go-on}
 use Rattle.lock_rules.specs.Rules.{onward, exit-test, exit-tell, exit-leave}
-use Rattle.lock_rules.specs.Changes.{handed, moved}
+use Rattle.lock_rules.proofs.Changes.{handed, moved}
 use Rattle.lock_rules.specs.Operations.{Exit}
 use Rattle.lock_rules.specs.declared.Carried.{Carried}
 use Rattle.lock_rules.specs.declared.Carried.the-variants.{ToCheck, ToTell, ToInflate, ToResume}

@@ -9,7 +9,8 @@ use lib.Dec.{T}
 use Rattle.laws.specs.Choice.{pick}
 use Rattle.laws.specs.Update.{update}
 use Rattle.laws.specs.Count.{count}
-use Rattle.lock_rules.specs.Limits.{depth-limit, count-limit}
+use Rattle.lock_word.specs.Depth.{depth-limit}
+use Rattle.lock_word.specs.Layout.{count-limit}
 use Rattle.lock_rules.specs.Rules.{onward}
 use Rattle.lock_rules.specs.Operations.{Operation}
 use Rattle.lock_rules.specs.Operations.{Enter, Exit, Wait, Notify, NotifyAll}

@@ -13,11 +13,11 @@ use Rattle.laws.specs.Count.{count}
 use Rattle.laws.proofs.Choice.{Equal, equal, by-equal, by-below}
 use Rattle.laws.proofs.Update.{update-same}
 use Rattle.laws.proofs.Count.{count-none}
-use Rattle.lock_rules.specs.Limits.{count-limit}
+use Rattle.lock_word.specs.Layout.{count-limit}
 use Rattle.lock_word.specs.Meaning.{owner-of, depth-of}
 use Rattle.lock_rules.specs.Actions.{let-go}
 use Rattle.lock_rules.specs.Rules.{owner-seen, enter-look, exit-owned, wait-owned, owner-only}
-use Rattle.lock_rules.specs.Changes.{seen-after}
+use Rattle.lock_rules.proofs.Changes.{seen-after}
 use Rattle.lock_rules.specs.Operations.{Enter, Exit, Wait}
 use Rattle.lock_rules.specs.declared.Doing.{Doing}
 use Rattle.lock_rules.specs.declared.Doing.the-variants.{EnterLook, EnterStore, EnterCancel, EnterGoIn, ExitLook, ExitStore, ExitTest, ExitLeave}

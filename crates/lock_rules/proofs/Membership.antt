@@ -8,13 +8,13 @@ use Rattle.laws.specs.Count.{count}
 use Rattle.laws.proofs.Choice.{equal?}
 use Rattle.laws.proofs.Count.{count-none, count-same, count-other}
 use Rattle.chains.specs.declared.named.Chain.{Chain}
-use Rattle.lock_rules.specs.Changes.{sent-back}
+use Rattle.lock_rules.proofs.Changes.{sent-back}
 use Rattle.lock_rules.specs.declared.Suspension.{Suspension}
 use Rattle.lock_rules.specs.declared.Carried.{Carried}
 use Rattle.lock_rules.specs.declared.ThreadState.{ThreadState}
 use Rattle.lock_rules.specs.declared.ThreadState.the-variants.{Idle, Running, Queued, Contending, Waiting}
 use Rattle.lock_rules.specs.declared.Taken.{Taken}
-use Rattle.lock_rules.specs.declared.Taken.the-variants.{First, All}
+use Rattle.lock_rules.specs.declared.Taken.the-variants.{First}
 use Rattle.lock_rules.specs.declared.ChainWork.{ChainWork}
 use Rattle.lock_rules.specs.declared.ChainWork.the-variants.{Stay, Join, JoinAndHand, Hand, Move, SendBack}
 use Rattle.lock_rules.proofs.Objects.{ListObject, chain-of}

@@ -16,7 +16,7 @@ use Rattle.laws.proofs.Count.{count-none, count-same, count-other}
 use Rattle.chains.specs.declared.named.Chain.{Chain}
 use Rattle.lock_rules.specs.Actions.{keep-object, finish}
 use Rattle.lock_rules.specs.Rules.{owner-seen, notify-owned, notify-all-owned, owner-only}
-use Rattle.lock_rules.specs.Changes.{moved}
+use Rattle.lock_rules.proofs.Changes.{moved}
 use Rattle.lock_rules.specs.Operations.{Operation}
 use Rattle.lock_rules.specs.Operations.{Notify, NotifyAll}
 use Rattle.lock_rules.specs.declared.Doing.{Doing}

@@ -10,7 +10,7 @@ use Rattle.laws.specs.Update.{update}
 use Rattle.laws.specs.Count.{count}
 use Rattle.laws.proofs.Count.{count-append}
 use Rattle.chains.specs.declared.named.Chain.{Chain}
-use Rattle.lock_rules.specs.Changes.{seen-after, handed, moved, sent-back}
+use Rattle.lock_rules.proofs.Changes.{seen-after, handed, moved, sent-back}
 use Rattle.lock_rules.specs.declared.ThreadState.{ThreadState}
 use Rattle.lock_rules.specs.declared.Taken.{Taken}
 use Rattle.lock_rules.specs.declared.Taken.the-variants.{First, All}

@@ -8,7 +8,7 @@ use lib.Dec.{T}
 use Rattle.laws.specs.Count.{count}
 use Rattle.laws.proofs.Count.{count-none}
 use Rattle.lock_word.specs.Meaning.{owner-of}
-use Rattle.lock_rules.specs.Status.{parked-for-entry, unparked, unfinished}
+use Rattle.lock_rules.proofs.Status.{parked-for-entry, unparked, unfinished}
 use Rattle.lock_rules.specs.declared.ThreadState.{ThreadState}
 use Rattle.lock_rules.specs.declared.ThreadState.the-variants.{Idle, Running, Queued, Contending, Waiting}
 use Rattle.lock_word.specs.declared.meaning.WordSeen.{WordSeen}

@@ -12,10 +12,10 @@ use Rattle.laws.specs.Count.{count}
 use Rattle.laws.proofs.Choice.{by-equal}
 use Rattle.laws.proofs.Count.{count-none}
 use Rattle.chains.specs.declared.named.Chain.{Chain}
-use Rattle.lock_rules.specs.Limits.{depth-limit}
+use Rattle.lock_word.specs.Depth.{depth-limit}
 use Rattle.lock_rules.specs.Actions.{keep-object, go-on, finish-word, finish-depth, inflate}
 use Rattle.lock_rules.specs.Rules.{owner-seen, owner-only}
-use Rattle.lock_rules.specs.Changes.{seen-after, handed, moved}
+use Rattle.lock_rules.proofs.Changes.{seen-after, handed, moved}
 use Rattle.lock_rules.specs.Operations.{Operation}
 use Rattle.lock_rules.specs.declared.Suspension.{Suspension}
 use Rattle.lock_rules.specs.declared.Doing.{Doing}

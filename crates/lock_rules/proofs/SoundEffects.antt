@@ -8,7 +8,8 @@ use lib.Dec.{eqb, ltb}
 use Rattle.laws.specs.Choice.{pick, both}
 use Rattle.laws.proofs.Choice.{by-equal, by-below}
 use Rattle.chains.specs.declared.named.Chain.{Chain}
-use Rattle.lock_rules.specs.Limits.{depth-limit, count-limit}
+use Rattle.lock_word.specs.Depth.{depth-limit}
+use Rattle.lock_word.specs.Layout.{count-limit}
 use Rattle.lock_word.specs.Meaning.{owner-of}
 use Rattle.lock_rules.specs.Actions.{keep-object, go-on, finish-word, finish-depth, let-go, inflate, raise-flag}
 use Rattle.lock_rules.specs.Rules.{deflation, onward, owner-seen, enter-look, exit-owned, wait-owned, notify-owned, notify-all-owned, owner-only}

@@ -13,8 +13,8 @@ use Rattle.laws.proofs.Choice.{equal?}
 use Rattle.laws.proofs.Update.{update-same, update-other}
 use Rattle.laws.proofs.Count.{count-none, count-same}
 use Rattle.chains.specs.declared.named.Chain.{Chain}
-use Rattle.lock_rules.specs.Limits.{depth-limit}
-use Rattle.lock_rules.specs.Changes.{seen-after, handed, moved, look-again, sent-back}
+use Rattle.lock_word.specs.Depth.{depth-limit}
+use Rattle.lock_rules.proofs.Changes.{seen-after, handed, moved, look-again, sent-back}
 use Rattle.lock_rules.specs.declared.Doing.{Doing}
 use Rattle.lock_rules.specs.declared.Doing.the-variants.{EnterLook, EnterStore, EnterCancel, EnterGoIn, EnterCheck, EnterTry, ExitLook, ExitStore}
 use Rattle.lock_rules.specs.declared.Doing.the-variants.{ExitGoIn, ExitTest, ExitTell, ExitLeave, WaitLook, WaitCancel, WaitGoIn, WaitInflate}

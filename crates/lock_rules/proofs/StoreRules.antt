@@ -8,11 +8,11 @@ use lib.Dec.{T, eqb}
 use Rattle.laws.specs.Choice.{pick}
 use Rattle.laws.specs.Update.{update}
 use Rattle.laws.proofs.Choice.{Equal, equal, by-equal, by-below}
-use Rattle.lock_rules.specs.Limits.{count-limit}
+use Rattle.lock_word.specs.Layout.{count-limit}
 use Rattle.lock_word.specs.Meaning.{owner-of}
 use Rattle.lock_rules.specs.Rules.{enter-store, exit-store, cancel}
 use Rattle.lock_word.specs.Meaning.{cancelled}
-use Rattle.lock_rules.specs.Changes.{sent-back}
+use Rattle.lock_rules.proofs.Changes.{sent-back}
 use Rattle.lock_rules.specs.Operations.{Enter, Exit}
 use Rattle.lock_rules.specs.declared.Doing.{Doing}
 use Rattle.lock_rules.specs.declared.Doing.the-variants.{EnterStore, ExitStore}

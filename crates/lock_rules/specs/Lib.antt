@@ -1,12 +1,9 @@
 -- What a step decides, and the plain monitors that it must agree with: document 01, "Steps" and "Plain monitors".
-pub mod Limits
 pub mod Operations
 pub mod Numbers
 pub mod Actions
 pub mod Rules
 pub mod Gate
-pub mod Changes
-pub mod Status
 pub mod Events
 pub mod PlainMonitor
 pub mod Feed

@@ -7,7 +7,7 @@ use lib.ListN.{length}
 use Rattle.laws.specs.Choice.{pick, both, either}
 use Rattle.laws.specs.Update.{update}
 use Rattle.laws.specs.Count.{count}
-use Rattle.lock_rules.specs.Limits.{depth-limit}
+use Rattle.lock_word.specs.Depth.{depth-limit}
 use Rattle.lock_rules.specs.Operations.{Operation}
 use Rattle.lock_rules.specs.Operations.{Enter, Exit, Wait, Notify, NotifyAll}
 use Rattle.lock_rules.specs.declared.Suspension.{Suspension}

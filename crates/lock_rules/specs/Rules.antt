@@ -5,7 +5,8 @@ use lib.Dec.{eqb, ltb}
 use Rattle.laws.specs.Choice.{pick, both}
 use Rattle.lock_rules.specs.Actions.{keep-object, go-on, not-owner, finish, finish-word, finish-depth, let-go, inflate, cancel-word}
 use Rattle.lock_rules.specs.Actions.{become-holder, raise-flag}
-use Rattle.lock_rules.specs.Limits.{depth-limit, count-limit}
+use Rattle.lock_word.specs.Depth.{depth-limit}
+use Rattle.lock_word.specs.Layout.{count-limit}
 use Rattle.lock_word.specs.Meaning.{owner-of}
 use Rattle.lock_rules.specs.Operations.{Operation}
 use Rattle.lock_rules.specs.Operations.{Enter, Exit, Wait, Notify, NotifyAll}

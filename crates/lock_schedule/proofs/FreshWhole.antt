@@ -9,8 +9,8 @@ use Rattle.laws.proofs.Choice.{equal?, AtMost, at-most}
 use Rattle.lock_rules.proofs.Tables.{ListTable, fresh}
 use Rattle.lock_rules.proofs.ListSound.{SoundTable}
 use Rattle.lock_rules.proofs.SoundKept.{sound-fresh}
-use Rattle.lock_table.specs.Limits.{thread-limit, object-limit, depth-limit}
-use Rattle.lock_table.specs.Record.{no-object}
+use Rattle.lock_table.specs.Limits.{thread-limit, object-limit}
+use Rattle.lock_word.specs.Depth.{depth-limit}
 use Rattle.lock_table.specs.Access.{object-at}
 use Rattle.lock_table.specs.Fresh.{fresh-of}
 use Rattle.lock_table.specs.Whole.{Whole}

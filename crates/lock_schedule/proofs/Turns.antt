@@ -1,9 +1,9 @@
 -- An event of the engine on a sound table is the turn of the tables of records: what the gate lets through is the begin or the step there.
-use Prim.Native.Nat.{ℕ, zero, suc, _≤_}
+use Prim.Native.Nat.{ℕ, zero, suc}
 use mathlib.Core.Path.{_≡_, refl, sym, ap, _∙_, subst}
 use mathlib.Core.Bool.{Bool, true, false}
 use native.Mathlib.Omega.{arith}
-use lib.Dec.{T, leb}
+use lib.Dec.{T}
 use borrow.Author.Tests.{le-leb, lt-leb}
 use Rattle.laws.specs.Choice.{pick, within}
 use Rattle.laws.proofs.Choice.{false≢true}
@@ -13,12 +13,10 @@ use Rattle.lock_word.specs.declared.reading.Decoded.the-variants.{Valid, Invali
 use Rattle.lock_rules.specs.Gate.{gate, event-thread}
 use Rattle.lock_rules.specs.Operations.{operation-limit}
 use Rattle.lock_rules.specs.Numbers.{asked-for, refusal-number}
-use Rattle.lock_rules.specs.Operations.{Asked}
 use Rattle.lock_rules.specs.Rules.{decide}
-use Rattle.lock_rules.specs.Status.{unfinished}
+use Rattle.lock_rules.proofs.Status.{unfinished}
 use Rattle.lock_rules.specs.declared.event.Event.{Event}
 use Rattle.lock_rules.specs.declared.event.Event.the-variants.{Begin, Step}
-use Rattle.lock_rules.specs.declared.event.ThreadStatus.{ThreadStatus}
 use Rattle.lock_rules.specs.declared.event.ThreadStatus.the-variants.{Ready}
 use Rattle.lock_rules.specs.declared.event.Refusal.the-variants.{NotSound}
 use Rattle.lock_rules.specs.declared.event.Gate.{Gate}
@@ -55,9 +53,8 @@ use Rattle.lock_records.proofs.ReadBack.{IsWritten, state-back}
 use Rattle.lock_records.proofs.EveryNumber.{written-at}
 use Rattle.lock_engine.specs.Turn.{begun, begin-turn, action-turn, word-turn, state-turn, step-turn, open-turn, gate-turn, refused}
 use Rattle.lock_gate.specs.Status.{thread-status}
-use Rattle.lock_engine.specs.Handle.{event-object, waiters-of, trusted, outcome-of, handle-with, handle-trusting, handle}
+use Rattle.lock_engine.specs.Handle.{event-object, waiters-of, outcome-of, handle-trusting, handle}
 use Rattle.lock_engine.specs.declared.outcome.Outcome.{Outcome}
-use Rattle.lock_engine.specs.declared.turning.Turn.{Turn}
 use Rattle.lock_engine.proofs.Refused.{refused-stays}
 use Rattle.lock_table.proofs.Records.{thread-unchanged, object-beside-thread}
 use Rattle.lock_engine.proofs.Narrow.{sizes}

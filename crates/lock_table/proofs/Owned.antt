@@ -11,7 +11,8 @@ use denote.Laws.{Is}
 use denote.Shadow.{shadow}
 use denote.Array.{each}
 use Rattle.laws.proofs.Choice.{by-test}
-use Rattle.lock_table.specs.Limits.{depth-limit, object-limit}
+use Rattle.lock_table.specs.Limits.{object-limit}
+use Rattle.lock_word.specs.Depth.{depth-limit}
 use Rattle.lock_table.specs.Record.{no-object}
 use Rattle.lock_table.specs.Access.{object-at}
 use Rattle.lock_table.specs.Whole.{Whole}

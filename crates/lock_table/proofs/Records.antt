@@ -28,14 +28,6 @@ module _ (A : Type 0) (none : A) (limit : ℕ) where
   abbrev pub write-at : List A → ℕ → A → List A
   write-at list number value = pick (eqb number 0) list (pick (ltb limit number) list (set list (number - 1) value))
 
-  pub write-length : (list : List A) (number : ℕ) (value : A) → length (write-at list number value) ≡ length list
-  write-length list number value = at (eqb number 0) (ltb limit number)
-    where
-      at : (a b : Bool) → length (pick a list (pick b list (set list (number - 1) value))) ≡ length list
-      at true b = refl
-      at false true = refl
-      at false false = length-set list (number - 1) value
-
   pub read-written : (list : List A) (number : ℕ) (value : A) → length list ≡ limit → 0 < number → number ≤ limit
       → read-at (write-at list number value) ≡ update (read-at list) number value
   read-written list number value full low high =

@@ -84,17 +84,19 @@ impl Monitor {
     }
 
     // A thread, or a chain from its first thread on, joins a chain at the end. Whoever joins one comes through here.
-    pub fn join(self, chain: Chain, first: u8) -> Monitor
+    pub fn join(mut self, chain: Chain, first: u8) -> Monitor
         ensures { λ r. ⌜ r ≡ join self chain first ⌝ }
     {
-        self.with_first(chain, first_of_both(self.first_in(chain), first))
+        self = self.with_first(chain, first_of_both(self.first_in(chain), first));
+        self
     }
 
     // The first of a chain, or all of it, move to the entry chain. `left` is who the chain begins with then: the first's next index, or 0.
-    pub fn move_to_entry(self, from: Chain, left: u8) -> Monitor
+    pub fn move_to_entry(mut self, from: Chain, left: u8) -> Monitor
         ensures { λ r. ⌜ r ≡ move-to-entry self from left ⌝ }
     {
         let first = self.first_in(from);
-        self.with_first(from, left).join(Chain::Entry, first)
+        self = self.with_first(from, left);
+        self.join(Chain::Entry, first)
     }
 }

@@ -1,10 +1,10 @@
 -- What the run has read and passed on between two reads, and what that gives where it ends.
 use Prim.Native.Nat.{ℕ, _+_, _-_, _≤_}
-use mathlib.Core.Path.{_≡_, refl, ap, sym, _∙_, subst}
-use mathlib.Core.Bool.{Bool, true, false}
+use mathlib.Core.Path.{_≡_, ap, sym, _∙_, subst}
+use mathlib.Core.Bool.{Bool, false}
 use mathlib.Core.List.{List, [], _++_}
 use native.Mathlib.Omega.{arith}
-use lib.ListN.{length, take, drop}
+use lib.ListN.{take, drop}
 use lib.Seq.{take-add, length-take-le}
 use Rattle.replay_lines.specs.Cutting.{line-limit}
 use Rattle.replay_parts.specs.Part.{Passed}
@@ -15,7 +15,7 @@ use Rattle.replay_stream.specs.Stream.{fresh-stream}
 use Rattle.replay.specs.declared.Ending.{Ending}
 use Rattle.replay.specs.declared.Held.{Held}
 use Rattle.replay.specs.declared.Moved.{Moved}
-use Rattle.replay.specs.Run.{PassedOn, SettledAt, Takes, ReadBehind, EndedAs, Runs}
+use Rattle.replay.specs.Run.{Takes, ReadBehind, EndedAs, Runs}
 
 -- some input was read, and passed on up to `rest`; `ended` says that it has ended
 pub record Read (ended : Bool) (stream : Stream) (rest : List ℕ) : Type 0 where

@@ -2,7 +2,7 @@
 -- whatever may follow what was read.
 use Prim.Native.Nat.{ℕ}
 use mathlib.Core.Path.{_≡_, refl, ap, sym, _∙_}
-use mathlib.Core.Bool.{Bool, false}
+use mathlib.Core.Bool.{false}
 use mathlib.Core.List.{List, [], _++_, append-nil}
 use lib.ListN.{take}
 use Rattle.replay_parts.specs.Replay.{replay-of, rest-output}
@@ -10,7 +10,6 @@ use Rattle.replay_parts.specs.Part.{Follows}
 use Rattle.replay_session.specs.Session.{fresh-session, session-replay}
 use Rattle.replay_session.proofs.Over.{session-over-silent}
 use Rattle.replay_stream.specs.declared.feeding.Stream.{Stream}
-use Rattle.replay.specs.declared.Ending.{Ending}
 use Rattle.replay.specs.declared.Ending.the-variants.{AllRead, BadHeader}
 use Rattle.replay.specs.Run.{Runs}
 

@@ -7,7 +7,6 @@ use lib.ListN.{length, take, drop}
 use Rattle.replay_text.specs.Bytes.{digit-zero}
 use Rattle.replay_parts.specs.Replay.{rest-output}
 use Rattle.replay_parts.specs.Part.{Passed, Settled}
-use Rattle.replay_session.specs.declared.session.Session.{Session}
 use Rattle.replay_session.specs.Session.{fresh-session, session-over, session-replay}
 use Rattle.replay_stream.specs.declared.feeding.Stream.{Stream}
 use Rattle.replay.specs.declared.Ending.{Ending}

@@ -4,7 +4,6 @@
 ghost use mathlib.Core.Path.{_≡_};
 ghost use Prim.Native.Nat.{_≤_};
 ghost use lib.ListN.{length};
-ghost use Rattle.replay_lines.specs.Cutting.{line-limit};
 ghost use Rattle.replay_text.specs.Text.{line-room};
 ghost use Rattle.replay_parts.specs.Part.{end-room};
 ghost use Rattle.replay.specs.Run.{Drains, Takes, ReadBehind, Runs, ending-byte};

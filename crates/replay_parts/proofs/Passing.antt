@@ -1,15 +1,15 @@
 -- Parts passed on one after another, and the rest that is left where nothing more is taken.
-use Prim.Native.Nat.{ℕ, _-_, _≤_, _<_}
-use mathlib.Core.Path.{_≡_, refl, ap, sym, _∙_, subst}
+use Prim.Native.Nat.{ℕ, _≤_, _<_}
+use mathlib.Core.Path.{_≡_, refl, ap, sym, _∙_}
 use mathlib.Core.Logic.{inl, inr}
 use mathlib.Core.Bool.{Bool, true, false}
-use mathlib.Core.List.{List, [], _++_, append-assoc, append-nil}
+use mathlib.Core.List.{List, [], _++_, append-assoc}
 use native.Mathlib.Omega.{arith}
 use lib.ListN.{length, take, drop}
 use Rattle.laws.proofs.Choice.{false≢true}
 use Rattle.replay_lines.specs.Cutting.{line-end, line-limit}
 use Rattle.replay_parts.specs.Replay.{Replay, rest-output}
-use Rattle.replay_parts.specs.Part.{end-room, Follows, Fed, Passed, Settled}
+use Rattle.replay_parts.specs.Part.{end-room, Fed, Passed, Settled}
 
 pub passed-none : {S : Type 0} (replay : Replay S) (session : S) (inside last : Bool) (input : List ℕ)
     → Passed replay session inside last input session inside input

@@ -12,7 +12,6 @@ use Rattle.lock_rules.specs.declared.event.Event.{Event}
 use Rattle.lock_table.specs.Phase.{phase-number}
 use Rattle.lock_table.specs.Access.{thread-at, object-at}
 use Rattle.lock_table.specs.Whole.{Whole}
-use Rattle.lock_table.specs.declared.phase.Phase.{Phase}
 use Rattle.lock_table.specs.declared.record.ThreadRecord.{ThreadRecord}
 use Rattle.lock_table.specs.declared.record.Table.{Table}
 use Rattle.lock_soundness.specs.Sound.{sound-of}
@@ -20,18 +19,16 @@ use Rattle.lock_engine.specs.Outcome.{reply-returned, reply-woken}
 use Rattle.lock_engine.specs.Handle.{event-object, handle-trusting}
 use Rattle.lock_engine.specs.declared.outcome.Outcome.{Outcome}
 use Rattle.lock_engine.specs.declared.turning.Turn.{Turn}
-use Rattle.lock_engine.proofs.InPlace.{number-in-place, turn-here, own-here, in-place, Taken}
+use Rattle.lock_engine.proofs.InPlace.{turn-here, own-here, in-place, Taken}
 use Rattle.lock_engine.proofs.Full.{Full}
 use Rattle.lock_engine.proofs.After.{has-thread, event-leaves}
 use Rattle.replay_lines.specs.declared.reading.Line.{Line}
 use Rattle.replay_lines.specs.declared.reading.Line.the-variants.{Header, Begin, Step, Malformed}
 use Rattle.replay_text.specs.declared.answer.Answer.{Answer}
-use Rattle.replay_session.specs.Session.{answer-from, answer-with, after-event}
+use Rattle.replay_session.specs.Session.{answer-from, answer-with}
 use Rattle.replay_session.specs.Known.{sound-by, event-known, line-event, is-event, runs-event, turn-answer, run-by, react-by, react-trusting}
 use Rattle.replay_session.specs.declared.session.Stage.{Stage}
 use Rattle.replay_session.specs.declared.session.Stage.the-variants.{Opening, Running, Over}
-use Rattle.replay_session.specs.declared.session.Session.{Session}
-use Rattle.replay_session.specs.declared.reacting.Reaction.{Reaction}
 use Rattle.replay_stream.proofs.Known.{WholeBy}
 
 -- a refusal prints its number, whatever else there is to print

@@ -52,10 +52,3 @@ unfolding answer-text
 answer-fits Silent = omega arith
 answer-fits (Refused number) = number-line-fits number
 answer-fits (Accepted returned phase woken word) = answer-line-fits returned phase woken word
-
-pub number-line-some : (number : ℕ) → 0 < length (number-line number)
-number-line-some number = field-some number 10
-
-pub answer-line-some : (returned phase woken word : ℕ) → 0 < length (answer-line returned phase woken word)
-unfolding answer-line
-answer-line-some returned phase woken word = simp (length-append) (omega (arith, field-some returned 32))

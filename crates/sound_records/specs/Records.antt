@@ -10,7 +10,7 @@ use Rattle.lock_word.specs.Read.{read-word}
 use Rattle.lock_word.specs.declared.reading.LockWord.the-variants.{Free, Flat, Anonymous, Reserved, Fat}
 use Rattle.lock_word.specs.declared.reading.Decoded.{Decoded}
 use Rattle.lock_word.specs.declared.reading.Decoded.the-variants.{Valid, Invalid}
-use Rattle.lock_table.specs.Limits.{depth-limit}
+use Rattle.lock_word.specs.Depth.{depth-limit}
 use Rattle.lock_table.specs.Operation.{operation-number}
 use Rattle.lock_table.specs.Parked.{chain-named, thread-chain}
 use Rattle.lock_table.specs.declared.operation.Operation.{Operation}

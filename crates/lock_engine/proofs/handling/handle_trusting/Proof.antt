@@ -3,7 +3,7 @@ use mathlib.Core.Path.{sym, _∙_}
 use native.Mathlib.Omega.{arith}
 use Rattle.laws.proofs.Choice.{either-way}
 use Rattle.lock_table.specs.Limits.{thread-limit, object-limit}
-use Rattle.lock_engine.proofs.InPlace.{Taken, none-wait, stored-so, worked-so}
+use Rattle.lock_engine.proofs.InPlace.{none-wait, stored-so, worked-so}
 use Rattle.lock_table.proofs.Places.{place-inside}
 use Rattle.lock_engine.proofs.handling.handle_trusting.Statement.{statement}
 use Rattle.lock_engine.proofs.handling.handle_trusting.Tie as tie

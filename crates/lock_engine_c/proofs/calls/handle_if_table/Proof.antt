@@ -1,5 +1,4 @@
 -- `lock_engine_c::calls::handle_if_table` meets its contract: on a table, the event's turn on what the bytes say.
-use mathlib.Core.Path.{_∙_}
 use borrow.Author.Needs.{needs}
 use Rattle.lock_engine_c.proofs.EventTurns.{turn-answers, turn-stores}
 use Rattle.lock_engine_c.proofs.calls.handle_if_table.Statement.{statement}

@@ -1,5 +1,5 @@
 -- `lock_perform::moving::relink` meets its contract: what is left to hang from here makes what was to be made from the front.
-use mathlib.Core.Path.{_≡_, refl, sym, _∙_}
+use mathlib.Core.Path.{_≡_, refl, _∙_}
 use borrow.Author.Needs.{needs}
 use borrow.Author.Tests.{eq-eqb}
 use native.Mathlib.Omega.{arith}
