@@ -23,13 +23,14 @@ use Rattle.lock_rules.specs.declared.Effect.{Effect}
 use Rattle.lock_rules.specs.declared.Action.{Action}
 use Rattle.lock_rules.specs.declared.Action.the-variants.{Unruled, Do}
 use Rattle.lock_table.specs.Limits.{object-limit}
+use Rattle.lock_table.specs.Record.{with-activity}
 use Rattle.lock_table.specs.Operation.{operation-from}
 use Rattle.lock_table.specs.declared.operation.Operation.{Operation}
 use Rattle.lock_table.specs.declared.phase.Phase.the-variants.{Look}
 use Rattle.lock_table.specs.declared.record.ThreadRecord.{ThreadRecord}
 use Rattle.lock_table.specs.declared.record.ObjectRecord.{ObjectRecord}
 use Rattle.lock_gate.specs.Status.{thread-status}
-use Rattle.lock_perform.specs.State.{read-thread, with-fields, write-thread}
+use Rattle.lock_perform.specs.State.{read-thread, activity-of, write-thread}
 use Rattle.lock_perform.specs.Sight.{sight-with}
 use Rattle.lock_perform.specs.Perform.{object-after}
 use Rattle.lock_engine.specs.declared.outcome.Reply.the-variants.{Begun, Refused, Answered}
@@ -40,17 +41,17 @@ abbrev pub refused : ThreadRecord → ObjectRecord → Refusal → Turn
 refused own object refusal = record { own = own; object = object; work = Stay; reply = Refused refusal; commits = false }
 
 -- "begin sets phase 1"
-abbrev pub begun : Operation → ℕ → ThreadRecord
-begun operation number = with-fields operation number Look 0 0 0
+abbrev pub begun : ThreadRecord → Operation → ℕ → ThreadRecord
+begun own operation number = with-activity own (activity-of operation number Look 0 0)
 
-abbrev pub begin-turn : ObjectRecord → Operation → ℕ → Turn
-begin-turn object operation number = record { own = begun operation number; object = object; work = Stay; reply = Begun; commits = false }
+abbrev pub begin-turn : ThreadRecord → ObjectRecord → Operation → ℕ → Turn
+begin-turn own object operation number = record { own = begun own operation number; object = object; work = Stay; reply = Begun; commits = false }
 
 -- a rule's effect
 abbrev pub effect-turn : ℕ → ThreadRecord → ObjectRecord → Effect → Turn
 effect-turn thread own object effect =
     record {
-      own = write-thread thread (own .object) (effect .state) (own .next);
+      own = write-thread thread (own .object) (effect .state) own;
       object = object-after thread (own .object) object effect;
       work = effect .work;
       reply = Answered (effect .answer);
@@ -82,7 +83,7 @@ step-turn thread own object waiters =
     pick (within 1 object-limit (own .object)) (state-turn thread own object waiters (read-thread own)) (refused own object NotSound)
 
 unfoldable pub open-turn : Event → ThreadRecord → ObjectRecord → ℕ → Turn
-open-turn (Begin operation thread number) own object waiters = begin-turn object (operation-from operation) number
+open-turn (Begin operation thread number) own object waiters = begin-turn own object (operation-from operation) number
 open-turn (Step thread) own object waiters = step-turn thread own object waiters
 
 unfoldable pub gate-turn : Gate → Event → ThreadRecord → ObjectRecord → ℕ → Turn

@@ -2,6 +2,7 @@
 use crate::outcome::Reply;
 use lock_gate::gate;
 use lock_gate::thread_status;
+use lock_perform::activity_of;
 use lock_perform::object_after;
 use lock_perform::read_thread;
 use lock_perform::sight_with;
@@ -49,24 +50,17 @@ fn refused(own: ThreadRecord, object: ObjectRecord, refusal: Refusal) -> Turn
     }
 }
 
-fn begun(operation: Operation, number: u8) -> ThreadRecord
-    ensures { λ r. ⌜ r ≡ begun operation number ⌝ }
+fn begun(own: ThreadRecord, operation: Operation, number: u8) -> ThreadRecord
+    ensures { λ r. ⌜ r ≡ begun own operation number ⌝ }
 {
-    ThreadRecord {
-        kept: 0,
-        saved: 0,
-        object: number,
-        next: 0,
-        operation: operation,
-        phase: Phase::Look,
-    }
+    own.with_activity(activity_of(operation, number, Phase::Look, 0, 0))
 }
 
-fn begin_turn(object: ObjectRecord, operation: Operation, number: u8) -> Turn
-    ensures { λ r. ⌜ r ≡ begin-turn object operation number ⌝ }
+fn begin_turn(own: ThreadRecord, object: ObjectRecord, operation: Operation, number: u8) -> Turn
+    ensures { λ r. ⌜ r ≡ begin-turn own object operation number ⌝ }
 {
     Turn {
-        own: begun(operation, number),
+        own: begun(own, operation, number),
         object: object,
         work: ChainWork::Stay,
         reply: Reply::Begun,
@@ -81,7 +75,7 @@ fn effect_turn(thread: u8, own: ThreadRecord, object: ObjectRecord, effect: Effe
     let work = effect.work;
     let answer = effect.answer;
     Turn {
-        own: write_thread(thread, own.object, state, own.next),
+        own: write_thread(thread, own.object, state, own),
         object: object_after(thread, own.object, object, effect),
         work: work,
         reply: Reply::Answered(answer),
@@ -169,7 +163,7 @@ fn open_turn(event: Event, own: ThreadRecord, object: ObjectRecord, waiters: u8)
             operation,
             thread: _,
             object: number,
-        } => begin_turn(object, operation_from(operation), number),
+        } => begin_turn(own, object, operation_from(operation), number),
         Event::Step { thread } => step_turn(thread, own, object, waiters),
     }
 }

@@ -8,7 +8,7 @@ use Rattle.lock_rules.specs.declared.Taken.the-variants.{First, All}
 use Rattle.lock_rules.specs.declared.ChainWork.{ChainWork}
 use Rattle.lock_rules.specs.declared.ChainWork.the-variants.{Stay, Join, JoinAndHand, Hand, Move, SendBack}
 use Rattle.lock_table.specs.Limits.{thread-limit}
-use Rattle.lock_table.specs.Record.{with-next}
+use Rattle.lock_table.specs.Record.{with-next, with-activity}
 use Rattle.lock_table.specs.Access.{thread-at, set-thread}
 use Rattle.lock_table.specs.Monitor.{hand-of, first-in, with-first, join, move-to-entry}
 use Rattle.lock_table.specs.Chain.{hang, handed-of, moved, move-all}
@@ -25,7 +25,7 @@ use Rattle.lock_perform.specs.declared.moving.CarriedOut.{CarriedOut}
 -- cancel: the word's thread, if in phase 2 on this object, goes back to 1; its kept word falls out of use
 abbrev pub look-again : ThreadRecord → ThreadRecord
 look-again thread =
-    record { kept = 0; saved = thread .saved; object = thread .object; next = thread .next; operation = thread .operation; phase = Look }
+    with-activity thread (record { kept = 0; saved = thread .saved; object = thread .object; operation = thread .operation; phase = Look })
 
 unfoldable pub back-from : ThreadRecord → Phase → ThreadRecord
 back-from thread Idle = thread

@@ -10,7 +10,7 @@ use Rattle.lock_rules.specs.declared.ChainWork.{ChainWork}
 use Rattle.lock_rules.specs.declared.ChainWork.the-variants.{Stay, Join, JoinAndHand, Hand, Move, SendBack}
 use Rattle.lock_rules.specs.declared.Effect.{Effect}
 use Rattle.lock_table.specs.Access.{set-thread, set-object, next-of}
-use Rattle.lock_table.specs.Record.{with-next, with-monitor}
+use Rattle.lock_table.specs.Record.{with-next, with-word, with-flag, with-monitor}
 use Rattle.lock_table.specs.Monitor.{held-by, with-depth}
 use Rattle.lock_table.specs.declared.record.Monitor.{Monitor}
 use Rattle.lock_table.specs.declared.record.ThreadRecord.{ThreadRecord}
@@ -34,11 +34,9 @@ begun-monitor monitor holder depth = with-depth (held-by monitor holder) depth
 -- the object's record after an effect, its chains as they were
 abbrev pub object-after : ℕ → ℕ → ObjectRecord → Effect → ObjectRecord
 object-after thread number object effect =
-    record {
-      word = word-after thread number (object .word) (effect .word);
-      monitor = begun-monitor (object .monitor) (effect .holder) (effect .depth);
-      flag = effect .flag;
-    }
+    with-flag
+    (with-monitor (with-word object (word-after thread number (object .word) (effect .word))) (begun-monitor (object .monitor) (effect .holder) (effect .depth)))
+    (effect .flag)
 
 -- whether an effect leaves the chains alone
 unfoldable pub stays : ChainWork → Bool

@@ -1,4 +1,4 @@
--- A thread's record read as what the thread is doing, and written: "fields of a thread that its phase does not use are 0".
+-- A thread's record read as what the thread is doing, and what of it is written: "fields of a thread that its phase does not use are 0".
 use Prim.Native.Nat.{ℕ}
 use Rattle.lock_word.specs.Read.{read-word}
 use Rattle.lock_word.specs.Meaning.{kept-count}
@@ -19,7 +19,9 @@ use Rattle.lock_table.specs.declared.phase.Onward.the-variants.{ToCheck as OnTo
 use Rattle.lock_table.specs.declared.phase.Phase.{Phase}
 use Rattle.lock_table.specs.declared.phase.Phase.the-variants.{Idle as IdlePhase, Look, Store, Cancel, GoIn, Queued as QueuedPhase, Check, Try}
 use Rattle.lock_table.specs.declared.phase.Phase.the-variants.{Contending as ContendingPhase, Test, Tell, Leave, Inflate, GiveUp, Waiting as WaitingPhase, Resume}
+use Rattle.lock_table.specs.Record.{no-activity, activity, with-activity}
 use Rattle.lock_table.specs.declared.record.ThreadRecord.{ThreadRecord}
+use Rattle.lock_table.specs.declared.record.Activity.{Activity}
 
 -- the phases that several operations use; a phase that its operation does not use, which no sound table has, is read as idle
 unfoldable pub look-of : Operation → ThreadState
@@ -79,45 +81,52 @@ state-by GiveUp operation count suspension = Running WaitGiveUp
 state-by WaitingPhase operation count suspension = Waiting suspension
 state-by Resume operation count suspension = Running (WaitResume suspension)
 
-abbrev pub read-thread : ThreadRecord → ThreadState
-read-thread thread = state-by (thread .phase) (thread .operation) (kept-count (read-word (thread .kept))) (record { depth = thread .saved })
+abbrev pub read-activity : Activity → ThreadState
+read-activity written =
+    state-by (written .phase) (written .operation) (kept-count (read-word (written .kept))) (record { depth = written .saved })
 
-abbrev pub with-fields : Operation → ℕ → Phase → ℕ → ℕ → ℕ → ThreadRecord
-with-fields operation object phase kept saved next =
-    record { kept = kept; saved = saved; object = object; next = next; operation = operation; phase = phase }
+abbrev pub read-thread : ThreadRecord → ThreadState
+read-thread thread = read-activity (activity thread)
+
+abbrev pub activity-of : Operation → ℕ → Phase → ℕ → ℕ → Activity
+activity-of operation object phase kept saved = record { kept = kept; saved = saved; object = object; operation = operation; phase = phase }
 
 -- a thread that is doing this at an object: the kept word is its own reserved word with the count it read
-unfoldable pub doing-record : ℕ → ℕ → Doing → ℕ → ThreadRecord
-doing-record number object EnterLook next = with-fields Enter object Look 0 0 next
-doing-record number object (EnterStore count) next = with-fields Enter object Store (reserved-word number count) 0 next
-doing-record number object EnterCancel next = with-fields Enter object Cancel 0 0 next
-doing-record number object EnterGoIn next = with-fields Enter object GoIn 0 0 next
-doing-record number object EnterCheck next = with-fields Enter object Check 0 0 next
-doing-record number object EnterTry next = with-fields Enter object Try 0 0 next
-doing-record number object ExitLook next = with-fields Exit object Look 0 0 next
-doing-record number object (ExitStore count) next = with-fields Exit object Store (reserved-word number count) 0 next
-doing-record number object ExitGoIn next = with-fields Exit object GoIn 0 0 next
-doing-record number object ExitTest next = with-fields Exit object Test 0 0 next
-doing-record number object ExitTell next = with-fields Exit object Tell 0 0 next
-doing-record number object ExitLeave next = with-fields Exit object Leave 0 0 next
-doing-record number object WaitLook next = with-fields Wait object Look 0 0 next
-doing-record number object WaitCancel next = with-fields Wait object Cancel 0 0 next
-doing-record number object WaitGoIn next = with-fields Wait object GoIn 0 0 next
-doing-record number object WaitInflate next = with-fields Wait object Inflate 0 0 next
-doing-record number object WaitGiveUp next = with-fields Wait object GiveUp 0 0 next
-doing-record number object (WaitResume suspension) next = with-fields Wait object Resume 0 (suspension .depth) next
-doing-record number object NotifyLook next = with-fields Notify object Look 0 0 next
-doing-record number object NotifyAllLook next = with-fields NotifyAll object Look 0 0 next
+unfoldable pub doing-activity : ℕ → ℕ → Doing → Activity
+doing-activity number object EnterLook = activity-of Enter object Look 0 0
+doing-activity number object (EnterStore count) = activity-of Enter object Store (reserved-word number count) 0
+doing-activity number object EnterCancel = activity-of Enter object Cancel 0 0
+doing-activity number object EnterGoIn = activity-of Enter object GoIn 0 0
+doing-activity number object EnterCheck = activity-of Enter object Check 0 0
+doing-activity number object EnterTry = activity-of Enter object Try 0 0
+doing-activity number object ExitLook = activity-of Exit object Look 0 0
+doing-activity number object (ExitStore count) = activity-of Exit object Store (reserved-word number count) 0
+doing-activity number object ExitGoIn = activity-of Exit object GoIn 0 0
+doing-activity number object ExitTest = activity-of Exit object Test 0 0
+doing-activity number object ExitTell = activity-of Exit object Tell 0 0
+doing-activity number object ExitLeave = activity-of Exit object Leave 0 0
+doing-activity number object WaitLook = activity-of Wait object Look 0 0
+doing-activity number object WaitCancel = activity-of Wait object Cancel 0 0
+doing-activity number object WaitGoIn = activity-of Wait object GoIn 0 0
+doing-activity number object WaitInflate = activity-of Wait object Inflate 0 0
+doing-activity number object WaitGiveUp = activity-of Wait object GiveUp 0 0
+doing-activity number object (WaitResume suspension) = activity-of Wait object Resume 0 (suspension .depth)
+doing-activity number object NotifyLook = activity-of Notify object Look 0 0
+doing-activity number object NotifyAllLook = activity-of NotifyAll object Look 0 0
 
-unfoldable pub carried-record : ℕ → Carried → ℕ → ThreadRecord
-carried-record object ToCheck next = with-fields Enter object (QueuedPhase OnToCheck) 0 0 next
-carried-record object ToTell next = with-fields Exit object (QueuedPhase OnToTell) 0 0 next
-carried-record object ToInflate next = with-fields Wait object (QueuedPhase OnToInflate) 0 0 next
-carried-record object (ToResume suspension) next = with-fields Wait object (QueuedPhase OnToResume) 0 (suspension .depth) next
+unfoldable pub carried-activity : ℕ → Carried → Activity
+carried-activity object ToCheck = activity-of Enter object (QueuedPhase OnToCheck) 0 0
+carried-activity object ToTell = activity-of Exit object (QueuedPhase OnToTell) 0 0
+carried-activity object ToInflate = activity-of Wait object (QueuedPhase OnToInflate) 0 0
+carried-activity object (ToResume suspension) = activity-of Wait object (QueuedPhase OnToResume) 0 (suspension .depth)
 
-unfoldable pub write-thread : ℕ → ℕ → ThreadState → ℕ → ThreadRecord
-write-thread number object Idle next = with-fields NoOperation 0 IdlePhase 0 0 next
-write-thread number object (Running doing) next = doing-record number object doing next
-write-thread number object (Queued carried) next = carried-record object carried next
-write-thread number object Contending next = with-fields Enter object ContendingPhase 0 0 next
-write-thread number object (Waiting suspension) next = with-fields Wait object WaitingPhase 0 (suspension .depth) next
+unfoldable pub write-activity : ℕ → ℕ → ThreadState → Activity
+write-activity number object Idle = no-activity
+write-activity number object (Running doing) = doing-activity number object doing
+write-activity number object (Queued carried) = carried-activity object carried
+write-activity number object Contending = activity-of Enter object ContendingPhase 0 0
+write-activity number object (Waiting suspension) = activity-of Wait object WaitingPhase 0 (suspension .depth)
+
+-- thread `number`, at `object` in this state: what is no part of its activity stays
+abbrev pub write-thread : ℕ → ℕ → ThreadState → ThreadRecord → ThreadRecord
+write-thread number object state own = with-activity own (write-activity number object state)

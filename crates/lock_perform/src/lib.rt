@@ -13,5 +13,6 @@ pub use performing::stays;
 pub use performing::work_done;
 pub use sighting::length_from;
 pub use sighting::sight_with;
+pub use state::activity_of;
 pub use state::read_thread;
 pub use state::write_thread;

@@ -36,14 +36,10 @@ pub struct CarriedOut {
 fn look_again(thread: ThreadRecord) -> ThreadRecord
     ensures { λ r. ⌜ r ≡ look-again thread ⌝ }
 {
-    let operation = thread.operation;
     ThreadRecord {
         kept: 0,
-        saved: thread.saved,
-        object: thread.object,
-        next: thread.next,
-        operation: operation,
         phase: Phase::Look,
+        ..thread
     }
 }
 

@@ -39,11 +39,11 @@ pub fn object_after(thread: u8, number: u8, object: ObjectRecord, effect: Effect
     ensures { λ r. ⌜ r ≡ object-after thread number object effect ⌝ }
 {
     let change = effect.word;
-    ObjectRecord {
-        word: word_after(thread, number, object.word, change),
-        monitor: begun_monitor(object.monitor, effect.holder, effect.depth),
-        flag: effect.flag,
-    }
+    let monitor = begun_monitor(object.monitor, effect.holder, effect.depth);
+    object
+        .with_word(word_after(thread, number, object.word, change))
+        .with_monitor(monitor)
+        .with_flag(effect.flag)
 }
 
 // Whether an effect leaves the chains alone.

@@ -1,15 +1,17 @@
-// A thread's record read as what the thread is doing, and written back. Nothing is written that the phase does not use.
+// A thread's record read as what the thread is doing, and what of it is written. Nothing is kept that the phase does not use.
 use lock_rules::Carried;
 use lock_rules::Doing;
 use lock_rules::Suspension;
 use lock_rules::ThreadState;
+use lock_table::Activity;
 use lock_table::Onward;
 use lock_table::Operation;
 use lock_table::Phase;
 use lock_table::ThreadRecord;
+use lock_table::no_activity;
 use lock_word::Depth;
 ghost use mathlib.Core.Path.{_≡_};
-ghost use Rattle.lock_perform.specs.State.{look-of, store-of, cancel-of, go-in-of, carried-of, state-by, read-thread, with-fields, doing-record, carried-record, write-thread};
+ghost use Rattle.lock_perform.specs.State.{look-of, store-of, cancel-of, go-in-of, carried-of, state-by, read-thread, activity-of, doing-activity, carried-activity, write-activity, write-thread};
 
 fn look(operation: Operation) -> ThreadState
     ensures { λ r. ⌜ r ≡ look-of operation ⌝ }
@@ -114,142 +116,133 @@ pub fn read_thread(thread: ThreadRecord) -> ThreadState
     )
 }
 
-fn with_fields(
+// An activity in this phase, with the word and the depth that it keeps.
+pub fn activity_of(
     operation: Operation,
     object: u8,
     phase: Phase,
     kept: u32,
     saved: Depth,
-    next: u8,
-) -> ThreadRecord
-    ensures { λ r. ⌜ r ≡ with-fields operation object phase kept saved next ⌝ }
+) -> Activity
+    ensures { λ r. ⌜ r ≡ activity-of operation object phase kept saved ⌝ }
 {
-    ThreadRecord {
+    Activity {
         kept: kept,
         saved: saved,
         object: object,
-        next: next,
         operation: operation,
         phase: phase,
     }
 }
 
-fn doing_record(number: u8, object: u8, doing: Doing, next: u8) -> ThreadRecord
-    ensures { λ r. ⌜ r ≡ doing-record number object doing next ⌝ }
+fn doing_activity(number: u8, object: u8, doing: Doing) -> Activity
+    ensures { λ r. ⌜ r ≡ doing-activity number object doing ⌝ }
 {
     match doing {
-        Doing::EnterLook => with_fields(Operation::Enter, object, Phase::Look, 0, 0, next),
+        Doing::EnterLook => activity_of(Operation::Enter, object, Phase::Look, 0, 0),
         Doing::EnterStore(count) => {
-            with_fields(
+            activity_of(
                 Operation::Enter,
                 object,
                 Phase::Store,
                 lock_word::reserved_word(number as u16, count),
                 0,
-                next,
             )
         }
-        Doing::EnterCancel => with_fields(Operation::Enter, object, Phase::Cancel, 0, 0, next),
-        Doing::EnterGoIn => with_fields(Operation::Enter, object, Phase::GoIn, 0, 0, next),
-        Doing::EnterCheck => with_fields(Operation::Enter, object, Phase::Check, 0, 0, next),
-        Doing::EnterTry => with_fields(Operation::Enter, object, Phase::Try, 0, 0, next),
-        Doing::ExitLook => with_fields(Operation::Exit, object, Phase::Look, 0, 0, next),
+        Doing::EnterCancel => activity_of(Operation::Enter, object, Phase::Cancel, 0, 0),
+        Doing::EnterGoIn => activity_of(Operation::Enter, object, Phase::GoIn, 0, 0),
+        Doing::EnterCheck => activity_of(Operation::Enter, object, Phase::Check, 0, 0),
+        Doing::EnterTry => activity_of(Operation::Enter, object, Phase::Try, 0, 0),
+        Doing::ExitLook => activity_of(Operation::Exit, object, Phase::Look, 0, 0),
         Doing::ExitStore(count) => {
-            with_fields(
+            activity_of(
                 Operation::Exit,
                 object,
                 Phase::Store,
                 lock_word::reserved_word(number as u16, count),
                 0,
-                next,
             )
         }
-        Doing::ExitGoIn => with_fields(Operation::Exit, object, Phase::GoIn, 0, 0, next),
-        Doing::ExitTest => with_fields(Operation::Exit, object, Phase::Test, 0, 0, next),
-        Doing::ExitTell => with_fields(Operation::Exit, object, Phase::Tell, 0, 0, next),
-        Doing::ExitLeave => with_fields(Operation::Exit, object, Phase::Leave, 0, 0, next),
-        Doing::WaitLook => with_fields(Operation::Wait, object, Phase::Look, 0, 0, next),
-        Doing::WaitCancel => with_fields(Operation::Wait, object, Phase::Cancel, 0, 0, next),
-        Doing::WaitGoIn => with_fields(Operation::Wait, object, Phase::GoIn, 0, 0, next),
-        Doing::WaitInflate => with_fields(Operation::Wait, object, Phase::Inflate, 0, 0, next),
-        Doing::WaitGiveUp => with_fields(Operation::Wait, object, Phase::GiveUp, 0, 0, next),
-        Doing::WaitResume(suspension) => with_fields(
+        Doing::ExitGoIn => activity_of(Operation::Exit, object, Phase::GoIn, 0, 0),
+        Doing::ExitTest => activity_of(Operation::Exit, object, Phase::Test, 0, 0),
+        Doing::ExitTell => activity_of(Operation::Exit, object, Phase::Tell, 0, 0),
+        Doing::ExitLeave => activity_of(Operation::Exit, object, Phase::Leave, 0, 0),
+        Doing::WaitLook => activity_of(Operation::Wait, object, Phase::Look, 0, 0),
+        Doing::WaitCancel => activity_of(Operation::Wait, object, Phase::Cancel, 0, 0),
+        Doing::WaitGoIn => activity_of(Operation::Wait, object, Phase::GoIn, 0, 0),
+        Doing::WaitInflate => activity_of(Operation::Wait, object, Phase::Inflate, 0, 0),
+        Doing::WaitGiveUp => activity_of(Operation::Wait, object, Phase::GiveUp, 0, 0),
+        Doing::WaitResume(suspension) => activity_of(
             Operation::Wait,
             object,
             Phase::Resume,
             0,
             suspension.depth,
-            next,
         ),
-        Doing::NotifyLook => with_fields(Operation::Notify, object, Phase::Look, 0, 0, next),
-        Doing::NotifyAllLook => with_fields(Operation::NotifyAll, object, Phase::Look, 0, 0, next),
+        Doing::NotifyLook => activity_of(Operation::Notify, object, Phase::Look, 0, 0),
+        Doing::NotifyAllLook => activity_of(Operation::NotifyAll, object, Phase::Look, 0, 0),
     }
 }
 
-fn carried_record(object: u8, carried: Carried, next: u8) -> ThreadRecord
-    ensures { λ r. ⌜ r ≡ carried-record object carried next ⌝ }
+fn carried_activity(object: u8, carried: Carried) -> Activity
+    ensures { λ r. ⌜ r ≡ carried-activity object carried ⌝ }
 {
     match carried {
-        Carried::ToCheck => with_fields(
+        Carried::ToCheck => activity_of(
             Operation::Enter,
             object,
             Phase::Queued(Onward::ToCheck),
             0,
             0,
-            next,
         ),
-        Carried::ToTell => with_fields(
+        Carried::ToTell => activity_of(
             Operation::Exit,
             object,
             Phase::Queued(Onward::ToTell),
             0,
             0,
-            next,
         ),
-        Carried::ToInflate => with_fields(
+        Carried::ToInflate => activity_of(
             Operation::Wait,
             object,
             Phase::Queued(Onward::ToInflate),
             0,
             0,
-            next,
         ),
         Carried::ToResume(suspension) => {
-            with_fields(
+            activity_of(
                 Operation::Wait,
                 object,
                 Phase::Queued(Onward::ToResume),
                 0,
                 suspension.depth,
-                next,
             )
         }
     }
 }
 
-// The record of thread `number`, which is at `object` in this state.
-pub fn write_thread(number: u8, object: u8, state: ThreadState, next: u8) -> ThreadRecord
-    ensures { λ r. ⌜ r ≡ write-thread number object state next ⌝ }
+// What is written of thread `number`, which is at `object` in this state.
+fn write_activity(number: u8, object: u8, state: ThreadState) -> Activity
+    ensures { λ r. ⌜ r ≡ write-activity number object state ⌝ }
 {
     match state {
-        ThreadState::Idle => with_fields(Operation::Idle, 0, Phase::Idle, 0, 0, next),
-        ThreadState::Running(doing) => doing_record(number, object, doing, next),
-        ThreadState::Queued(carried) => carried_record(object, carried, next),
-        ThreadState::Contending => with_fields(
-            Operation::Enter,
-            object,
-            Phase::Contending,
-            0,
-            0,
-            next,
-        ),
-        ThreadState::Waiting(suspension) => with_fields(
+        ThreadState::Idle => no_activity(),
+        ThreadState::Running(doing) => doing_activity(number, object, doing),
+        ThreadState::Queued(carried) => carried_activity(object, carried),
+        ThreadState::Contending => activity_of(Operation::Enter, object, Phase::Contending, 0, 0),
+        ThreadState::Waiting(suspension) => activity_of(
             Operation::Wait,
             object,
             Phase::Waiting,
             0,
             suspension.depth,
-            next,
         ),
     }
+}
+
+// The record of a thread in another state: what is no part of its activity stays.
+pub fn write_thread(number: u8, object: u8, state: ThreadState, own: ThreadRecord) -> ThreadRecord
+    ensures { λ r. ⌜ r ≡ write-thread number object state own ⌝ }
+{
+    own.with_activity(write_activity(number, object, state))
 }

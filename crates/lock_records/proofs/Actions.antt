@@ -45,7 +45,7 @@ use Rattle.lock_perform.specs.State.{write-thread}
 use Rattle.lock_perform.specs.Moving.{sent-back-of, relink, after-whole, carry-out}
 use Rattle.lock_perform.specs.declared.moving.CarriedOut.{CarriedOut}
 use Rattle.lock_records.proofs.Numbering.{number, place-of, lists-of, list-at, update-number, work-links, first-is-head}
-use Rattle.lock_records.proofs.Written.{relinked-written, handed-written, moved-written}
+use Rattle.lock_records.proofs.Written.{handed-written, moved-written}
 use Rattle.lock_records.proofs.Represents.{monitor-record, Represents, next-is}
 use Rattle.lock_records.proofs.Readings.{nobody, past-idle, first-is}
 use Rattle.lock_records.proofs.Moves.{change, Moves, Inside, moves-hang, moves-first, moves-send, moves-all}
@@ -74,8 +74,8 @@ word-kept (Move from which) thread o = let same = scalars-with from o _ in (same
 word-kept (SendBack owner) thread o = (refl, refl)
 
 -- after a work at object o on table t: its threads are in these states, written with these links, and its monitor has these chains, holder and depth
-pub record Acted (t : Table) (lists : ListTable) (o : ℕ) (links : Links) (after : CarriedOut) (states : ℕ → ThreadState) (holder depth : ℕ) : Type 0 where
-  pub moves : Moves t (after .table) (placed o (lists .threads) states) (links .next)
+pub record Acted (given : ℕ → ThreadRecord) (t : Table) (lists : ListTable) (o : ℕ) (links : Links) (after : CarriedOut) (states : ℕ → ThreadState) (holder depth : ℕ) : Type 0 where
+  pub moves : Moves given t (after .table) (placed o (lists .threads) states) (links .next)
   pub monitor : after .monitor ≡ monitor-record o links holder depth
 
 -- the monitor of object o with other links
@@ -111,12 +111,12 @@ module _ (threads objects : ℕ) (t : Table) (lists : ListTable) (represents : R
     outside n (inl e) = ap (λ (m : ℕ). lists .threads m .state) e ∙ none
     outside n (inr past) = past-idle threads objects lists sound n (omega (arith, past, represents .thread-room))
 
-    begun : Moves t t (lists .threads) (represents .links .next)
+    begun : Moves (represents .given .thread) t t (lists .threads) (represents .links .next)
     begun =
         record { written = represents .written; beside = record { threadcount = refl; objectcount = refl; objects = refl; length-kept = refl } }
 
     next-at : (n : ℕ) → thread-at t n .next ≡ represents .links .next n
-    next-at n = ap (λ (next : ℕ → ℕ). next n) (next-is t (lists .threads) (represents .links .next) (represents .written))
+    next-at n = ap (λ (next : ℕ → ℕ). next n) (next-is (represents .given .thread) t (lists .threads) (represents .links .next) (represents .written))
 
     -- nobody's record is written
     unwritten : (table : Table) (thread : ThreadRecord) → set-thread table 0 thread ≡ table
@@ -154,25 +154,26 @@ module _ (threads objects : ℕ) (t : Table) (lists : ListTable) (represents : R
 
       -- the first of a chain, if there is one, leaves it, changed
       leaves : (from : Chain) (F : ThreadRecord → ThreadRecord) (f : ThreadState → ThreadState) → f Idle ≡ Idle
-          → ((n home : ℕ) (state : ThreadState) (next : ℕ) → F (write-thread n home state next) ≡ write-thread n home (f state) 0)
-          → Moves t (set-thread t (first from) (F (thread-at t (first from))))
+          → ((n home : ℕ) (state : ThreadState) (own : ThreadRecord) → F (write-thread n home state own) ≡ write-thread n home (f state) (with-next own 0))
+          → Moves (represents .given .thread) t (set-thread t (first from) (F (thread-at t (first from))))
           (placed o (lists .threads) (changed-states f (sees o (lists .threads)) (taken First (list from))))
           (leave-links (number o from) (represents .links) .next)
       leaves from F f fixed law =
           rw (← (placed-first o (lists .threads) f (list from) (first from) (headed from) none fixed (home from)))
-          (moves-first t t (lists .threads) (represents .links .next) begun F f (first from) (first-low from) none fixed
-          (λ real. law (first from) (lists .threads (first from) .object) (lists .threads (first from) .state) (represents .links .next (first from))))
+          (moves-first (represents .given .thread) t t (lists .threads) (represents .links .next) begun F f (first from) (first-low from) none fixed
+          (λ real. law (first from) (lists .threads (first from) .object) (lists .threads (first from) .state)
+          (with-next (represents .given .thread (first from)) (represents .links .next (first from)))))
 
       -- and a chain is hung behind one of those that it leaves
       hung-left : (from to : Chain) (back : ℕ) (table : Table) (after : ℕ → ListThread)
           → let left = leave-links (number o from) (represents .links) in
-          Moves t table after (left .next)
-          → Moves t (hang thread-limit table (left .first (number o to)) back) after (linked thread-limit (left .next) (left .first (number o to)) back)
+          Moves (represents .given .thread) t table after (left .next)
+          → Moves (represents .given .thread) t (hang thread-limit table (left .first (number o to)) back) after (linked thread-limit (left .next) (left .first (number o to)) back)
       hung-left from to back table after moves =
           let left = leave-links (number o from) (represents .links) in
           let all = lists-of (lists .objects) in
           let same : all (number o to) ≡ list to = list-at (lists .objects) o to in
-          moves-hang t table after (left .next) moves (leave-lists (number o from) all (number o to)) (left .first (number o to)) back
+          moves-hang (represents .given .thread) t table after (left .next) moves (leave-lists (number o from) all (number o to)) (left .first (number o to)) back
           (stands-leave (represents .links) all (represents .chains) (number o from) .chain (number o to))
           (omega (arith, leave-short all (number o from) (number o to), ap length same, brief to))
           (λ n h. inside to n (omega (arith, h, leave-within all (number o from) (number o to) n, ap (count n) same)))
@@ -180,7 +181,7 @@ module _ (threads objects : ℕ) (t : Table) (lists : ListTable) (represents : R
       -- all of a chain move to the end of the entry chain
       all-moved : (from : Chain)
           → let front = update (represents .links .first) (number o from) 0 (number o Chain.Entry) in
-          Moves t (hang thread-limit (move-all thread-limit t (first from)) front (first from))
+          Moves (represents .given .thread) t (hang thread-limit (move-all thread-limit t (first from)) front (first from))
           (placed o (lists .threads) (changed-states moved (sees o (lists .threads)) (list from)))
           (linked thread-limit (represents .links .next) front (first from))
       all-moved from =
@@ -189,18 +190,18 @@ module _ (threads objects : ℕ) (t : Table) (lists : ListTable) (represents : R
             update-number (represents .links .first) o from Chain.Entry 0,
           ) (at (eqb (place-of Chain.Entry) (place-of from)))
         where
-          moves : Moves t (move-all thread-limit t (first from)) (walk thread-limit (represents .links .next) (change moved) (lists .threads) (first from))
+          moves : Moves (represents .given .thread) t (move-all thread-limit t (first from)) (walk thread-limit (represents .links .next) (change moved) (lists .threads) (first from))
               (represents .links .next)
           moves =
-              moves-all t (represents .links .next) (list from) thread-limit (first from) t (lists .threads) begun (chained from) (brief from) (inside from)
+              moves-all (represents .given .thread) t (represents .links .next) (list from) thread-limit (first from) t (lists .threads) begun (chained from) (brief from) (inside from)
 
           at : (own : Bool)
-              → Moves t (hang thread-limit (move-all thread-limit t (first from)) (pick own 0 (first Chain.Entry)) (first from))
+              → Moves (represents .given .thread) t (hang thread-limit (move-all thread-limit t (first from)) (pick own 0 (first Chain.Entry)) (first from))
               (walk thread-limit (represents .links .next) (change moved) (lists .threads) (first from))
               (linked thread-limit (represents .links .next) (pick own 0 (first Chain.Entry)) (first from))
-          at true = moves-hang t _ _ (represents .links .next) moves [] 0 (first from) refl (omega arith) (λ n h. absurd (omega (arith, h, count-none n)))
+          at true = moves-hang (represents .given .thread) t _ _ (represents .links .next) moves [] 0 (first from) refl (omega arith) (λ n h. absurd (omega (arith, h, count-none n)))
           at false =
-              moves-hang t _ _ (represents .links .next) moves (list Chain.Entry) (first Chain.Entry) (first from) (chained Chain.Entry) (brief Chain.Entry)
+              moves-hang (represents .given .thread) t _ _ (represents .links .next) moves (list Chain.Entry) (first Chain.Entry) (first from) (chained Chain.Entry) (brief Chain.Entry)
               (inside Chain.Entry)
 
       -- an effect of thread i with any work
@@ -225,10 +226,9 @@ module _ (threads objects : ℕ) (t : Table) (lists : ListTable) (represents : R
             rw (next-at (first Chain.Entry))
             (handed-recorded o (represents .links) (effect .holder) (effect .depth) (represents .links .next (first Chain.Entry)))
 
-        moved-alone : (n home : ℕ) (state : ThreadState) (next : ℕ)
-            → with-next (moved-record (write-thread n home state next)) 0 ≡ write-thread n home (moved state) 0
-        moved-alone n home state next =
-            ap (λ (thread : ThreadRecord). with-next thread 0) (moved-written n home state next) ∙ relinked-written n home (moved state) next 0
+        moved-alone : (n home : ℕ) (state : ThreadState) (own : ThreadRecord)
+            → with-next (moved-record (write-thread n home state own)) 0 ≡ write-thread n home (moved state) (with-next own 0)
+        moved-alone n home state own = ap (λ (thread : ThreadRecord). with-next thread 0) (moved-written n home state own)
 
         -- of an empty chain nobody moves
         whole-moved : (whole : ℕ) (work : ChainWork)
@@ -261,7 +261,7 @@ module _ (threads objects : ℕ) (t : Table) (lists : ListTable) (represents : R
             out n past = set-thread-out t n (sent-back-of o (thread-at t n)) (inr past)
 
         pub acted : (work : ChainWork)
-            → Acted t lists o (work-links i o work (represents .links)) (carry-out t monitor work i o) (states-after work (sees o (lists .threads)) now)
+            → Acted (represents .given .thread) t lists o (work-links i o work (represents .links)) (carry-out t monitor work i o) (states-after work (sees o (lists .threads)) now)
             (object-after work i now .holder) (object-after work i now .depth)
         unfolding after-whole
         acted Stay =
@@ -270,7 +270,7 @@ module _ (threads objects : ℕ) (t : Table) (lists : ListTable) (represents : R
             let same : SameScalars now (object-after (Join chain) i now) = scalars-with chain now _ in
             record {
               moves = rw (unwritten t (thread-at t 0), first-recorded o (represents .links) (effect .holder) (effect .depth) chain, ← (placed-none o (lists .threads)))
-                  (moves-hang t t (lists .threads) (represents .links .next) begun (list chain) (first chain) i (chained chain) (brief chain) (inside chain));
+                  (moves-hang (represents .given .thread) t t (lists .threads) (represents .links .next) begun (list chain) (first chain) i (chained chain) (brief chain) (inside chain));
               monitor = rw (same .holder, same .depth) (joined-recorded o (represents .links) (effect .holder) (effect .depth) chain i);
             }
         acted (JoinAndHand chain) =
@@ -309,7 +309,7 @@ module _ (threads objects : ℕ) (t : Table) (lists : ListTable) (represents : R
             left-recorded o (represents .links) (effect .holder) (effect .depth) from 0 in
             let queued = move-all thread-limit t (first from) in
             subst
-            (λ (after : CarriedOut). Acted t lists o (work-links i o (Move from All) (represents .links)) after
+            (λ (after : CarriedOut). Acted (represents .given .thread) t lists o (work-links i o (Move from All) (represents .links)) after
             (states-after (Move from All) (sees o (lists .threads)) now) (object-after (Move from All) i now .holder)
             (object-after (Move from All) i now .depth)) (sym (moved-first from))
             (record {
@@ -322,6 +322,6 @@ module _ (threads objects : ℕ) (t : Table) (lists : ListTable) (represents : R
                 narrow-sent owner,
                 hang-none thread-limit (set-thread t owner (sent-back-of o (thread-at t owner))) 0,
                 ← (placed-sent o (lists .threads) owner),
-              ) (moves-send t t (lists .threads) (represents .links .next) begun o owner outside);
+              ) (moves-send (represents .given .thread) t t (lists .threads) (represents .links .next) begun o owner outside);
               monitor = refl;
             }

@@ -35,14 +35,16 @@ use Rattle.lock_rules.proofs.ListSound.{WordFine, SoundTable}
 use Rattle.chains.specs.declared.named.Chain.{Chain}
 use Rattle.lock_rules.proofs.SoundKept.{sound-fresh}
 use Rattle.lock_rules.proofs.Standing.{stands-run}
-use Rattle.lock_table.specs.Limits.{thread-limit, object-limit}
+use Rattle.lock_table.specs.Limits.{thread-limit}
 use Rattle.lock_table.specs.Phase.{phase-number, carried-number}
+use Rattle.lock_table.specs.Record.{no-thread}
 use Rattle.lock_table.specs.Access.{thread-at, object-at, next-of, phase-number-at}
-use Rattle.lock_table.specs.Fresh.{fresh-of}
+use Rattle.lock_table.specs.Fresh.{InRange, fresh-of}
+use Rattle.lock_table.specs.declared.fresh_table.FreshRequest.{FreshRequest}
 use Rattle.lock_table.specs.declared.record.ThreadRecord.{ThreadRecord}
 use Rattle.lock_table.specs.declared.record.ObjectRecord.{ObjectRecord}
 use Rattle.lock_table.specs.declared.record.Table.{Table}
-use Rattle.lock_perform.specs.State.{write-thread}
+use Rattle.lock_perform.specs.State.{write-activity}
 use Rattle.lock_records.proofs.Written.{lock-word, seen-written, written-doing, written-carried, idle-or-written, phase-written}
 use Rattle.lock_records.proofs.Represents.{monitor-record, Represents}
 use Rattle.lock_records.proofs.Readings.{busy-in, thread-is, home-is, members-are, word-is}
@@ -155,35 +157,35 @@ steps-unparked Contending free busy = absurd free
 steps-unparked (Waiting suspension) free busy = absurd free
 
 -- woken by the numbers in a record
-woken-written : (n o : ℕ) (state : ThreadState) (next : ℕ)
-    → let phase = write-thread n o state next .phase in either (eqb (phase-number phase) 15) (eqb (carried-number phase) 15) ≡ is-woken state
-unfolding write-thread phase-number carried-number
-woken-written n o Idle next = refl
-woken-written n o (Running doing) next =
-    rw (written-doing n o doing next .phase, written-doing n o doing next .carried) (at (eqb (phase-of-doing doing) 15))
+woken-written : (n o : ℕ) (state : ThreadState)
+    → let phase = write-activity n o state .phase in either (eqb (phase-number phase) 15) (eqb (carried-number phase) 15) ≡ is-woken state
+unfolding write-activity phase-number carried-number
+woken-written n o Idle = refl
+woken-written n o (Running doing) =
+    rw (written-doing n o doing no-thread .phase, written-doing n o doing no-thread .carried) (at (eqb (phase-of-doing doing) 15))
   where
     at : (b : Bool) → either b false ≡ b
     at true = refl
     at false = refl
-woken-written n o (Queued carried) next = rw (written-carried n o carried next .phase, written-carried n o carried next .carries)
-woken-written n o Contending next = refl
-woken-written n o (Waiting suspension) next = refl
+woken-written n o (Queued carried) = rw (written-carried n o carried no-thread .phase, written-carried n o carried no-thread .carries)
+woken-written n o Contending = refl
+woken-written n o (Waiting suspension) = refl
 
 -- and by its object, as the object sees it
-woken-seen : (n home o : ℕ) (state : ThreadState) (next : ℕ)
-    → let thread = write-thread n home state next in
+woken-seen : (n home o : ℕ) (state : ThreadState)
+    → let thread = write-activity n home state in
     both (eqb (thread .object) o) (either (eqb (phase-number (thread .phase)) 15) (eqb (carried-number (thread .phase)) 15))
     ≡ is-woken (pick (eqb home o) state Idle)
-woken-seen n home o state next =
-    ap (both (eqb (write-thread n home state next .object) o)) (woken-written n home state next) ∙ at (idle-or-written n home state next)
+woken-seen n home o state =
+    ap (both (eqb (write-activity n home state .object) o)) (woken-written n home state) ∙ at (idle-or-written n home state)
   where
     here : (there : Bool) → both there (is-woken state) ≡ is-woken (pick there state Idle)
     here true = refl
     here false = refl
 
-    at : (state ≡ Idle) ⊎ (write-thread n home state next .object ≡ home)
-        → both (eqb (write-thread n home state next .object) o) (is-woken state) ≡ is-woken (pick (eqb home o) state Idle)
-    at (inl idle) = rw idle (both-no (eqb (write-thread n home Idle next .object) o) ∙ sym (ap is-woken (pick-same (eqb home o) Idle)))
+    at : (state ≡ Idle) ⊎ (write-activity n home state .object ≡ home)
+        → both (eqb (write-activity n home state .object) o) (is-woken state) ≡ is-woken (pick (eqb home o) state Idle)
+    at (inl idle) = rw idle (both-no (eqb (write-activity n home Idle .object) o) ∙ sym (ap is-woken (pick-same (eqb home o) Idle)))
     at (inr same) = ap (λ (b : ℕ). both (eqb b o) (is-woken state)) same ∙ here (eqb home o)
 
 module _ (threads objects : ℕ) (t : Table) (lists : ListTable) (represents : Represents threads objects t lists) (sound : SoundTable threads objects lists)
@@ -198,7 +200,7 @@ module _ (threads objects : ℕ) (t : Table) (lists : ListTable) (represents : R
     phase-is : (n : ℕ) → phase-number-at t n ≡ phase-of (lists .threads n .state)
     phase-is n =
         ap (λ (thread : ThreadRecord). phase-number (thread .phase)) (thread-is threads objects t lists represents sound n)
-        ∙ phase-written n (lists .threads n .object) (lists .threads n .state) (represents .links .next n)
+        ∙ phase-written n (lists .threads n .object) (lists .threads n .state)
 
     woken-is : (o n : ℕ) → woken-at t o n ≡ is-woken (seen-from o (lists .threads n))
     woken-is o n =
@@ -206,7 +208,7 @@ module _ (threads objects : ℕ) (t : Table) (lists : ListTable) (represents : R
         (λ (thread : ThreadRecord). both (eqb (thread .object) o)
         (either (eqb (phase-number (thread .phase)) 15) (eqb (carried-number (thread .phase)) 15)))
         (thread-is threads objects t lists represents sound n)
-        ∙ woken-seen n (lists .threads n .object) o (lists .threads n .state) (represents .links .next n)
+        ∙ woken-seen n (lists .threads n .object) o (lists .threads n .state)
 
     waiting-is : (o : ℕ) → 1 ≤ o → o ≤ objects → members thread-limit (next-of t) (object-at t o .monitor .waiting) ≡ lists .objects o .waiting
     waiting-is o real small =
@@ -264,20 +266,27 @@ module _ (threads objects : ℕ) (t : Table) (lists : ListTable) (represents : R
         claim : Claim lists plain
         claim = world-claim lists plain world
 
-module _ (threads objects : ℕ) (some-threads : 1 ≤ threads) (thread-room : threads ≤ thread-limit) (some-objects : 1 ≤ objects)
-    (object-room : objects ≤ object-limit) (reserved : Bool) (events : List Event) where
+module _ (request : FreshRequest) (in-range : InRange request) (events : List Event) where
+  abbrev threads : ℕ
+  threads = request .threads
+
+  abbrev objects : ℕ
+  objects = request .objects
+
   abbrev fresh-records : Table
-  fresh-records = fresh-of threads objects reserved .table
+  fresh-records = fresh-of request .table
+
+  abbrev fresh-lists : ListTable
+  fresh-lists = fresh (request .reserved)
 
   -- a schedule on records goes on representing the same schedule on lists, which stays sound, and the same is shown
   pub schedule-represents :
-      Represents threads objects (final-on record-kind threads objects fresh-records events) (final threads objects (fresh reserved) events)
-      × SoundTable threads objects (final threads objects (fresh reserved) events)
-      × (shown-on record-kind threads objects fresh-records events ≡ shown threads objects (fresh reserved) events)
+      Represents threads objects (final-on record-kind threads objects fresh-records events) (final threads objects fresh-lists events)
+      × SoundTable threads objects (final threads objects fresh-lists events)
+      × (shown-on record-kind threads objects fresh-records events ≡ shown threads objects fresh-lists events)
   schedule-represents =
       stands-run record-kind threads objects (Represents threads objects) (SoundTable threads objects)
-      (sound-stands threads objects) events fresh-records (fresh reserved)
-      (fresh-represents threads objects reserved some-threads thread-room some-objects object-room) (sound-fresh threads objects reserved)
+      (sound-stands threads objects) events fresh-records fresh-lists (fresh-represents request in-range) (sound-fresh threads objects (request .reserved))
 
   -- demand 3 for every schedule from any fresh table; 11, which no sound table gives, is not asked here
   pub schedule-agrees :
@@ -285,6 +294,6 @@ module _ (threads objects : ℕ) (some-threads : 1 ≤ threads) (thread-room : t
   schedule-agrees =
       let (represents, sound, same) = schedule-represents in
       rw same
-      (represents-agrees threads objects (final-on record-kind threads objects fresh-records events) (final threads objects (fresh reserved) events)
-      represents sound (feed-all blank (shown threads objects (fresh reserved) events))
-      (world-run threads objects events (fresh reserved) blank (world-fresh reserved)))
+      (represents-agrees threads objects (final-on record-kind threads objects fresh-records events) (final threads objects fresh-lists events)
+      represents sound (feed-all blank (shown threads objects fresh-lists events))
+      (world-run threads objects events fresh-lists blank (world-fresh (request .reserved))))

@@ -31,7 +31,8 @@ use Rattle.lock_table.specs.Operation.{operation-number}
 use Rattle.lock_table.specs.Phase.{onward-number, phase-number, carried-number}
 use Rattle.lock_table.specs.Parked.{chain-named}
 use Rattle.lock_table.specs.declared.record.ThreadRecord.{ThreadRecord}
-use Rattle.lock_perform.specs.State.{doing-record, carried-record, write-thread}
+use Rattle.lock_table.specs.Record.{with-activity, with-next}
+use Rattle.lock_perform.specs.State.{doing-activity, carried-activity, write-activity, write-thread}
 use Rattle.sound_records.specs.Records.{
   uses-phase,
   carries-phase,
@@ -62,13 +63,13 @@ kept-read n count low high small = meaning-of-word (Reserved (thread-number n) c
 saved-inside : (suspension : Suspension) → SuspensionFine suspension → within 1 depth-limit (suspension .depth) ≡ true
 saved-inside suspension fine = reads-within 1 depth-limit (suspension .depth) .make fine
 
-module _ (objects n o next : ℕ) (low : 1 ≤ n) (high : n ≤ thread-limit) where
+module _ (objects n o : ℕ) (own : ThreadRecord) (low : 1 ≤ n) (high : n ≤ thread-limit) where
   abbrev Home : Type 0
   Home = within 1 objects o ≡ true
 
-  doing-fits : (doing : Doing) → DoingFine doing → Home → next ≡ 0 → fits? objects n (doing-record n o doing next) ≡ true
+  doing-fits : (doing : Doing) → DoingFine doing → Home → own .next ≡ 0 → fits? objects n (with-activity own (doing-activity n o doing)) ≡ true
   unfolding operation-fits uses-phase carries-phase kept-fits reserved-for kept-count-fits saves-depth saved-fits chain-named unused-fits
-      operation-number phase-number carried-number doing-record
+      operation-number phase-number carried-number doing-activity
   doing-fits EnterLook fine home out = rw (home, out)
   doing-fits (EnterStore count) fine home out =
       rw (home, out, kept-read n count low high (omega arith), eq-eqb n n refl, le-leb count (count-limit - 1) (omega arith))
@@ -92,26 +93,30 @@ module _ (objects n o next : ℕ) (low : 1 ≤ n) (high : n ≤ thread-limit) wh
   doing-fits NotifyLook fine home out = rw (home, out)
   doing-fits NotifyAllLook fine home out = rw (home, out)
 
-  carried-fits : (carried : Carried) → DoingFine (onward carried) → Home → fits? objects n (carried-record o carried next) ≡ true
+  carried-fits : (carried : Carried) → DoingFine (onward carried) → Home → fits? objects n (with-activity own (carried-activity o carried)) ≡ true
   unfolding operation-fits uses-phase carries-phase kept-fits saves-depth saved-fits chain-named unused-fits
-      operation-number phase-number carried-number onward-number carried-record
+      operation-number phase-number carried-number onward-number carried-activity
   carried-fits ToCheck fine home = rw home
   carried-fits ToTell fine home = rw home
   carried-fits ToInflate fine home = rw home
   carried-fits (ToResume suspension) fine home = rw (home, saved-inside suspension fine)
 
-  state-fits : (state : ThreadState) → StateFine state → (T (unfinished state) → Home) → (chain-named (phase-of state) ≡ 0 → next ≡ 0)
-      → fits? objects n (write-thread n o state next) ≡ true
+  state-fits : (state : ThreadState) → StateFine state → (T (unfinished state) → Home) → (chain-named (phase-of state) ≡ 0 → own .next ≡ 0)
+      → fits? objects n (write-thread n o state own) ≡ true
   unfolding operation-fits uses-phase carries-phase kept-fits saves-depth saved-fits chain-named unused-fits
-      operation-number phase-number carried-number write-thread
+      operation-number phase-number carried-number write-activity
   state-fits Idle fine home out = rw (out refl)
   state-fits (Running doing) fine home out = doing-fits doing fine (home tt) (out (running-names-none doing))
   state-fits (Queued carried) fine home out = carried-fits carried fine (home tt)
   state-fits Contending fine home out = rw (home tt)
   state-fits (Waiting suspension) fine home out = rw (home tt, saved-inside suspension fine)
 
-  -- a fine state at an object of the table, with no next index where it is in no chain
-  pub written-fits : (state : ThreadState) → StateFine state → (T (unfinished state) → Within 1 objects o)
-      → (chain-named (phase-of state) ≡ 0 → next ≡ 0) → ThreadFits objects n (write-thread n o state next)
-  written-fits state fine home out =
-      reads-thread objects n (write-thread n o state next) .read (state-fits state fine (λ busy. reads-within 1 objects o .make (home busy)) out)
+-- A fine state at an object of the table, with no next index where it is in no chain, written into what the thread was given. That fits, and stays as
+-- it was.
+pub written-fits : (objects n o : ℕ) (given : ThreadRecord) (next : ℕ) → 1 ≤ n → n ≤ thread-limit → ThreadFits objects n given
+    → (state : ThreadState) → StateFine state → (T (unfinished state) → Within 1 objects o) → (chain-named (phase-of state) ≡ 0 → next ≡ 0)
+    → ThreadFits objects n (write-thread n o state (with-next given next))
+written-fits objects n o given next low high fits state fine home out =
+    let own = with-next given next in
+    reads-thread objects n (write-thread n o state own) .read
+    (state-fits objects n o own low high state fine (λ busy. reads-within 1 objects o .make (home busy)) out)

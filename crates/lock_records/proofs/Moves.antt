@@ -30,7 +30,7 @@ use Rattle.lock_table.proofs.Walks.{next-none, hang-none}
 use Rattle.lock_table.specs.declared.record.ThreadRecord.{ThreadRecord}
 use Rattle.lock_table.specs.declared.record.Table.{Table}
 use Rattle.lock_perform.specs.Moving.{sent-back-of}
-use Rattle.lock_records.proofs.Written.{relinked-written, moved-written, sent-back-written}
+use Rattle.lock_records.proofs.Written.{moved-written, sent-back-written}
 use Rattle.lock_records.proofs.Represents.{thread-record, ThreadsWritten, record-is, next-is}
 
 -- a thread in another state, where it is
@@ -42,8 +42,8 @@ abbrev pub sent-from : ℕ → ListThread → ListThread
 sent-from o thread = record { object = thread .object; state = pick (eqb (thread .object) o) (sent-back (thread .state)) (thread .state) }
 
 -- the threads are written in table t so, and all else in it is as before
-pub record Moves (before t : Table) (threads : ℕ → ListThread) (next : ℕ → ℕ) : Type 0 where
-  pub written : ThreadsWritten t threads next
+pub record Moves (given : ℕ → ThreadRecord) (before t : Table) (threads : ℕ → ListThread) (next : ℕ → ℕ) : Type 0 where
+  pub written : ThreadsWritten given t threads next
   pub beside : BesideThreads before t
 
 -- the members of a chain have records
@@ -69,48 +69,47 @@ beside-both a b c p q =
       length-kept = q .length-kept ∙ p .length-kept;
     }
 
-module _ (before t : Table) (threads : ℕ → ListThread) (next : ℕ → ℕ) (moves : Moves before t threads next) where
+module _ (given : ℕ → ThreadRecord) (before t : Table) (threads : ℕ → ListThread) (next : ℕ → ℕ) (moves : Moves given before t threads next) where
   -- one record written
   pub moves-set : (n : ℕ) → 0 < n → n ≤ thread-limit → (thread : ListThread) (link : ℕ)
-      → Moves before (set-thread t n (thread-record n thread link)) (update threads n thread) (update next n link)
+      → Moves given before (set-thread t n (thread-record n thread link (given n))) (update threads n thread) (update next n link)
   moves-set n low high thread link =
       record {
         written = record {
-          records = thread-set t n (thread-record n thread link) (moves .written .full) low high ∙ fun-ext (λ m. at m (equal? m n));
-          full = thread-beside t n (thread-record n thread link) .length-kept ∙ moves .written .full;
+          records = thread-set t n (thread-record n thread link (given n)) (moves .written .full) low high ∙ fun-ext (λ m. at m (equal? m n));
+          full = thread-beside t n (thread-record n thread link (given n)) .length-kept ∙ moves .written .full;
         };
-        beside = beside-both before t (set-thread t n (thread-record n thread link)) (moves .beside) (thread-beside t n (thread-record n thread link));
+        beside = beside-both before t (set-thread t n (thread-record n thread link (given n))) (moves .beside) (thread-beside t n (thread-record n thread link (given n)));
       }
     where
       at : (m : ℕ) → (m ≡ n) ⊎ (m ≢ n)
-          → update (thread-at t) n (thread-record n thread link) m ≡ thread-record m (update threads n thread m) (update next n link m)
-      at m (inl e) = rw (e, update-same (thread-at t) n (thread-record n thread link), update-same threads n thread, update-same next n link)
+          → update (thread-at t) n (thread-record n thread link (given n)) m ≡ thread-record m (update threads n thread m) (update next n link m) (given m)
+      at m (inl e) = rw (e, update-same (thread-at t) n (thread-record n thread link (given n)), update-same threads n thread, update-same next n link)
       at m (inr away) =
-          rw (update-other (thread-at t) n (thread-record n thread link) m away, update-other threads n thread m away, update-other next n link m away)
-          (record-is t threads next (moves .written) m)
+          rw (update-other (thread-at t) n (thread-record n thread link (given n)) m away, update-other threads n thread m away, update-other next n link m away)
+          (record-is given t threads next (moves .written) m)
 
   -- one record changed, its next index kept
   pub moves-change : (F : ThreadRecord → ThreadRecord) (thread : ListThread) (n : ℕ) → 0 < n → n ≤ thread-limit
-      → F (thread-record n (threads n) (next n)) ≡ thread-record n thread (next n)
-      → Moves before (set-thread t n (F (thread-at t n))) (update threads n thread) next
+      → F (thread-record n (threads n) (next n) (given n)) ≡ thread-record n thread (next n) (given n)
+      → Moves given before (set-thread t n (F (thread-at t n))) (update threads n thread) next
   moves-change F thread n low high law =
-      let same : F (thread-at t n) ≡ thread-record n thread (next n) = ap F (record-is t threads next (moves .written) n) ∙ law in
+      let same : F (thread-at t n) ≡ thread-record n thread (next n) (given n) = ap F (record-is given t threads next (moves .written) n) ∙ law in
       rw same (rw (update-id next n (next n) refl) at (moves-set n low high thread (next n)))
 
   -- one chain hung behind another
   pub moves-hang : (list : List ℕ) (front back : ℕ) → Chain next front list → length list ≤ thread-limit → Inside list
-      → Moves before (hang thread-limit t front back) threads (linked thread-limit next front back)
+      → Moves given before (hang thread-limit t front back) threads (linked thread-limit next front back)
   unfolding linked
   moves-hang [] front back chain short inside = rw (chain, hang-none thread-limit t back) moves
   moves-hang (x ∷ rest) front back chain short inside =
       let n = last x rest in
       let (low, high) = inside n (last-member x rest) in
-      let same : with-next (thread-at t n) back ≡ thread-record n (threads n) back =
-      ap (λ (thread : ThreadRecord). with-next thread back) (record-is t threads next (moves .written) n)
-      ∙ relinked-written n (threads n .object) (threads n .state) (next n) back in
+      let same : with-next (thread-at t n) back ≡ thread-record n (threads n) back (given n) =
+      ap (λ (thread : ThreadRecord). with-next thread back) (record-is given t threads next (moves .written) n) in
       rw (
         linked-last thread-limit next front x rest back chain (omega (arith, short)),
-        hang-chain t thread-limit front x rest back (subst (λ (f : ℕ → ℕ). Chain f front (x ∷ rest)) (sym (next-is t threads next (moves .written))) chain)
+        hang-chain t thread-limit front x rest back (subst (λ (f : ℕ → ℕ). Chain f front (x ∷ rest)) (sym (next-is given t threads next (moves .written))) chain)
             (omega (arith, short)),
         same,
       ) (rw (update-id threads n (threads n) refl) at (moves-set n low high (threads n) back))
@@ -118,33 +117,33 @@ module _ (before t : Table) (threads : ℕ → ListThread) (next : ℕ → ℕ) 
   -- the first of a chain, if there is one, changed on leaving it; the record of number 0 is not written
   pub moves-first : (F : ThreadRecord → ThreadRecord) (f : ThreadState → ThreadState) (first : ℕ) → first ≤ thread-limit
       → threads 0 .state ≡ Idle → f Idle ≡ Idle
-      → (first ≢ 0 → F (thread-record first (threads first) (next first)) ≡ thread-record first (change f (threads first)) 0)
-      → Moves before (set-thread t first (F (thread-at t first))) (update threads first (change f (threads first))) (update next first 0)
+      → (first ≢ 0 → F (thread-record first (threads first) (next first) (given first)) ≡ thread-record first (change f (threads first)) 0 (given first))
+      → Moves given before (set-thread t first (F (thread-at t first))) (update threads first (change f (threads first))) (update next first 0)
   moves-first F f first high nobody fixed law = at (equal? first 0)
     where
       at : (first ≡ 0) ⊎ (first ≢ 0)
-          → Moves before (set-thread t first (F (thread-at t first))) (update threads first (change f (threads first))) (update next first 0)
+          → Moves given before (set-thread t first (F (thread-at t first))) (update threads first (change f (threads first))) (update next first 0)
       at (inl e) =
           let idle : threads first .state ≡ Idle = ap (λ (n : ℕ). threads n .state) e ∙ nobody in
           let same : threads first ≡ change f (threads first) =
           λ j. record { object = threads first .object; state = (idle ∙ sym (ap f idle ∙ fixed)) j } in
           let ends : next first ≡ 0 =
-          ap next e ∙ (ap (λ (g : ℕ → ℕ). g 0) (sym (next-is t threads next (moves .written))) ∙ next-none t) in
+          ap next e ∙ (ap (λ (g : ℕ → ℕ). g 0) (sym (next-is given t threads next (moves .written))) ∙ next-none t) in
           rw (set-thread-out t first (F (thread-at t first)) (inl e), update-id threads first (change f (threads first)) same, update-id next first 0 ends)
           moves
       at (inr real) =
-          let same : F (thread-at t first) ≡ thread-record first (change f (threads first)) 0 =
-          ap F (record-is t threads next (moves .written) first) ∙ law real in
+          let same : F (thread-at t first) ≡ thread-record first (change f (threads first)) 0 (given first) =
+          ap F (record-is given t threads next (moves .written) first) ∙ law real in
           rw same (moves-set first (omega (arith, real)) high (change f (threads first)) 0)
 
   -- the thread of a cancelled word sent back, if it has a record
   pub moves-send : (o number : ℕ) → ((n : ℕ) → (n ≡ 0) ⊎ (thread-limit < n) → threads n .state ≡ Idle)
-      → Moves before (set-thread t number (sent-back-of o (thread-at t number))) (update threads number (sent-from o (threads number))) next
+      → Moves given before (set-thread t number (sent-back-of o (thread-at t number))) (update threads number (sent-from o (threads number))) next
   moves-send o number outside = by (equal? number 0) (ltb thread-limit number) (below thread-limit number)
     where
       -- nobody is there
       still : (number ≡ 0) ⊎ (thread-limit < number) → threads number .state ≡ Idle
-          → Moves before (set-thread t number (sent-back-of o (thread-at t number))) (update threads number (sent-from o (threads number))) next
+          → Moves given before (set-thread t number (sent-back-of o (thread-at t number))) (update threads number (sent-from o (threads number))) next
       still out idle =
           let there : Bool = eqb (threads number .object) o in
           let stays : pick there (sent-back (threads number .state)) (threads number .state) ≡ Idle =
@@ -153,29 +152,29 @@ module _ (before t : Table) (threads : ℕ → ListThread) (next : ℕ → ℕ) 
           rw (set-thread-out t number (sent-back-of o (thread-at t number)) out, update-id threads number (sent-from o (threads number)) same) moves
 
       by : (number ≡ 0) ⊎ (number ≢ 0) → (past : Bool) → Below past thread-limit number
-          → Moves before (set-thread t number (sent-back-of o (thread-at t number))) (update threads number (sent-from o (threads number))) next
+          → Moves given before (set-thread t number (sent-back-of o (thread-at t number))) (update threads number (sent-from o (threads number))) next
       by (inl e) past test = still (inl e) (outside number (inl e))
       by (inr real) true test = still (inr test) (outside number (inr test))
       by (inr real) false test =
           moves-change (sent-back-of o) (sent-from o (threads number)) number (omega (arith, real)) test
-          (sent-back-written o number (threads number .object) (threads number .state) (next number))
+          (sent-back-written o number (threads number .object) (threads number .state) (with-next (given number) (next number)))
 
 -- each of a chain moved, its next index kept
-pub moves-all : (before : Table) (next : ℕ → ℕ) (list : List ℕ) (fuel first : ℕ) (t : Table) (threads : ℕ → ListThread) → Moves before t threads next
-    → Chain next first list → length list ≤ fuel → Inside list → Moves before (move-all fuel t first) (walk fuel next (change moved) threads first) next
+pub moves-all : (given : ℕ → ThreadRecord) (before : Table) (next : ℕ → ℕ) (list : List ℕ) (fuel first : ℕ) (t : Table) (threads : ℕ → ListThread) → Moves given before t threads next
+    → Chain next first list → length list ≤ fuel → Inside list → Moves given before (move-all fuel t first) (walk fuel next (change moved) threads first) next
 unfolding move-all walk count
-moves-all before next [] zero first t threads moves chain short inside = moves
-moves-all before next [] (suc fuel) first t threads moves chain short inside = rw (eq-eqb first 0 chain) moves
-moves-all before next (x ∷ rest) zero first t threads moves chain short inside = absurd (omega (arith, short))
-moves-all before next (x ∷ rest) (suc fuel) first t threads moves chain short inside =
+moves-all given before next [] zero first t threads moves chain short inside = moves
+moves-all given before next [] (suc fuel) first t threads moves chain short inside = rw (eq-eqb first 0 chain) moves
+moves-all given before next (x ∷ rest) zero first t threads moves chain short inside = absurd (omega (arith, short))
+moves-all given before next (x ∷ rest) (suc fuel) first t threads moves chain short inside =
     let (low, high) = inside first (rw (chain .0) (omega (arith, count-same x rest))) in
-    let changed : Moves before (set-thread t first (moved-record (thread-at t first))) (update threads first (change moved (threads first))) next =
-    moves-change before t threads next moves moved-record (change moved (threads first)) first low high
-    (moved-written first (threads first .object) (threads first .state) (next first)) in
+    let changed : Moves given before (set-thread t first (moved-record (thread-at t first))) (update threads first (change moved (threads first))) next =
+    moves-change given before t threads next moves moved-record (change moved (threads first)) first low high
+    (moved-written first (threads first .object) (threads first .state) (with-next (given first) (next first))) in
     rw (ne-eqb first 0 (chain-some next first x rest chain))
     (subst
-    (λ (n : ℕ). Moves before (move-all fuel (set-thread t first (moved-record (thread-at t first))) n)
+    (λ (n : ℕ). Moves given before (move-all fuel (set-thread t first (moved-record (thread-at t first))) n)
     (walk fuel next (change moved) (update threads first (change moved (threads first))) (next first)) next)
-    (sym (ap (λ (g : ℕ → ℕ). g first) (next-is t threads next (moves .written))))
-    (moves-all before next rest fuel (next first) (set-thread t first (moved-record (thread-at t first)))
+    (sym (ap (λ (g : ℕ → ℕ). g first) (next-is given t threads next (moves .written))))
+    (moves-all given before next rest fuel (next first) (set-thread t first (moved-record (thread-at t first)))
     (update threads first (change moved (threads first))) changed (rw (chain .0) (chain .2)) (omega (arith, short)) (λ n h. inside n (omega (arith, h)))))

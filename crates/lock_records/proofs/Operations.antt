@@ -14,7 +14,7 @@ use Rattle.lock_table.specs.Operation.{operation-from}
 use Rattle.lock_table.specs.declared.operation.Operation.{Operation}
 use Rattle.lock_table.specs.declared.operation.Operation.the-variants.{Idle, Enter, Exit, Wait, Notify, NotifyAll}
 use Rattle.lock_table.specs.declared.phase.Phase.the-variants.{Look}
-use Rattle.lock_perform.specs.State.{with-fields, doing-record, write-thread}
+use Rattle.lock_perform.specs.State.{activity-of, doing-activity, write-activity}
 
 abbrev pub operation-of : AskedOperation → Operation
 operation-of AskEnter = Enter
@@ -47,8 +47,8 @@ asked-from number = at (eqb number 1) (eqb number 2) (eqb number 3) (eqb number 
     at false false false false false = refl
 
 -- begin sets phase 1
-pub begun-written : (n o : ℕ) (operation : AskedOperation) → write-thread n o (Running (begun operation)) 0 ≡ with-fields (operation-of operation) o Look 0 0 0
-unfolding write-thread doing-record
+pub begun-written : (n o : ℕ) (operation : AskedOperation) → write-activity n o (Running (begun operation)) ≡ activity-of (operation-of operation) o Look 0 0
+unfolding write-activity doing-activity
 begun-written n o AskEnter = refl
 begun-written n o AskExit = refl
 begun-written n o AskWait = refl

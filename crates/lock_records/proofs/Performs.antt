@@ -25,7 +25,7 @@ use Rattle.chains.specs.declared.named.Chain.{Chain}
 use Rattle.lock_rules.proofs.Objects.{chain-of}
 use Rattle.lock_rules.proofs.ListChains.{times-in, short, out-of-chain}
 use Rattle.lock_table.specs.Limits.{thread-limit, object-limit}
-use Rattle.lock_table.specs.Record.{no-thread, no-object}
+use Rattle.lock_table.specs.Record.{no-thread, no-object, with-next, with-word, with-flag, with-monitor}
 use Rattle.lock_table.specs.Access.{thread-at, set-thread, object-at, set-object, next-of}
 use Rattle.lock_table.proofs.Records.{read-at, BesideObjects, object-set, object-beside}
 use Rattle.lock_table.specs.declared.record.ThreadRecord.{ThreadRecord}
@@ -37,8 +37,8 @@ use Rattle.lock_perform.proofs.Performed.{perform-of}
 use Rattle.lock_perform.specs.declared.moving.CarriedOut.{CarriedOut}
 use Rattle.lock_records.proofs.Numbering.{number, lists-of, list-at, by-number, work-links, Room, stands-work, lists-work}
 use Rattle.lock_records.proofs.Written.{word-written, word-changed}
-use Rattle.lock_records.proofs.Represents.{thread-record, monitor-record, object-record, Represents, next-is}
-use Rattle.lock_records.proofs.Moves.{Moves, moves-set}
+use Rattle.lock_records.proofs.Represents.{thread-record, monitor-record, object-record, Represents, record-is, next-is}
+use Rattle.lock_records.proofs.Moves.{Moves, moves-set, moves-change}
 use Rattle.lock_records.proofs.Placing.{placed, placed-none, placed-own}
 use Rattle.lock_records.proofs.Actions.{Acted, acted, word-kept}
 
@@ -79,15 +79,16 @@ module _ (threads objects : ℕ) (t : Table) (lists : ListTable) (represents : R
       }
 
   -- a begin writes one thread's record
-  pub begin-represents : (thread : ListThread) → lists .threads i .state ≡ Idle
-      → Represents threads objects (set-thread t i (thread-record i thread 0))
+  pub begin-represents : (thread : ListThread)
+      → Represents threads objects (set-thread t i (write-thread i (thread .object) (thread .state) (thread-at t i)))
       (record { threads = update (lists .threads) i thread; objects = lists .objects })
-  begin-represents thread idle =
+  begin-represents thread =
       record {
         threadcount = moves .beside .threadcount ∙ represents .threadcount;
         objectcount = moves .beside .objectcount ∙ represents .objectcount;
         thread-room = represents .thread-room;
         object-room = represents .object-room;
+        given = represents .given;
         links = represents .links;
         chains = represents .chains;
         written = moves .written;
@@ -96,18 +97,17 @@ module _ (threads objects : ℕ) (t : Table) (lists : ListTable) (represents : R
         object-past = λ o past. ap (λ (f : ℕ → ObjectRecord). f o) same ∙ represents .object-past o past;
       }
     where
-      unlinked : represents .links .next i ≡ 0
-      unlinked = represents .chains .loose i (room (subst Unchained (sym idle) idle-unchained) .out)
+      begun : Table
+      begun = set-thread t i (write-thread i (thread .object) (thread .state) (thread-at t i))
 
-      moves : Moves t (set-thread t i (thread-record i thread 0)) (update (lists .threads) i thread) (represents .links .next)
+      moves : Moves (represents .given .thread) t begun (update (lists .threads) i thread) (represents .links .next)
       moves =
-          rw (update-id (represents .links .next) i 0 unlinked) at
-          (moves-set t t (lists .threads) (represents .links .next)
+          moves-change (represents .given .thread) t t (lists .threads) (represents .links .next)
           (record { written = represents .written; beside = record { threadcount = refl; objectcount = refl; objects = refl; length-kept = refl } })
-          i low (omega (arith, represents .thread-room)) thread 0)
+          (write-thread i (thread .object) (thread .state)) thread i low (omega (arith, represents .thread-room)) refl
 
-      same : object-at (set-thread t i (thread-record i thread 0)) ≡ object-at t
-      same = objects-of t (set-thread t i (thread-record i thread 0)) (moves .beside .objects)
+      same : object-at begun ≡ object-at t
+      same = objects-of t begun (moves .beside .objects)
 
   -- a step at object o
   module _ (o : ℕ) (home : lists .threads i .object ≡ o) (real : 1 ≤ o) (small : o ≤ objects) (unchained : Unchained (lists .threads i .state)) where
@@ -137,34 +137,37 @@ module _ (threads objects : ℕ) (t : Table) (lists : ListTable) (represents : R
       states = update (states-after (effect .work) (states-at lists o) now) i (effect .state)
 
       abbrev own-written : Table
-      own-written = set-thread (moved .table) i (write-thread i o (effect .state) (next-of (moved .table) i))
+      own-written =
+          set-thread (moved .table) i (with-next (write-thread i o (effect .state) (thread-at t i)) (next-of (moved .table) i))
 
       abbrev object-written : ObjectRecord
-      object-written = record { word = written-word; monitor = moved .monitor; flag = effect .flag }
+      object-written = with-flag (with-monitor (with-word (represents .given .object o) written-word) (moved .monitor)) (effect .flag)
 
       stands : Stands links (lists-of (update (lists .objects) o new))
       stands =
           subst (Stands links) (lists-work (lists .objects) i o effect (effect .work))
           (stands-work i o (represents .links) (lists-of (lists .objects)) (represents .chains) (room unchained) (effect .work))
 
-      action : Acted t lists o links moved (states-after (effect .work) (states-at lists o) now) (new .holder) (new .depth)
+      action : Acted (represents .given .thread) t lists o links moved (states-after (effect .work) (states-at lists o) now) (new .holder) (new .depth)
       action = acted threads objects t lists represents sound o i effect (effect .work)
 
-      threads-after : Moves t own-written (placed o (lists .threads) states) (links .next)
+      threads-after : Moves (represents .given .thread) t own-written (placed o (lists .threads) states) (links .next)
       threads-after =
           let link : next-of (moved .table) i ≡ links .next i =
-          ap (λ (next : ℕ → ℕ). next i) (next-is (moved .table) _ (links .next) (action .moves .written)) in
-          subst
-          (λ (n : ℕ). Moves t (set-thread (moved .table) i (write-thread i o (effect .state) n)) (placed o (lists .threads) states) (links .next)) (sym link)
-          (rw (← (placed-own o (lists .threads) (states-after (effect .work) (states-at lists o) now) i (effect .state) home))
+          ap (λ (next : ℕ → ℕ). next i) (next-is (represents .given .thread) (moved .table) _ (links .next) (action .moves .written)) in
+          let before = record-is (represents .given .thread) t (lists .threads) (represents .links .next) (represents .written) i in
+          let same : with-next (write-thread i o (effect .state) (thread-at t i)) (next-of (moved .table) i)
+          ≡ thread-record i (record { object = o; state = effect .state }) (links .next i) (represents .given .thread i) =
+          λ j. with-next (write-thread i o (effect .state) (before j)) (link j) in
+          rw (same, ← (placed-own o (lists .threads) (states-after (effect .work) (states-at lists o) now) i (effect .state) home))
           (rw (update-id (links .next) i (links .next i) refl) at
-          (moves-set t (moved .table) (placed o (lists .threads) (states-after (effect .work) (states-at lists o) now)) (links .next) (action .moves) i low
-          (omega (arith, high, represents .thread-room)) (record { object = o; state = effect .state }) (links .next i))))
+          (moves-set (represents .given .thread) t (moved .table) (placed o (lists .threads) (states-after (effect .work) (states-at lists o) now)) (links .next)
+          (action .moves) i low (omega (arith, high, represents .thread-room)) (record { object = o; state = effect .state }) (links .next i)))
 
-      written-is : object-written ≡ object-record o new links
+      written-is : object-written ≡ object-record o new links (represents .given .object o)
       written-is =
           let (same-word, same-flag) = word-kept (effect .work) i now in
-          λ j. record { word = word-written o (sym same-word j); monitor = action .monitor j; flag = sym same-flag j }
+          λ j. with-flag (with-monitor (with-word (represents .given .object o) (word-written o (sym same-word j))) (action .monitor j)) (sym same-flag j)
 
       objects-after : object-at (set-object own-written o object-written) ≡ update (object-at t) o object-written
       objects-after =
@@ -182,7 +185,7 @@ module _ (threads objects : ℕ) (t : Table) (lists : ListTable) (represents : R
           ∙ sym (first-head (represents .links) (lists-of (lists .objects)) (represents .chains) (number p chain)))
 
       object-after-at : (p : ℕ) → 1 ≤ p → p ≤ objects → (p ≡ o) ⊎ (p ≢ o)
-          → update (object-at t) o object-written p ≡ object-record p (update (lists .objects) o new p) links
+          → update (object-at t) o object-written p ≡ object-record p (update (lists .objects) o new p) links (represents .given .object p)
       object-after-at p first last (inl e) = rw (e, update-same (object-at t) o object-written, update-same (lists .objects) o new) written-is
       object-after-at p first last (inr away) =
           rw (
@@ -201,6 +204,7 @@ module _ (threads objects : ℕ) (t : Table) (lists : ListTable) (represents : R
             objectcount = beside .objectcount ∙ (threads-after .beside .objectcount ∙ represents .objectcount);
             thread-room = represents .thread-room;
             object-room = represents .object-room;
+            given = represents .given;
             links = links;
             chains = stands;
             written = record {

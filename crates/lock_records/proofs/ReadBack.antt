@@ -26,7 +26,7 @@ use Rattle.lock_rules.specs.declared.ThreadState.{ThreadState}
 use Rattle.lock_rules.specs.declared.ThreadState.the-variants.{Idle, Running, Queued, Contending, Waiting}
 use Rattle.lock_rules.proofs.ListSound.{SuspensionFine, DoingFine, StateFine}
 use Rattle.lock_table.specs.Phase.{onward-number, phase-number, carried-number}
-use Rattle.lock_table.specs.Record.{no-thread}
+use Rattle.lock_table.specs.Record.{no-thread, with-activity}
 use Rattle.lock_table.specs.declared.operation.Operation.{Operation}
 use Rattle.lock_table.specs.declared.operation.Operation.the-variants.{Idle as NoOperation, Enter, Exit, Wait, Notify, NotifyAll}
 use Rattle.lock_table.specs.declared.phase.Onward.the-variants.{ToCheck as OnToCheck, ToTell as OnToTell, ToInflate as OnToInflate, ToResume as OnToResume}
@@ -35,7 +35,7 @@ use Rattle.lock_table.specs.declared.phase.Phase.the-variants.{Idle as IdlePhas
 use Rattle.lock_table.specs.declared.phase.Phase.the-variants.{Contending as ContendingPhase, Test, Tell, Leave, Inflate, GiveUp}
 use Rattle.lock_table.specs.declared.phase.Phase.the-variants.{Waiting as WaitingPhase, Resume}
 use Rattle.lock_table.specs.declared.record.ThreadRecord.{ThreadRecord}
-use Rattle.lock_perform.specs.State.{with-fields, doing-record, carried-record, write-thread, read-thread}
+use Rattle.lock_perform.specs.State.{activity-of, doing-activity, carried-activity, write-activity, write-thread, read-thread}
 use Rattle.lock_records.proofs.Written.{state-read, phase-written}
 use Rattle.sound_records.specs.Records.{uses-phase, carries-phase}
 use Rattle.sound_records.proofs.Reading.{Within, allowed?, KeptCountFits, ReservedFor, SavesDepth, ThreadFits}
@@ -45,7 +45,7 @@ use Rattle.laws.proofs.Facts.{reads-both, reads-ltb, reads-not}
 pub record IsWritten (objects n : ℕ) (thread : ThreadRecord) : Type 0 where
   pub state : ThreadState
   pub fine : StateFine state
-  pub written : thread ≡ write-thread n (thread .object) state (thread .next)
+  pub written : thread ≡ write-thread n (thread .object) state thread
   pub home : T (unfinished state) → Within 1 objects (thread .object)
   pub number : T (unfinished state) → IsNumber n
 
@@ -94,15 +94,15 @@ kept-is n operation kept reserved = at (read-word kept) refl reserved
         (count, sym (ap (λ (k : ℕ). reserved-word k count) (sym same) ∙ word-of-meaning kept (Reserved thread count) e), fits)
     at (Valid (Fat monitor)) e no-word = absurd no-word
 
-module _ (objects n o next kept saved : ℕ) (is-number : IsNumber n) where
+module _ (objects n o kept saved : ℕ) (own : ThreadRecord) (is-number : IsNumber n) where
   -- the record in this phase of this operation, if it fits, is written
   abbrev Back : Phase → Operation → Type 0
   Back phase operation =
-      ThreadFits objects n (with-fields operation o phase kept saved next) → IsWritten objects n (with-fields operation o phase kept saved next)
+      let thread = with-activity own (activity-of operation o phase kept saved) in ThreadFits objects n thread → IsWritten objects n thread
 
   -- a phase that uses neither kept word nor saved depth
   plain : (phase : Phase) (operation : Operation) (state : ThreadState) → both (busy? phase) (both (unkept? phase) (unsaved? phase)) ≡ true
-      → StateFine state → write-thread n o state next ≡ with-fields operation o phase 0 0 next → Back phase operation
+      → StateFine state → write-activity n o state ≡ activity-of operation o phase 0 0 → Back phase operation
   plain phase operation state test fine written fits =
       let rest : both (unkept? phase) (unsaved? phase) ≡ true = both-second (busy? phase) _ test in
       let no-kept : kept ≡ 0 = fits .unused .kept (unkept-phase phase (both-first (unkept? phase) _ rest)) in
@@ -110,7 +110,7 @@ module _ (objects n o next kept saved : ℕ) (is-number : IsNumber n) where
       record {
         state = state;
         fine = fine;
-        written = (λ j. with-fields operation o phase (no-kept j) (no-saved j) next) ∙ sym written;
+        written = ap (with-activity own) ((λ j. activity-of operation o phase (no-kept j) (no-saved j)) ∙ sym written);
         home = λ busy. fits .operation (busy-phase phase (both-first (busy? phase) _ test)) .0;
         number = λ busy. is-number;
       }
@@ -119,20 +119,20 @@ module _ (objects n o next kept saved : ℕ) (is-number : IsNumber n) where
   saving : (phase : Phase) (operation : Operation) (state : Suspension → ThreadState) → both (busy? phase) (unkept? phase) ≡ true
       → SavesDepth (phase-number phase) (carried-number phase)
       → ((suspension : Suspension) → SuspensionFine suspension → StateFine (state suspension))
-      → write-thread n o (state (record { depth = saved })) next ≡ with-fields operation o phase 0 saved next → Back phase operation
+      → write-activity n o (state (record { depth = saved })) ≡ activity-of operation o phase 0 saved → Back phase operation
   saving phase operation state test saves fine written fits =
       let no-kept : kept ≡ 0 = fits .unused .kept (unkept-phase phase (both-second (busy? phase) _ test)) in
       record {
         state = state (record { depth = saved });
         fine = fine (record { depth = saved }) (fits .saved saves);
-        written = (λ j. with-fields operation o phase (no-kept j) saved next) ∙ sym written;
+        written = ap (with-activity own) ((λ j. activity-of operation o phase (no-kept j) saved) ∙ sym written);
         home = λ busy. fits .operation (busy-phase phase (both-first (busy? phase) _ test)) .0;
         number = λ busy. is-number;
       }
 
   -- phase 2, which uses the kept word
   storing : (operation : Operation) (doing : ℕ → Doing) → ((count : ℕ) → KeptCountFits operation count → DoingFine (doing count))
-      → ((count : ℕ) → write-thread n o (Running (doing count)) next ≡ with-fields operation o Store (reserved-word n count) 0 next)
+      → ((count : ℕ) → write-activity n o (Running (doing count)) ≡ activity-of operation o Store (reserved-word n count) 0)
       → Back Store operation
   unfolding phase-number carried-number
   storing operation doing fine written fits =
@@ -141,14 +141,14 @@ module _ (objects n o next kept saved : ℕ) (is-number : IsNumber n) where
       record {
         state = Running (doing count);
         fine = fine count fits-count;
-        written = (λ j. with-fields operation o Store (is-kept j) (no-saved j) next) ∙ sym (written count);
+        written = ap (with-activity own) ((λ j. activity-of operation o Store (is-kept j) (no-saved j)) ∙ sym (written count));
         home = λ busy. fits .operation (busy-phase Store refl) .0;
         number = λ busy. is-number;
       }
 
   -- an idle thread has no operation and no object
   idle : (operation : Operation) → Back IdlePhase operation
-  unfolding phase-number carried-number write-thread
+  unfolding phase-number carried-number write-activity
   idle operation fits =
       let (no-operation, no-object) = fits .unused .operation refl in
       let no-kept : kept ≡ 0 = fits .unused .kept (unkept-phase IdlePhase refl) in
@@ -156,7 +156,7 @@ module _ (objects n o next kept saved : ℕ) (is-number : IsNumber n) where
       record {
         state = Idle;
         fine = tt;
-        written = λ j. with-fields (no-operation j) (no-object j) IdlePhase (no-kept j) (no-saved j) next;
+        written = λ j. with-activity own (activity-of (no-operation j) (no-object j) IdlePhase (no-kept j) (no-saved j));
         home = λ busy. absurd busy;
         number = λ busy. absurd busy;
       }
@@ -179,7 +179,7 @@ module _ (objects n o next kept saved : ℕ) (is-number : IsNumber n) where
 
   -- and what each of them is doing there; where an operation may not be in the phase, its test is false
   back : (phase : Phase) (operation : Operation) → Back phase operation
-  unfolding uses-phase carries-phase phase-number carried-number onward-number doing-record carried-record write-thread
+  unfolding uses-phase carries-phase phase-number carried-number onward-number doing-activity carried-activity write-activity
   back IdlePhase = idle
   back Look =
       by-operation Look refl (λ e. plain Look Enter (Running EnterLook) refl tt refl) (λ e. plain Look Exit (Running ExitLook) refl tt refl)
@@ -226,18 +226,18 @@ module _ (objects n o next kept saved : ℕ) (is-number : IsNumber n) where
 
 pub fits-written : (objects n : ℕ) → IsNumber n → (thread : ThreadRecord) → ThreadFits objects n thread → IsWritten objects n thread
 fits-written objects n is-number thread =
-    back objects n (thread .object) (thread .next) (thread .kept) (thread .saved) is-number (thread .phase) (thread .operation)
+    back objects n (thread .object) (thread .kept) (thread .saved) thread is-number (thread .phase) (thread .operation)
 
 -- the empty record is an idle thread
 pub none-written : (objects n : ℕ) → IsWritten objects n no-thread
-unfolding write-thread
+unfolding write-activity
 none-written objects n = record { state = Idle; fine = tt; written = refl; home = λ busy. absurd busy; number = λ busy. absurd busy }
 
 -- the state is the one that the record is read as
 pub state-back : (objects n : ℕ) (thread : ThreadRecord) (is : IsWritten objects n thread) → read-thread thread ≡ is .state
-state-back objects n thread is = ap read-thread (is .written) ∙ state-read n (thread .object) (is .state) (thread .next) (is .number) (is .fine)
+state-back objects n thread is = ap read-thread (is .written) ∙ state-read n (thread .object) (is .state) (is .number) (is .fine)
 
 -- and the phase is that state's
 pub phase-back : (objects n : ℕ) (thread : ThreadRecord) (is : IsWritten objects n thread) → phase-number (thread .phase) ≡ phase-of (is .state)
 phase-back objects n thread is =
-    ap (λ (read : ThreadRecord). phase-number (read .phase)) (is .written) ∙ phase-written n (thread .object) (is .state) (thread .next)
+    ap (λ (read : ThreadRecord). phase-number (read .phase)) (is .written) ∙ phase-written n (thread .object) (is .state)

@@ -63,19 +63,19 @@ module _ (threads objects : ℕ) (lists : ListTable) (sound : SoundTable threads
 module _ (threads objects : ℕ) (t : Table) (lists : ListTable) (represents : Represents threads objects t lists) (sound : SoundTable threads objects lists)
   where
     -- a thread's record
-    pub thread-is : (n : ℕ) → thread-at t n ≡ thread-record n (lists .threads n) (represents .links .next n)
-    thread-is = record-is t (lists .threads) (represents .links .next) (represents .written)
+    pub thread-is : (n : ℕ) → thread-at t n ≡ thread-record n (lists .threads n) (represents .links .next n) (represents .given .thread n)
+    thread-is = record-is (represents .given .thread) t (lists .threads) (represents .links .next) (represents .written)
 
     pub state-is : (n : ℕ) → read-thread (thread-at t n) ≡ lists .threads n .state
     state-is n =
         ap read-thread (thread-is n)
-        ∙ state-read n (lists .threads n .object) (lists .threads n .state) (represents .links .next n)
+        ∙ state-read n (lists .threads n .object) (lists .threads n .state)
         (λ busy. let ((low, high), first, last) = busy-in threads objects lists sound n busy in (low, omega (arith, high, represents .thread-room))) (sound .fine n)
 
     pub home-is : (n : ℕ) → T (unfinished (lists .threads n .state)) → thread-at t n .object ≡ lists .threads n .object
     home-is n busy =
         ap (λ (thread : ThreadRecord). thread .object) (thread-is n)
-        ∙ object-written n (lists .threads n .object) (lists .threads n .state) (represents .links .next n) busy
+        ∙ object-written n (lists .threads n .object) (lists .threads n .state) busy
 
     -- a chain, by its first thread and the next indexes
     pub first-is : (o : ℕ) (chain : Chain) → represents .links .first (number o chain) ≡ head (chain-of chain (lists .objects o))
@@ -86,7 +86,7 @@ module _ (threads objects : ℕ) (t : Table) (lists : ListTable) (represents : R
         → members thread-limit (next-of t) (represents .links .first (number o chain)) ≡ chain-of chain (lists .objects o)
     members-are o chain =
         ap (λ (next : ℕ → ℕ). members thread-limit next (represents .links .first (number o chain)))
-        (next-is t (lists .threads) (represents .links .next) (represents .written))
+        (next-is (represents .given .thread) t (lists .threads) (represents .links .next) (represents .written))
         ∙ chain-members thread-limit (represents .links .next) (represents .links .first (number o chain)) (chain-of chain (lists .objects o))
         (rw (list-at (lists .objects) o chain) at (represents .chains .chain (number o chain)))
         (omega (arith, short threads objects lists sound chain o, represents .thread-room))

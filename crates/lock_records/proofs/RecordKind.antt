@@ -24,11 +24,12 @@ use Rattle.lock_rules.proofs.ListSound.{SoundTable}
 use Rattle.lock_rules.proofs.SoundKept.{sound-turn}
 use Rattle.lock_rules.proofs.Standing.{Standing, stands-turn}
 use Rattle.lock_table.specs.Access.{thread-at, set-thread, object-at}
+use Rattle.lock_table.specs.Record.{with-activity}
 use Rattle.lock_table.specs.declared.phase.Phase.the-variants.{Look}
-use Rattle.lock_table.specs.declared.record.ThreadRecord.{ThreadRecord}
+use Rattle.lock_table.specs.declared.record.Activity.{Activity}
 use Rattle.lock_table.specs.declared.record.ObjectRecord.{ObjectRecord}
 use Rattle.lock_table.specs.declared.record.Table.{Table}
-use Rattle.lock_perform.specs.State.{read-thread, with-fields}
+use Rattle.lock_perform.specs.State.{read-thread, activity-of}
 use Rattle.lock_perform.specs.Sight.{sight-at}
 use Rattle.lock_perform.proofs.Performed.{perform-of}
 use Rattle.lock_records.proofs.Represents.{Represents}
@@ -54,7 +55,7 @@ step-records t n doing =
     step-reads t n number object doing (read-word (object .word))
 
 abbrev pub begin-records : Table → Operation → ℕ → ℕ → Table
-begin-records t operation n o = set-thread t n (with-fields (operation-of operation) o Look 0 0 0)
+begin-records t operation n o = set-thread t n (with-activity (thread-at t n) (activity-of (operation-of operation) o Look 0 0))
 
 abbrev pub record-kind : Kind
 record-kind = record { Table = Table; state = λ t n. read-thread (thread-at t n); begins = begin-records; steps = step-records }
@@ -64,8 +65,9 @@ module _ (threads objects : ℕ) (t : Table) (lists : ListTable) (represents : R
   begins-alike : (operation : Operation) (o : ℕ) → lists .threads n .state ≡ Idle
       → Represents threads objects (begin-records t operation n o) (begin-at lists operation n o)
   begins-alike operation o idle =
-      subst (λ (thread : ThreadRecord). Represents threads objects (set-thread t n thread) (begin-at lists operation n o)) (begun-written n o operation)
-      (begin-represents threads objects t lists represents sound n low high (record { object = o; state = Running (begun operation) }) idle)
+      subst (λ (activity : Activity). Represents threads objects (set-thread t n (with-activity (thread-at t n) activity)) (begin-at lists operation n o))
+      (begun-written n o operation)
+      (begin-represents threads objects t lists represents sound n low high (record { object = o; state = Running (begun operation) }))
 
   -- the same table and the same reply
   abbrev Alike : TurnOf Table → TurnOf ListTable → Type 0

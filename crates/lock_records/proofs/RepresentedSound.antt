@@ -17,13 +17,13 @@ use Rattle.lock_rules.proofs.Objects.{chain-of}
 use Rattle.lock_rules.proofs.ListChains.{times-in, placed-in, member-at, member-in, short}
 use Rattle.chains.specs.declared.named.Chain.{Chain}
 use Rattle.lock_rules.proofs.ListChains.{out-of-chain}
-use Rattle.lock_table.specs.Record.{no-thread}
+use Rattle.lock_table.specs.Record.{no-thread, with-next}
 use Rattle.lock_table.specs.Access.{thread-at, object-at, next-of, phase-number-at}
 use Rattle.lock_table.specs.Parked.{chain-named, thread-chain, first-in, chain-first}
 use Rattle.lock_table.specs.declared.record.ObjectRecord.{ObjectRecord}
 use Rattle.lock_table.specs.declared.record.Table.{Table}
 use Rattle.lock_table.proofs.Walks.{next-none}
-use Rattle.lock_perform.specs.State.{write-thread}
+use Rattle.lock_perform.specs.State.{write-activity, write-thread}
 use Rattle.lock_records.proofs.Numbering.{number, lists-of, list-at, by-number}
 use Rattle.lock_records.proofs.Written.{phase-written, word-read}
 use Rattle.lock_records.proofs.Represents.{thread-record, Represents, next-is}
@@ -41,7 +41,7 @@ use Rattle.lock_records.proofs.Words.{word-fits}
 module _ (t : Table) (lists : ListTable) (represents : Represents (t .threadcount) (t .objectcount) t lists)
     (sound : SoundTable (t .threadcount) (t .objectcount) lists) where
   -- a thread's record, and the object of one that is not idle
-  record-at : (n : ℕ) → thread-at t n ≡ thread-record n (lists .threads n) (represents .links .next n)
+  record-at : (n : ℕ) → thread-at t n ≡ thread-record n (lists .threads n) (represents .links .next n) (represents .given .thread n)
   record-at = thread-is (t .threadcount) (t .objectcount) t lists represents sound
 
   home-at : (n : ℕ) → T (unfinished (lists .threads n .state)) → thread-at t n .object ≡ lists .threads n .object
@@ -59,7 +59,7 @@ module _ (t : Table) (lists : ListTable) (represents : Represents (t .threadcoun
   named-is : (n : ℕ) → thread-chain (thread-at t n) ≡ chain-named (phase-of (lists .threads n .state))
   named-is n =
       ap thread-chain (record-at n)
-      ∙ ap chain-named (phase-written n (lists .threads n .object) (lists .threads n .state) (represents .links .next n))
+      ∙ ap chain-named (phase-written n (lists .threads n .object) (lists .threads n .state))
 
   -- where that is none, it is in none and has no next index
   no-next : (n : ℕ) → chain-named (phase-of (lists .threads n .state)) ≡ 0 → represents .links .next n ≡ 0
@@ -73,8 +73,9 @@ module _ (t : Table) (lists : ListTable) (represents : Represents (t .threadcoun
   thread-fits : (n : ℕ) → 1 ≤ n → n ≤ t .threadcount → ThreadFits (t .objectcount) n (thread-at t n)
   thread-fits n low high =
       subst (ThreadFits (t .objectcount) n) (sym (record-at n))
-      (written-fits (t .objectcount) n (lists .threads n .object) (represents .links .next n) low (omega (arith, high, represents .thread-room))
-      (lists .threads n .state) (sound .fine n) (home-in n) (no-next n))
+      (written-fits (t .objectcount) n (lists .threads n .object) (represents .given .thread n) (represents .links .next n) low
+      (omega (arith, high, represents .thread-room)) (represents .given .thread-fits n low high) (lists .threads n .state) (sound .fine n) (home-in n)
+      (no-next n))
 
   -- a chain of an object of the table, by its first thread and the next indexes
   module _ (o : ℕ) (low : 1 ≤ o) (high : o ≤ t .objectcount) where
@@ -88,7 +89,7 @@ module _ (t : Table) (lists : ListTable) (represents : Represents (t .threadcoun
     linked-at chain =
         let links : Linked (represents .links .next) (represents .links .first (number o chain)) (chain-of chain (lists .objects o)) =
         rw (list-at (lists .objects) o chain) at (represents .chains .chain (number o chain)) in
-        rw (next-is t (lists .threads) (represents .links .next) (represents .written), first-at chain) links
+        rw (next-is (represents .given .thread) t (lists .threads) (represents .links .next) (represents .written), first-at chain) links
 
     chain-is : (chain : Chain) → threads-in-chain t o (chain-number chain) ≡ chain-of chain (lists .objects o)
     chain-is chain =
@@ -133,13 +134,14 @@ module _ (t : Table) (lists : ListTable) (represents : Represents (t .threadcoun
 
   -- records past the table's sizes
   thread-past-empty : (n : ℕ) → t .threadcount < n → thread-at t n ≡ no-thread
-  unfolding write-thread chain-named
+  unfolding write-activity chain-named
   thread-past-empty n past = at (sound .range n)
     where
       at : InTable (t .threadcount) (t .objectcount) n (lists .threads n) → thread-at t n ≡ no-thread
       at (inl idle) =
           record-at n
-          ∙ (λ j. write-thread n (lists .threads n .object) (idle j) (no-next n (ap (λ (state : ThreadState). chain-named (phase-of state)) idle) j))
+          ∙ (λ j. write-thread n (lists .threads n .object) (idle j)
+          (with-next (represents .given .thread-past n past j) (no-next n (ap (λ (state : ThreadState). chain-named (phase-of state)) idle) j)))
       at (inr (inside, low, high)) = absurd (omega (arith, past, inside))
 
   -- the fields of an object

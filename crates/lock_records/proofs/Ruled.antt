@@ -29,7 +29,8 @@ use Rattle.lock_rules.proofs.Turns.{TurnOf, shown-on, by-event}
 use Rattle.lock_rules.proofs.Tables.{ListTable, list-kind, turn, step-at, perform-at, shown, fresh}
 use Rattle.lock_rules.proofs.Lift.{World, world-turn, world-fresh}
 use Rattle.lock_table.specs.Limits.{thread-limit, object-limit}
-use Rattle.lock_table.specs.Fresh.{fresh-of}
+use Rattle.lock_table.specs.Fresh.{InRange, fresh-of}
+use Rattle.lock_table.specs.declared.fresh_table.FreshRequest.{FreshRequest}
 use Rattle.lock_records.specs.Agrees.{RuledReply, Ruled}
 use Rattle.lock_records.proofs.RecordKind.{record-kind}
 use Rattle.lock_records.proofs.Claim.{schedule-represents}
@@ -79,8 +80,8 @@ lists-ruled threads objects (event ∷ rest) lists plain world = (
 )
 
 -- no event of a schedule on records returns 11 or 20
-pub schedule-ruled : (threads objects : ℕ) → 1 ≤ threads → threads ≤ thread-limit → 1 ≤ objects → objects ≤ object-limit → (reserved : Bool)
-    (events : List Event) → Ruled (shown-on record-kind threads objects (fresh-of threads objects reserved .table) events)
-schedule-ruled threads objects some-threads thread-room some-objects object-room reserved events =
-    subst Ruled (sym (schedule-represents threads objects some-threads thread-room some-objects object-room reserved events .2))
-    (lists-ruled threads objects events (fresh reserved) blank (world-fresh reserved))
+pub schedule-ruled : (request : FreshRequest) → InRange request → (events : List Event)
+    → Ruled (shown-on record-kind (request .threads) (request .objects) (fresh-of request .table) events)
+schedule-ruled request in-range events =
+    subst Ruled (sym (schedule-represents request in-range events .2))
+    (lists-ruled (request .threads) (request .objects) events (fresh (request .reserved)) blank (world-fresh (request .reserved)))

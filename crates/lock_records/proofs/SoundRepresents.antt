@@ -22,7 +22,7 @@ use Rattle.chains.specs.declared.named.Chain.{Chain}
 use Rattle.lock_rules.proofs.Objects.{chain-of}
 use Rattle.lock_table.specs.Limits.{thread-limit, object-limit}
 use Rattle.lock_word.specs.Depth.{depth-limit}
-use Rattle.lock_table.specs.Record.{no-thread, no-object}
+use Rattle.lock_table.specs.Record.{no-thread, no-object, with-word, with-monitor}
 use Rattle.lock_table.specs.Access.{thread-at, object-at, next-of, phase-number-at}
 use Rattle.lock_table.specs.Parked.{thread-chain, first-in, chain-first}
 use Rattle.lock_table.specs.declared.record.ObjectRecord.{ObjectRecord}
@@ -129,29 +129,25 @@ module _ (t : Table) (sound : Sound t) where
               (by-chain (λ k. thread-chain (thread-at t n) ≡ k → ⊥) found (thread-chain (thread-at t n)) (omega (arith, some)) (chain-kinds (phase-number-at t n)) refl)
 
   -- every thread record is the thread that it is read as, written
-  thread-written : (n : ℕ) → thread-at t n ≡ thread-record n (thread-read t n) (next-of t n)
+  thread-written : (n : ℕ) → thread-at t n ≡ thread-record n (thread-read t n) (next-of t n) (thread-at t n)
   thread-written n =
       written-at t sound n .written
-      ∙ ap (λ (state : ThreadState). write-thread n (thread-at t n .object) state (next-of t n))
+      ∙ ap (λ (state : ThreadState). write-thread n (thread-at t n .object) state (thread-at t n))
       (sym (state-back (t .objectcount) n (thread-at t n) (written-at t sound n)))
 
   -- and so is every object record in use
-  object-written : (o : ℕ) → 1 ≤ o → o ≤ t .objectcount → object-at t o ≡ object-record o (object-read t o) (links-read t)
+  object-written : (o : ℕ) → 1 ≤ o → o ≤ t .objectcount → object-at t o ≡ object-record o (object-read t o) (links-read t) (object-at t o)
   unfolding first-in
   object-written o low high =
       let (word, fine) = word-back (t .threadcount) o (object-at t o .word) (sound .objects o low high .word) in
       λ j.
-      record {
-        word = sym word j;
-        monitor = record {
-          depth = object-at t o .monitor .depth;
-          holder = object-at t o .monitor .holder;
-          entry = sym (first-read o Chain.Entry) j;
-          contention = sym (first-read o Chain.Contention) j;
-          waiting = sym (first-read o Chain.Waiting) j;
-        };
-        flag = object-at t o .flag;
-      }
+      with-monitor (with-word (object-at t o) (sym word j)) (record {
+        depth = object-at t o .monitor .depth;
+        holder = object-at t o .monitor .holder;
+        entry = sym (first-read o Chain.Entry) j;
+        contention = sym (first-read o Chain.Contention) j;
+        waiting = sym (first-read o Chain.Waiting) j;
+      })
 
   represents-read : length (t .threads) ≡ thread-limit → length (t .objects) ≡ object-limit
       → Represents (t .threadcount) (t .objectcount) t (lists-read t)
@@ -161,6 +157,13 @@ module _ (t : Table) (sound : Sound t) where
         objectcount = refl;
         thread-room = sound .sizes .0 .1;
         object-room = sound .sizes .1 .1;
+        given = record {
+          thread = thread-at t;
+          object = object-at t;
+          thread-fits = sound .threads;
+          thread-past = λ n past. none n past (thread-where t sound n);
+          object-fits = sound .objects;
+        };
         links = links-read t;
         chains = stands;
         written = record { records = fun-ext thread-written; full = threads-full };
@@ -169,6 +172,10 @@ module _ (t : Table) (sound : Sound t) where
         object-past = λ o past. at o past (object-where t sound o);
       }
     where
+      none : (n : ℕ) → t .threadcount < n → Within 1 (t .threadcount) n ⊎ (thread-at t n ≡ no-thread) → thread-at t n ≡ no-thread
+      none n past (inl (low, high)) = absurd (omega (arith, past, high))
+      none n past (inr empty) = empty
+
       at : (o : ℕ) → t .objectcount < o → Within 1 (t .objectcount) o ⊎ (object-at t o ≡ no-object) → object-at t o ≡ no-object
       at o past (inl (low, high)) = absurd (omega (arith, past, high))
       at o past (inr empty) = empty

@@ -40,11 +40,11 @@ use Rattle.lock_rules.specs.declared.WordChange.the-variants.{Unchanged, Freed,
 use Rattle.lock_rules.proofs.ListSound.{WordFine, DoingFine, StateFine}
 use Rattle.lock_table.specs.Limits.{thread-limit, object-limit}
 use Rattle.lock_table.specs.Phase.{onward-number, onward-phase, phase-number, carried-number}
-use Rattle.lock_table.specs.Record.{with-next}
+use Rattle.lock_table.specs.Record.{no-thread, with-activity, with-next}
 use Rattle.lock_table.specs.Chain.{carried-of, handed-of, moved-phase, moved as moved-record}
 use Rattle.lock_table.specs.declared.record.ThreadRecord.{ThreadRecord}
-use Rattle.lock_perform.specs.State.{look-of, store-of, cancel-of as cancel-state-of, go-in-of, carried-of as carried-state-of, state-by, read-thread}
-use Rattle.lock_perform.specs.State.{doing-record, carried-record, write-thread}
+use Rattle.lock_perform.specs.State.{look-of, store-of, cancel-of as cancel-state-of, go-in-of, carried-of as carried-state-of, state-by, read-activity}
+use Rattle.lock_perform.specs.State.{doing-activity, carried-activity, write-activity, write-thread}
 use Rattle.lock_perform.specs.Moving.{back-from, sent-back-of}
 use Rattle.lock_perform.specs.Perform.{word-after}
 
@@ -116,177 +116,163 @@ unfolding write-word InRange kept-count
 count-kept n count is-number small = ap kept-count (meaning-of-word (Reserved (thread-number n) count) (is-number, omega (arith, small)))
 
 -- a fine state is read back
-doing-read : (n o : ℕ) (doing : Doing) (next : ℕ) → IsNumber n → DoingFine doing → read-thread (doing-record n o doing next) ≡ Running doing
-unfolding doing-record state-by look-of store-of cancel-state-of go-in-of
-doing-read n o EnterLook next is-number fine = refl
-doing-read n o (EnterStore count) next is-number fine = ap (λ (c : ℕ). Running (EnterStore c)) (count-kept n count is-number (omega arith))
-doing-read n o EnterCancel next is-number fine = refl
-doing-read n o EnterGoIn next is-number fine = refl
-doing-read n o EnterCheck next is-number fine = refl
-doing-read n o EnterTry next is-number fine = refl
-doing-read n o ExitLook next is-number fine = refl
-doing-read n o (ExitStore count) next is-number fine = ap (λ (c : ℕ). Running (ExitStore c)) (count-kept n count is-number (fine .1))
-doing-read n o ExitGoIn next is-number fine = refl
-doing-read n o ExitTest next is-number fine = refl
-doing-read n o ExitTell next is-number fine = refl
-doing-read n o ExitLeave next is-number fine = refl
-doing-read n o WaitLook next is-number fine = refl
-doing-read n o WaitCancel next is-number fine = refl
-doing-read n o WaitGoIn next is-number fine = refl
-doing-read n o WaitInflate next is-number fine = refl
-doing-read n o WaitGiveUp next is-number fine = refl
-doing-read n o (WaitResume suspension) next is-number fine = refl
-doing-read n o NotifyLook next is-number fine = refl
-doing-read n o NotifyAllLook next is-number fine = refl
+doing-read : (n o : ℕ) (doing : Doing) → IsNumber n → DoingFine doing → read-activity (doing-activity n o doing) ≡ Running doing
+unfolding doing-activity state-by look-of store-of cancel-state-of go-in-of
+doing-read n o EnterLook is-number fine = refl
+doing-read n o (EnterStore count) is-number fine = ap (λ (c : ℕ). Running (EnterStore c)) (count-kept n count is-number (omega arith))
+doing-read n o EnterCancel is-number fine = refl
+doing-read n o EnterGoIn is-number fine = refl
+doing-read n o EnterCheck is-number fine = refl
+doing-read n o EnterTry is-number fine = refl
+doing-read n o ExitLook is-number fine = refl
+doing-read n o (ExitStore count) is-number fine = ap (λ (c : ℕ). Running (ExitStore c)) (count-kept n count is-number (fine .1))
+doing-read n o ExitGoIn is-number fine = refl
+doing-read n o ExitTest is-number fine = refl
+doing-read n o ExitTell is-number fine = refl
+doing-read n o ExitLeave is-number fine = refl
+doing-read n o WaitLook is-number fine = refl
+doing-read n o WaitCancel is-number fine = refl
+doing-read n o WaitGoIn is-number fine = refl
+doing-read n o WaitInflate is-number fine = refl
+doing-read n o WaitGiveUp is-number fine = refl
+doing-read n o (WaitResume suspension) is-number fine = refl
+doing-read n o NotifyLook is-number fine = refl
+doing-read n o NotifyAllLook is-number fine = refl
 
-pub state-read : (n o : ℕ) (state : ThreadState) (next : ℕ) → (T (unfinished state) → IsNumber n) → StateFine state → read-thread (write-thread n o state next) ≡ state
-unfolding write-thread carried-record state-by carried-state-of
-state-read n o Idle next is-number fine = refl
-state-read n o (Running doing) next is-number fine = doing-read n o doing next (is-number tt) fine
-state-read n o (Queued ToCheck) next is-number fine = refl
-state-read n o (Queued ToTell) next is-number fine = refl
-state-read n o (Queued ToInflate) next is-number fine = refl
-state-read n o (Queued (ToResume suspension)) next is-number fine = refl
-state-read n o Contending next is-number fine = refl
-state-read n o (Waiting suspension) next is-number fine = refl
+pub state-read : (n o : ℕ) (state : ThreadState) → (T (unfinished state) → IsNumber n) → StateFine state → read-activity (write-activity n o state) ≡ state
+unfolding write-activity carried-activity state-by carried-state-of
+state-read n o Idle is-number fine = refl
+state-read n o (Running doing) is-number fine = doing-read n o doing (is-number tt) fine
+state-read n o (Queued ToCheck) is-number fine = refl
+state-read n o (Queued ToTell) is-number fine = refl
+state-read n o (Queued ToInflate) is-number fine = refl
+state-read n o (Queued (ToResume suspension)) is-number fine = refl
+state-read n o Contending is-number fine = refl
+state-read n o (Waiting suspension) is-number fine = refl
 
 -- The record of a thread that can take a step, field by field and after each change of another thread's record.
-pub record WrittenDoing (n o : ℕ) (doing : Doing) (next : ℕ) : Type 0 where
-  pub object : doing-record n o doing next .object ≡ o
-  pub phase : phase-number (doing-record n o doing next .phase) ≡ phase-of-doing doing
-  pub carried : carried-number (doing-record n o doing next .phase) ≡ 0
-  -- with another next index
-  pub relinked : (next′ : ℕ) → with-next (doing-record n o doing next) next′ ≡ doing-record n o doing next′
+pub record WrittenDoing (n o : ℕ) (doing : Doing) (own : ThreadRecord) : Type 0 where
+  pub object : doing-activity n o doing .object ≡ o
+  pub phase : phase-number (doing-activity n o doing .phase) ≡ phase-of-doing doing
+  pub carried : carried-number (doing-activity n o doing .phase) ≡ 0
   -- it carries no phase to take when it is handed the monitor
-  pub handed-on : handed-of (doing-record n o doing next) ≡ doing-record n o doing 0
+  pub handed-on : handed-of (with-activity own (doing-activity n o doing)) ≡ with-activity (with-next own 0) (doing-activity n o doing)
   -- nor does it move
-  pub unmoved : moved-record (doing-record n o doing next) ≡ doing-record n o doing next
+  pub unmoved : moved-record (with-activity own (doing-activity n o doing)) ≡ with-activity own (doing-activity n o doing)
   -- from its store it goes back to its look
-  pub back : back-from (doing-record n o doing next) (doing-record n o doing next .phase) ≡ doing-record n o (look-again doing) next
+  pub back : back-from (with-activity own (doing-activity n o doing)) (doing-activity n o doing .phase)
+      ≡ with-activity own (doing-activity n o (look-again doing))
 
-pub written-doing : (n o : ℕ) (doing : Doing) (next : ℕ) → WrittenDoing n o doing next
-unfolding doing-record carried-of moved-phase back-from phase-number carried-number
-written-doing n o EnterLook next = record { object = refl; phase = refl; carried = refl; relinked = λ x. refl; handed-on = refl; unmoved = refl; back = refl }
-written-doing n o (EnterStore count) next = record { object = refl; phase = refl; carried = refl; relinked = λ x. refl; handed-on = refl; unmoved = refl; back = refl }
-written-doing n o EnterCancel next = record { object = refl; phase = refl; carried = refl; relinked = λ x. refl; handed-on = refl; unmoved = refl; back = refl }
-written-doing n o EnterGoIn next = record { object = refl; phase = refl; carried = refl; relinked = λ x. refl; handed-on = refl; unmoved = refl; back = refl }
-written-doing n o EnterCheck next = record { object = refl; phase = refl; carried = refl; relinked = λ x. refl; handed-on = refl; unmoved = refl; back = refl }
-written-doing n o EnterTry next = record { object = refl; phase = refl; carried = refl; relinked = λ x. refl; handed-on = refl; unmoved = refl; back = refl }
-written-doing n o ExitLook next = record { object = refl; phase = refl; carried = refl; relinked = λ x. refl; handed-on = refl; unmoved = refl; back = refl }
-written-doing n o (ExitStore count) next = record { object = refl; phase = refl; carried = refl; relinked = λ x. refl; handed-on = refl; unmoved = refl; back = refl }
-written-doing n o ExitGoIn next = record { object = refl; phase = refl; carried = refl; relinked = λ x. refl; handed-on = refl; unmoved = refl; back = refl }
-written-doing n o ExitTest next = record { object = refl; phase = refl; carried = refl; relinked = λ x. refl; handed-on = refl; unmoved = refl; back = refl }
-written-doing n o ExitTell next = record { object = refl; phase = refl; carried = refl; relinked = λ x. refl; handed-on = refl; unmoved = refl; back = refl }
-written-doing n o ExitLeave next = record { object = refl; phase = refl; carried = refl; relinked = λ x. refl; handed-on = refl; unmoved = refl; back = refl }
-written-doing n o WaitLook next = record { object = refl; phase = refl; carried = refl; relinked = λ x. refl; handed-on = refl; unmoved = refl; back = refl }
-written-doing n o WaitCancel next = record { object = refl; phase = refl; carried = refl; relinked = λ x. refl; handed-on = refl; unmoved = refl; back = refl }
-written-doing n o WaitGoIn next = record { object = refl; phase = refl; carried = refl; relinked = λ x. refl; handed-on = refl; unmoved = refl; back = refl }
-written-doing n o WaitInflate next = record { object = refl; phase = refl; carried = refl; relinked = λ x. refl; handed-on = refl; unmoved = refl; back = refl }
-written-doing n o WaitGiveUp next = record { object = refl; phase = refl; carried = refl; relinked = λ x. refl; handed-on = refl; unmoved = refl; back = refl }
-written-doing n o (WaitResume suspension) next = record { object = refl; phase = refl; carried = refl; relinked = λ x. refl; handed-on = refl; unmoved = refl; back = refl }
-written-doing n o NotifyLook next = record { object = refl; phase = refl; carried = refl; relinked = λ x. refl; handed-on = refl; unmoved = refl; back = refl }
-written-doing n o NotifyAllLook next = record { object = refl; phase = refl; carried = refl; relinked = λ x. refl; handed-on = refl; unmoved = refl; back = refl }
+pub written-doing : (n o : ℕ) (doing : Doing) (own : ThreadRecord) → WrittenDoing n o doing own
+unfolding doing-activity carried-of moved-phase back-from phase-number carried-number
+written-doing n o EnterLook own = record { object = refl; phase = refl; carried = refl; handed-on = refl; unmoved = refl; back = refl }
+written-doing n o (EnterStore count) own = record { object = refl; phase = refl; carried = refl; handed-on = refl; unmoved = refl; back = refl }
+written-doing n o EnterCancel own = record { object = refl; phase = refl; carried = refl; handed-on = refl; unmoved = refl; back = refl }
+written-doing n o EnterGoIn own = record { object = refl; phase = refl; carried = refl; handed-on = refl; unmoved = refl; back = refl }
+written-doing n o EnterCheck own = record { object = refl; phase = refl; carried = refl; handed-on = refl; unmoved = refl; back = refl }
+written-doing n o EnterTry own = record { object = refl; phase = refl; carried = refl; handed-on = refl; unmoved = refl; back = refl }
+written-doing n o ExitLook own = record { object = refl; phase = refl; carried = refl; handed-on = refl; unmoved = refl; back = refl }
+written-doing n o (ExitStore count) own = record { object = refl; phase = refl; carried = refl; handed-on = refl; unmoved = refl; back = refl }
+written-doing n o ExitGoIn own = record { object = refl; phase = refl; carried = refl; handed-on = refl; unmoved = refl; back = refl }
+written-doing n o ExitTest own = record { object = refl; phase = refl; carried = refl; handed-on = refl; unmoved = refl; back = refl }
+written-doing n o ExitTell own = record { object = refl; phase = refl; carried = refl; handed-on = refl; unmoved = refl; back = refl }
+written-doing n o ExitLeave own = record { object = refl; phase = refl; carried = refl; handed-on = refl; unmoved = refl; back = refl }
+written-doing n o WaitLook own = record { object = refl; phase = refl; carried = refl; handed-on = refl; unmoved = refl; back = refl }
+written-doing n o WaitCancel own = record { object = refl; phase = refl; carried = refl; handed-on = refl; unmoved = refl; back = refl }
+written-doing n o WaitGoIn own = record { object = refl; phase = refl; carried = refl; handed-on = refl; unmoved = refl; back = refl }
+written-doing n o WaitInflate own = record { object = refl; phase = refl; carried = refl; handed-on = refl; unmoved = refl; back = refl }
+written-doing n o WaitGiveUp own = record { object = refl; phase = refl; carried = refl; handed-on = refl; unmoved = refl; back = refl }
+written-doing n o (WaitResume suspension) own = record { object = refl; phase = refl; carried = refl; handed-on = refl; unmoved = refl; back = refl }
+written-doing n o NotifyLook own = record { object = refl; phase = refl; carried = refl; handed-on = refl; unmoved = refl; back = refl }
+written-doing n o NotifyAllLook own = record { object = refl; phase = refl; carried = refl; handed-on = refl; unmoved = refl; back = refl }
 
 -- the same for a queued thread, which carries the phase that it takes
-pub record WrittenCarried (n o : ℕ) (carried : Carried) (next : ℕ) : Type 0 where
-  pub object : carried-record o carried next .object ≡ o
-  pub phase : phase-number (carried-record o carried next .phase) ≡ 5
-  pub carries : carried-number (carried-record o carried next .phase) ≡ phase-of-doing (onward carried)
-  pub relinked : (next′ : ℕ) → with-next (carried-record o carried next) next′ ≡ carried-record o carried next′
-  pub handed-on : handed-of (carried-record o carried next) ≡ doing-record n o (onward carried) 0
-  pub unmoved : moved-record (carried-record o carried next) ≡ carried-record o carried next
-  pub back : back-from (carried-record o carried next) (carried-record o carried next .phase) ≡ carried-record o carried next
+pub record WrittenCarried (n o : ℕ) (carried : Carried) (own : ThreadRecord) : Type 0 where
+  pub object : carried-activity o carried .object ≡ o
+  pub phase : phase-number (carried-activity o carried .phase) ≡ 5
+  pub carries : carried-number (carried-activity o carried .phase) ≡ phase-of-doing (onward carried)
+  pub handed-on : handed-of (with-activity own (carried-activity o carried)) ≡ with-activity (with-next own 0) (doing-activity n o (onward carried))
+  pub unmoved : moved-record (with-activity own (carried-activity o carried)) ≡ with-activity own (carried-activity o carried)
+  pub back : back-from (with-activity own (carried-activity o carried)) (carried-activity o carried .phase) ≡ with-activity own (carried-activity o carried)
 
-pub written-carried : (n o : ℕ) (carried : Carried) (next : ℕ) → WrittenCarried n o carried next
-unfolding carried-record doing-record carried-of moved-phase onward-phase back-from phase-number carried-number onward-number
-written-carried n o ToCheck next = record { object = refl; phase = refl; carries = refl; relinked = λ x. refl; handed-on = refl; unmoved = refl; back = refl }
-written-carried n o ToTell next = record { object = refl; phase = refl; carries = refl; relinked = λ x. refl; handed-on = refl; unmoved = refl; back = refl }
-written-carried n o ToInflate next = record { object = refl; phase = refl; carries = refl; relinked = λ x. refl; handed-on = refl; unmoved = refl; back = refl }
-written-carried n o (ToResume suspension) next = record { object = refl; phase = refl; carries = refl; relinked = λ x. refl; handed-on = refl; unmoved = refl; back = refl }
+pub written-carried : (n o : ℕ) (carried : Carried) (own : ThreadRecord) → WrittenCarried n o carried own
+unfolding carried-activity doing-activity carried-of moved-phase onward-phase back-from phase-number carried-number onward-number
+written-carried n o ToCheck own = record { object = refl; phase = refl; carries = refl; handed-on = refl; unmoved = refl; back = refl }
+written-carried n o ToTell own = record { object = refl; phase = refl; carries = refl; handed-on = refl; unmoved = refl; back = refl }
+written-carried n o ToInflate own = record { object = refl; phase = refl; carries = refl; handed-on = refl; unmoved = refl; back = refl }
+written-carried n o (ToResume suspension) own = record { object = refl; phase = refl; carries = refl; handed-on = refl; unmoved = refl; back = refl }
 
--- and for any thread: a next index is written as it is
-pub relinked-written : (n o : ℕ) (state : ThreadState) (next next′ : ℕ) → with-next (write-thread n o state next) next′ ≡ write-thread n o state next′
-unfolding write-thread
-relinked-written n o Idle next next′ = refl
-relinked-written n o (Running doing) next next′ = written-doing n o doing next .relinked next′
-relinked-written n o (Queued carried) next next′ = written-carried n o carried next .relinked next′
-relinked-written n o Contending next next′ = refl
-relinked-written n o (Waiting suspension) next next′ = refl
+-- the object of a thread that is not idle is written as it is
+pub idle-or-written : (n o : ℕ) (state : ThreadState) → (state ≡ Idle) ⊎ (write-activity n o state .object ≡ o)
+unfolding write-activity
+idle-or-written n o Idle = inl refl
+idle-or-written n o (Running doing) = inr (written-doing n o doing no-thread .object)
+idle-or-written n o (Queued carried) = inr (written-carried n o carried no-thread .object)
+idle-or-written n o Contending = inr refl
+idle-or-written n o (Waiting suspension) = inr refl
 
-pub next-written : (n o : ℕ) (state : ThreadState) (next : ℕ) → write-thread n o state next .next ≡ next
-next-written n o state next = sym (ap (λ (thread : ThreadRecord). thread .next) (relinked-written n o state next next))
-
--- so is the object of a thread that is not idle
-pub idle-or-written : (n o : ℕ) (state : ThreadState) (next : ℕ) → (state ≡ Idle) ⊎ (write-thread n o state next .object ≡ o)
-unfolding write-thread
-idle-or-written n o Idle next = inl refl
-idle-or-written n o (Running doing) next = inr (written-doing n o doing next .object)
-idle-or-written n o (Queued carried) next = inr (written-carried n o carried next .object)
-idle-or-written n o Contending next = inr refl
-idle-or-written n o (Waiting suspension) next = inr refl
-
-pub object-written : (n o : ℕ) (state : ThreadState) (next : ℕ) → T (unfinished state) → write-thread n o state next .object ≡ o
-object-written n o state next busy = at (idle-or-written n o state next)
+pub object-written : (n o : ℕ) (state : ThreadState) → T (unfinished state) → write-activity n o state .object ≡ o
+object-written n o state busy = at (idle-or-written n o state)
   where
-    at : (state ≡ Idle) ⊎ (write-thread n o state next .object ≡ o) → write-thread n o state next .object ≡ o
+    at : (state ≡ Idle) ⊎ (write-activity n o state .object ≡ o) → write-activity n o state .object ≡ o
     at (inl idle) = absurd (rw idle at busy)
     at (inr same) = same
 
 -- and the phase, by its number
-pub phase-written : (n o : ℕ) (state : ThreadState) (next : ℕ) → phase-number (write-thread n o state next .phase) ≡ phase-of state
-unfolding write-thread phase-number
-phase-written n o Idle next = refl
-phase-written n o (Running doing) next = written-doing n o doing next .phase
-phase-written n o (Queued carried) next = written-carried n o carried next .phase
-phase-written n o Contending next = refl
-phase-written n o (Waiting suspension) next = refl
+pub phase-written : (n o : ℕ) (state : ThreadState) → phase-number (write-activity n o state .phase) ≡ phase-of state
+unfolding write-activity phase-number
+phase-written n o Idle = refl
+phase-written n o (Running doing) = written-doing n o doing no-thread .phase
+phase-written n o (Queued carried) = written-carried n o carried no-thread .phase
+phase-written n o Contending = refl
+phase-written n o (Waiting suspension) = refl
 
 -- a thread that is handed the monitor, having left the entry chain, takes the phase that it carries
-pub handed-written : (n o : ℕ) (state : ThreadState) (next : ℕ) → handed-of (write-thread n o state next) ≡ write-thread n o (handed state) 0
-unfolding write-thread carried-of
-handed-written n o Idle next = refl
-handed-written n o (Running doing) next = written-doing n o doing next .handed-on
-handed-written n o (Queued carried) next = written-carried n o carried next .handed-on
-handed-written n o Contending next = refl
-handed-written n o (Waiting suspension) next = refl
+pub handed-written : (n o : ℕ) (state : ThreadState) (own : ThreadRecord) → handed-of (write-thread n o state own) ≡ write-thread n o (handed state) (with-next own 0)
+unfolding write-activity carried-of
+handed-written n o Idle own = refl
+handed-written n o (Running doing) own = written-doing n o doing own .handed-on
+handed-written n o (Queued carried) own = written-carried n o carried own .handed-on
+handed-written n o Contending own = refl
+handed-written n o (Waiting suspension) own = refl
 
 -- a thread that moves to the entry chain
-pub moved-written : (n o : ℕ) (state : ThreadState) (next : ℕ) → moved-record (write-thread n o state next) ≡ write-thread n o (moved state) next
-unfolding write-thread carried-record moved-phase
-moved-written n o Idle next = refl
-moved-written n o (Running doing) next = written-doing n o doing next .unmoved
-moved-written n o (Queued carried) next = written-carried n o carried next .unmoved
-moved-written n o Contending next = refl
-moved-written n o (Waiting suspension) next = refl
+pub moved-written : (n o : ℕ) (state : ThreadState) (own : ThreadRecord) → moved-record (write-thread n o state own) ≡ write-thread n o (moved state) own
+unfolding write-activity carried-activity moved-phase
+moved-written n o Idle own = refl
+moved-written n o (Running doing) own = written-doing n o doing own .unmoved
+moved-written n o (Queued carried) own = written-carried n o carried own .unmoved
+moved-written n o Contending own = refl
+moved-written n o (Waiting suspension) own = refl
 
-back-written : (n o : ℕ) (state : ThreadState) (next : ℕ)
-    → back-from (write-thread n o state next) (write-thread n o state next .phase) ≡ write-thread n o (sent-back state) next
-unfolding write-thread back-from
-back-written n o Idle next = refl
-back-written n o (Running doing) next = written-doing n o doing next .back
-back-written n o (Queued carried) next = written-carried n o carried next .back
-back-written n o Contending next = refl
-back-written n o (Waiting suspension) next = refl
+back-written : (n o : ℕ) (state : ThreadState) (own : ThreadRecord)
+    → back-from (write-thread n o state own) (write-activity n o state .phase) ≡ write-thread n o (sent-back state) own
+unfolding write-activity back-from
+back-written n o Idle own = refl
+back-written n o (Running doing) own = written-doing n o doing own .back
+back-written n o (Queued carried) own = written-carried n o carried own .back
+back-written n o Contending own = refl
+back-written n o (Waiting suspension) own = refl
 
 -- a thread at `home` is sent back by a cancel at object o if it is there
-pub sent-back-written : (o n home : ℕ) (state : ThreadState) (next : ℕ)
-    → sent-back-of o (write-thread n home state next) ≡ write-thread n home (pick (eqb home o) (sent-back state) state) next
+pub sent-back-written : (o n home : ℕ) (state : ThreadState) (own : ThreadRecord)
+    → sent-back-of o (write-thread n home state own) ≡ write-thread n home (pick (eqb home o) (sent-back state) state) own
 unfolding sent-back-of
-sent-back-written o n home state next =
-    ap (λ (back : ThreadRecord). pick (eqb (write-thread n home state next .object) o) back (write-thread n home state next)) (back-written n home state next)
-    ∙ at (idle-or-written n home state next)
+sent-back-written o n home state own =
+    ap (λ (back : ThreadRecord). pick (eqb (write-activity n home state .object) o) back (write-thread n home state own)) (back-written n home state own)
+    ∙ at (idle-or-written n home state)
   where
-    here : (there : Bool) → pick there (write-thread n home (sent-back state) next) (write-thread n home state next)
-        ≡ write-thread n home (pick there (sent-back state) state) next
+    here : (there : Bool) → pick there (write-thread n home (sent-back state) own) (write-thread n home state own)
+        ≡ write-thread n home (pick there (sent-back state) state) own
     here true = refl
     here false = refl
 
-    at : (state ≡ Idle) ⊎ (write-thread n home state next .object ≡ home)
-        → pick (eqb (write-thread n home state next .object) o) (write-thread n home (sent-back state) next) (write-thread n home state next)
-        ≡ write-thread n home (pick (eqb home o) (sent-back state) state) next
+    at : (state ≡ Idle) ⊎ (write-activity n home state .object ≡ home)
+        → pick (eqb (write-activity n home state .object) o) (write-thread n home (sent-back state) own) (write-thread n home state own)
+        ≡ write-thread n home (pick (eqb home o) (sent-back state) state) own
     at (inl idle) =
         rw idle
-        (pick-same (eqb (write-thread n home Idle next .object) o) (write-thread n home Idle next)
-        ∙ ap (λ (s : ThreadState). write-thread n home s next) (sym (pick-same (eqb home o) Idle)))
+        (pick-same (eqb (write-activity n home Idle .object) o) (write-thread n home Idle own)
+        ∙ ap (λ (s : ThreadState). write-thread n home s own) (sym (pick-same (eqb home o) Idle)))
     at (inr same) =
-        ap (λ (b : ℕ). pick (eqb b o) (write-thread n home (sent-back state) next) (write-thread n home state next)) same ∙ here (eqb home o)
+        ap (λ (b : ℕ). pick (eqb b o) (write-thread n home (sent-back state) own) (write-thread n home state own)) same ∙ here (eqb home o)

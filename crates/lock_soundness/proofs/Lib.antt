@@ -5,4 +5,3 @@ pub mod Marks
 pub mod Turns
 pub mod OnePass
 pub mod Exactly
-pub mod FreshSound

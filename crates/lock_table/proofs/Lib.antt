@@ -2,7 +2,7 @@
 pub mod Records
 pub mod Places
 pub mod Walks
-pub mod FreshObjects
+pub mod FreshTables
 pub mod Owned
 pub mod Operations
 pub mod Narrowed

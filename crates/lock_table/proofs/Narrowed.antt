@@ -7,7 +7,7 @@ use lib.Dec.{ltb}
 use borrow.Author.Tests.{ltb-true, lt-ltb, ne-eqb}
 use Rattle.laws.proofs.Choice.{split}
 use Rattle.lock_table.specs.Limits.{thread-limit, object-limit}
-use Rattle.lock_table.specs.Fresh.{fresh-of}
+use Rattle.lock_table.specs.Fresh.{sized-request, fresh-of}
 use Rattle.lock_table.specs.Narrow.{narrow-of}
 use Rattle.lock_table.specs.Access.{thread-at, object-at}
 use Rattle.lock_table.specs.declared.record.Table.{Table}
@@ -28,18 +28,19 @@ narrowed f same n =
     split (ltb 255 n) (λ large. rw (narrow-large n large) (same n (ltb-true 255 n large))) (λ small. rw (narrow-small n small) refl)
 
 -- a fresh table
-threads-past : (objects : ℕ) (reserved : Bool) (n : ℕ) → 255 < n → fresh-of 255 objects reserved ≡ fresh-of n objects reserved
+threads-past : (objects : ℕ) (reserved : Bool) (n : ℕ) → 255 < n → fresh-of (sized-request 255 objects reserved) ≡ fresh-of (sized-request n objects reserved)
 unfolding fresh-of
 threads-past objects reserved n past = rw (ne-eqb n 0 (λ e. omega (arith, e, past)), lt-ltb thread-limit n (omega (arith, past))) refl
 
-objects-past : (threads : ℕ) (reserved : Bool) (n : ℕ) → 255 < n → fresh-of threads 255 reserved ≡ fresh-of threads n reserved
+objects-past : (threads : ℕ) (reserved : Bool) (n : ℕ) → 255 < n → fresh-of (sized-request threads 255 reserved) ≡ fresh-of (sized-request threads n reserved)
 unfolding fresh-of
 objects-past threads reserved n past = rw (ne-eqb n 0 (λ e. omega (arith, e, past)), lt-ltb object-limit n (omega (arith, past))) refl
 
-pub narrow-fresh : (threads objects : ℕ) (reserved : Bool) → fresh-of (narrow-of threads) (narrow-of objects) reserved ≡ fresh-of threads objects reserved
+pub narrow-fresh : (threads objects : ℕ) (reserved : Bool)
+    → fresh-of (sized-request (narrow-of threads) (narrow-of objects) reserved) ≡ fresh-of (sized-request threads objects reserved)
 narrow-fresh threads objects reserved =
-    narrowed (λ n. fresh-of n (narrow-of objects) reserved) (threads-past (narrow-of objects) reserved) threads
-    ∙ narrowed (λ n. fresh-of threads n reserved) (objects-past threads reserved) objects
+    narrowed (λ n. fresh-of (sized-request n (narrow-of objects) reserved)) (threads-past (narrow-of objects) reserved) threads
+    ∙ narrowed (λ n. fresh-of (sized-request threads n reserved)) (objects-past threads reserved) objects
 
 -- access: past the records there is nobody and nothing
 module _ (table : Table) where

@@ -3,11 +3,22 @@ use crate::record::OBJECTS;
 use crate::record::ObjectRecord;
 use crate::record::THREADS;
 use crate::record::Table;
+use crate::record::ThreadRecord;
 use crate::record::no_object;
 use crate::record::no_thread;
 ghost use mathlib.Core.Path.{_≡_};
 ghost use Prim.Native.Nat.{_≤_};
-ghost use Rattle.lock_table.specs.Fresh.{fresh-of, fresh-returned, refused-of, made-of, first-word, fresh-objects};
+ghost use Rattle.laws.specs.Sequence.{tabulate};
+ghost use Rattle.lock_table.specs.Limits.{thread-limit, object-limit};
+ghost use Rattle.lock_table.specs.Fresh.{sized-request, first-word, fresh-thread, fresh-object, table-of, refused-of, fresh-of, fresh-returned};
+
+// What a fresh table is asked to be.
+pub struct FreshRequest {
+    pub threads: u16,
+    pub objects: u16,
+    // every word anonymously reserved, else free
+    pub reserved: bool,
+}
 
 pub enum FreshAnswer {
     Made,
@@ -21,6 +32,17 @@ pub struct FreshTable {
     pub table: Table,
 }
 
+// A request of sizes and of the kind of words.
+pub fn sized_request(threads: u16, objects: u16, reserved: bool) -> FreshRequest
+    ensures { λ r. ⌜ r ≡ sized-request threads objects reserved ⌝ }
+{
+    FreshRequest {
+        threads: threads,
+        objects: objects,
+        reserved: reserved,
+    }
+}
+
 fn first_word(reserved: bool) -> u32
     ensures { λ r. ⌜ r ≡ first-word reserved ⌝ }
 {
@@ -30,70 +52,89 @@ fn first_word(reserved: bool) -> u32
     lock_word::free_word()
 }
 
-// `count` objects with this word; the records past them are empty.
-fn fresh_objects(count: u8, word: u32) -> [ObjectRecord; 64]
-    requires { ⌜ count ≤ 64 ⌝ }
-    ensures { λ r. ⌜ r ≡ fresh-objects count word ⌝ }
+// The record of the thread at a place, which counts from 0. What a request gives a thread goes in here; today that is nothing.
+fn fresh_thread(request: FreshRequest, place: usize) -> ThreadRecord
+    ensures { λ r. ⌜ r ≡ fresh-thread request place ⌝ }
+{
+    no_thread()
+}
+
+// The record of the object at a place: an object in use, or the empty record past them.
+fn fresh_object(request: FreshRequest, place: usize) -> ObjectRecord
+    ensures { λ r. ⌜ r ≡ fresh-object request place ⌝ }
 {
     let empty = no_object();
-    let object = empty.with_word(word);
-    let mut objects = [empty; 64];
+    if place < (request.objects as usize) {
+        return empty.with_word(first_word(request.reserved));
+    }
+    empty
+}
+
+fn fresh_threads(request: FreshRequest) -> [ThreadRecord; 32]
+    ensures { λ r. ⌜ r ≡ tabulate thread-limit (fresh-thread request) ⌝ }
+{
+    let mut threads = [no_thread(); 32];
     let mut place: usize = 0;
-    while place < (count as usize) {
-        objects[place] = object;
-        place += 1;
+    while place < 32 {
+        threads[place] = fresh_thread(request, place);
+        place = place + 1;
+    }
+    threads
+}
+
+fn fresh_objects(request: FreshRequest) -> [ObjectRecord; 64]
+    ensures { λ r. ⌜ r ≡ tabulate object-limit (fresh-object request) ⌝ }
+{
+    let mut objects = [no_object(); 64];
+    let mut place: usize = 0;
+    while place < 64 {
+        objects[place] = fresh_object(request, place);
+        place = place + 1;
     }
     objects
+}
+
+fn table_of(request: FreshRequest) -> Table
+    requires { ⌜ (request .threads ≤ thread-limit) × (request .objects ≤ object-limit) ⌝ }
+    ensures { λ r. ⌜ r ≡ table-of request ⌝ }
+{
+    Table {
+        threadcount: request.threads as u8,
+        objectcount: request.objects as u8,
+        threads: fresh_threads(request),
+        objects: fresh_objects(request),
+    }
 }
 
 fn refused() -> FreshTable
     ensures { λ r. ⌜ r ≡ refused-of ⌝ }
 {
-    let table = Table {
-        threadcount: 0,
-        objectcount: 0,
-        threads: [no_thread(); 32],
-        objects: [no_object(); 64],
-    };
     FreshTable {
         answer: FreshAnswer::SizeOutOfRange,
-        table: table,
+        table: table_of(sized_request(0, 0, false)),
     }
 }
 
-fn made(threads: u8, objects: u8, word: u32) -> FreshTable
-    requires { ⌜ objects ≤ 64 ⌝ }
-    ensures { λ r. ⌜ r ≡ made-of threads objects word ⌝ }
+// A fresh table as asked, or 22.
+pub fn fresh(request: FreshRequest) -> FreshTable
+    ensures { λ r. ⌜ r ≡ fresh-of request ⌝ }
 {
-    let table = Table {
-        threadcount: threads,
-        objectcount: objects,
-        threads: [no_thread(); 32],
-        objects: fresh_objects(objects, word),
-    };
+    if request.threads == 0 {
+        return refused();
+    }
+    if (THREADS as u16) < request.threads {
+        return refused();
+    }
+    if request.objects == 0 {
+        return refused();
+    }
+    if (OBJECTS as u16) < request.objects {
+        return refused();
+    }
     FreshTable {
         answer: FreshAnswer::Made,
-        table: table,
+        table: table_of(request),
     }
-}
-
-// A fresh table with this many threads and objects, or 22.
-pub fn fresh(threads: u16, objects: u16, reserved: bool) -> FreshTable
-    ensures { λ r. ⌜ r ≡ fresh-of threads objects reserved ⌝ }
-{
-    if threads == 0 {
-        return refused();
-    }
-    if (THREADS as u16) < threads {
-        return refused();
-    }
-    if objects == 0 {
-        return refused();
-    }
-    if (OBJECTS as u16) < objects {
-        return refused();
-    }
-    made(threads as u8, objects as u8, first_word(reserved))
 }
 
 // The number returned.

@@ -1,9 +1,10 @@
-// The records of a table, and each record with one field changed. Fields lie widest first, as the compiler keeps their order.
+// The records of a table, and each record with some of its fields changed. Fields lie widest first, as the compiler keeps their order.
 use crate::operation::Operation;
 use crate::phase::Phase;
 use lock_word::Depth;
 ghost use mathlib.Core.Path.{_≡_};
-ghost use Rattle.lock_table.specs.Record.{no-thread, no-monitor, no-object, with-phase, with-next, with-word, with-flag, with-monitor};
+ghost use Rattle.lock_table.specs.Record.{no-thread, no-monitor, no-object, no-activity, with-activity, idle, with-phase, with-next};
+ghost use Rattle.lock_table.specs.Record.{with-word, with-flag, with-monitor};
 
 // The most threads and objects that a table can have.
 pub const THREADS: u8 = 32;
@@ -17,6 +18,15 @@ pub struct ThreadRecord {
     pub saved: Depth,
     pub object: u8,
     pub next: u8,
+    pub operation: Operation,
+    pub phase: Phase,
+}
+
+// What an operation writes of a thread: what the thread is doing, and what its phase keeps. All else in the record stays from event to event.
+pub struct Activity {
+    pub kept: u32,
+    pub saved: Depth,
+    pub object: u8,
     pub operation: Operation,
     pub phase: Phase,
 }
@@ -58,6 +68,19 @@ pub fn no_thread() -> ThreadRecord
     }
 }
 
+// Of an idle thread.
+pub fn no_activity() -> Activity
+    ensures { λ r. ⌜ r ≡ no-activity ⌝ }
+{
+    Activity {
+        kept: 0,
+        saved: 0,
+        object: 0,
+        operation: Operation::Idle,
+        phase: Phase::Idle,
+    }
+}
+
 pub fn no_monitor() -> Monitor
     ensures { λ r. ⌜ r ≡ no-monitor ⌝ }
 {
@@ -81,17 +104,35 @@ pub fn no_object() -> ObjectRecord
 }
 
 impl ThreadRecord {
+    // Whatever is no part of the activity is kept.
+    pub fn with_activity(self, activity: Activity) -> ThreadRecord
+        ensures { λ r. ⌜ r ≡ with-activity self activity ⌝ }
+    {
+        let operation = activity.operation;
+        let phase = activity.phase;
+        ThreadRecord {
+            kept: activity.kept,
+            saved: activity.saved,
+            object: activity.object,
+            operation: operation,
+            phase: phase,
+            ..self
+        }
+    }
+
+    // The thread with no operation: who ends one comes through here.
+    pub fn idle(self) -> ThreadRecord
+        ensures { λ r. ⌜ r ≡ idle self ⌝ }
+    {
+        self.with_activity(no_activity())
+    }
+
     pub fn with_phase(self, phase: Phase) -> ThreadRecord
         ensures { λ r. ⌜ r ≡ with-phase self phase ⌝ }
     {
-        let operation = self.operation;
         ThreadRecord {
-            kept: self.kept,
-            saved: self.saved,
-            object: self.object,
-            next: self.next,
-            operation: operation,
             phase: phase,
+            ..self
         }
     }
 

@@ -8,4 +8,7 @@ object-after-spec =
     (tie.spec
     (λ c κs. tt)
     (λ c κs. tt)
-    (λ c. simp (c .begun-monitor .ensures, c .before .word-after .ensures)))
+    (λ c κs. tt)
+    (λ c κs. tt)
+    (λ c κs. tt)
+    (λ c. simp (c .with-flag .ensures, c .before .with-monitor .ensures, c .before .before .with-word .ensures, c .before .before .before .word-after .ensures, c .before .before .before .before .begun-monitor .ensures)))

@@ -1,54 +1,43 @@
--- `lock_table::fresh_table::fresh_objects` meets its contract: the places passed are filled, the rest are empty.
-use Prim.Native.Nat.{ℕ, _≤_, _-_}
-use mathlib.Core.List.{List}
+-- `lock_table::fresh_table::fresh_objects` meets its contract: the places passed are filled, and in the end there are no others.
+use Prim.Native.Nat.{ℕ, _-_, _≤_}
 use mathlib.Core.Path.{_≡_, ap, _∙_}
-use borrow.Author.Needs.{needs}
+use mathlib.Core.List.{List}
 use native.Mathlib.Omega.{arith}
-use lib.ListN.{set, replicate}
-use Rattle.lock_table.specs.Record.{no-object, with-word}
+use borrow.Author.Needs.{needs}
+use lib.ListN.{replicate, length-replicate}
+use Rattle.laws.specs.Sequence.{patched}
+use Rattle.laws.proofs.Sequence.{patched-none, patched-next-front, patched-all}
+use Rattle.lock_table.specs.Fresh.{fresh-object}
+use Rattle.lock_table.specs.Record.{no-object}
 use Rattle.lock_table.specs.declared.record.ObjectRecord.{ObjectRecord}
-use Rattle.lock_table.proofs.FreshObjects.{filled, filled-more}
 use Rattle.lock_table.proofs.fresh_table.fresh_objects.Statement.{statement}
 use Rattle.lock_table.proofs.fresh_table.fresh_objects.Tie as tie
 
+abbrev empty : List ObjectRecord
+empty = replicate 64 no-object
+
 abbrev Inv-loop : tie.InvT-loop
-Inv-loop count word object objects₀ place₀ objects place = (place ≤ count) × (objects ≡ filled 64 object no-object place)
+Inv-loop request objects₀ place₀ objects place = (place ≤ 64) × (objects ≡ patched 0 place (fresh-object request) empty)
 
 abbrev μ-loop : tie.MeasureT-loop
-μ-loop count word object objects₀ place₀ objects place = count - place
-
-loop-holds : tie.Need-loop-holds Inv-loop μ-loop
-loop-holds c = (omega arith, ap (λ (empty : ObjectRecord). replicate 64 empty) (c .before .no-object .ensures))
+μ-loop request objects₀ place₀ objects place = 64 - place
 
 loop-again : tie.Need-loop-again Inv-loop μ-loop
 loop-again c =
-    let place = c .before .loop .place in
-    let object = c .before .before .with-word .result in
-    (omega arith, ap (λ (list : List ObjectRecord). set list place object) (c .before .loop .inv .1) ∙ filled-more 64 object no-object place (search needs))
+    let loop = c .before .before in
+    (omega arith, rw (c .fresh-object .ensures, loop .loop .inv .1) (patched-next-front (fresh-object (loop .before .before .args .request)) empty (loop .loop .place)))
 
 returns : tie.Need-returns Inv-loop μ-loop
 returns c =
-    let made = c .before .before in
-    let count = made .before .before .args .count in
-    let all : c .before .loop .place ≡ count = omega arith in
-    let word = made .before .before .args .word in
-    c .before .loop .inv .1
-    ∙ (ap (λ (n : ℕ). filled 64 (made .with-word .result) no-object n) all
-    ∙ ap (λ (object : ObjectRecord). filled 64 object no-object count)
-    (made .with-word .ensures ∙ ap (λ (empty : ObjectRecord). with-word empty word) (made .before .no-object .ensures)))
+    let loop = c .before in
+    let request = loop .before .before .args .request in
+    let all : loop .loop .place ≡ 64 = omega (arith, loop .loop .inv .0, c .loop-test .left) in
+    loop .loop .inv .1 ∙ ap (λ (n : ℕ). patched 0 n (fresh-object request) empty) all
+    ∙ patched-all 64 (fresh-object request) no-object empty (length-replicate 64 no-object)
 
 pub fresh-objects-spec : {M : Type 1} → statement M
 fresh-objects-spec =
     tie.close
-    (tie.spec
-    Inv-loop
-    μ-loop
-    (λ c κs. tt)
-    (λ c κs. tt)
-    loop-holds
-    (λ c. search needs)
-    (λ c. search needs)
-    (λ c. search needs)
-    (λ c. omega arith)
-    loop-again
-    returns)
+    (tie.spec Inv-loop μ-loop (λ c κs. tt)
+    (λ c. (omega arith, rw (c .no-object .ensures) (patched-none 0 (fresh-object (c .before .args .request)) empty)))
+    (λ c κs. search needs) (λ c. search needs) (λ c. search needs) (λ c. search needs) (λ c. search needs) loop-again returns)

@@ -1,4 +1,5 @@
 -- `lock_table::fresh_table::refused` meets its contract: each way through the code is that of the definition.
+use native.Mathlib.Omega.{arith}
 use Rattle.lock_table.proofs.fresh_table.refused.Statement.{statement}
 use Rattle.lock_table.proofs.fresh_table.refused.Tie as tie
 
@@ -7,5 +8,5 @@ refused-spec =
     tie.close
     (tie.spec
     (λ c κs. tt)
-    (λ c κs. tt)
-    (λ c. simp (c .no-object .ensures, c .before .no-thread .ensures)))
+    (λ c κs. rw (c .sized-request .ensures) (omega arith, omega arith))
+    (λ c. simp (c .table-of .ensures, c .before .sized-request .ensures)))
