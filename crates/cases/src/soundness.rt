@@ -18,7 +18,7 @@ fn report(name: &[u8], table: Table) {
 }
 
 fn fresh() -> Table {
-    lock_table::fresh(3, 2, false).table
+    lock_table::fresh(lock_table::sized_request(3, 2, false)).table
 }
 
 // The table with this record for one of its threads.
@@ -139,8 +139,8 @@ fn sizes(name: &[u8], threads: u8, objects: u8) {
 fn sound_tables() {
     let enter = Operation::Enter;
     let wait = Operation::Wait;
-    let reserved = lock_table::fresh(3, 2, true).table;
-    let full = lock_table::fresh(32, 64, true).table;
+    let reserved = lock_table::fresh(lock_table::sized_request(3, 2, true)).table;
+    let full = lock_table::fresh(lock_table::sized_request(32, 64, true)).table;
     let depth: u16 = 65535;
     report(b"fresh, free words", fresh());
     report(b"fresh, reserved words", reserved);

@@ -31,7 +31,7 @@ use Rattle.lock_table.specs.Operation.{operation-from}
 use Rattle.lock_table.proofs.Records.{thread-in, object-in, set-thread-in, set-thread-out, set-object-in, set-object-out, object-unchanged}
 use Rattle.lock_perform.specs.Perform.{stays, work-done}
 use Rattle.lock_perform.proofs.Lengths.{length-none}
-use Rattle.lock_engine.specs.Turn.{refused, begun, gate-turn, open-turn, step-turn, take-turn}
+use Rattle.lock_engine.specs.Turn.{begun, gate-turn, open-turn, step-turn, take-turn}
 use Rattle.lock_gate.specs.Status.{thread-status}
 use Rattle.lock_table.specs.Place.{thread-place, object-place}
 use Rattle.lock_table.proofs.Places.{Has, Lacks, has?, place-has}
@@ -77,7 +77,7 @@ abbrev pub kept-turn : Parts → ObjectRecord → Turn
 kept-turn parts object = record { own = parts .own; object = object; work = Stay; reply = parts .reply; commits = false }
 
 abbrev pub parts-of : Gate → Event → ThreadRecord → Parts
-parts-of Open (Begin operation thread number) own = record { own = begun (operation-from operation) number; reply = Begun }
+parts-of Open (Begin operation thread number) own = record { own = begun own (operation-from operation) number; reply = Begun }
 parts-of Open (Step thread) own = record { own = own; reply = Refused NotSound }
 parts-of (Shut refusal) event own = record { own = own; reply = Refused refusal }
 

@@ -7,9 +7,9 @@ use Rattle.lock_word.specs.Cases.{Case, AllHold, case-numbers, word-cases}
 use Rattle.lock_rules.specs.declared.Doing.the-variants.{EnterLook, EnterGoIn, ExitLook}
 use Rattle.lock_rules.specs.declared.Doing.{Doing}
 use Rattle.lock_rules.specs.declared.ThreadState.the-variants.{Running}
-use Rattle.lock_table.specs.Record.{no-monitor}
+use Rattle.lock_table.specs.Record.{no-monitor, with-word, with-monitor}
 use Rattle.lock_table.specs.Access.{thread-at, set-thread, object-at, set-object}
-use Rattle.lock_table.specs.Fresh.{fresh-of, fresh-returned}
+use Rattle.lock_table.specs.Fresh.{sized-request, fresh-of, fresh-returned}
 use Rattle.lock_table.specs.Phase.{phase-number}
 use Rattle.lock_table.specs.declared.record.Monitor.{Monitor}
 use Rattle.lock_table.specs.declared.record.Table.{Table}
@@ -20,7 +20,8 @@ use Rattle.lock_engine.specs.Handle.{step}
 -- three threads and one object with this word and monitor; thread 3 is at it, doing this
 abbrev pub case-table : ℕ → Monitor → Doing → Table
 case-table word monitor doing =
-    set-object (set-thread (fresh-of 3 1 false .table) 3 (write-thread 3 1 (Running doing) 0)) 1 (record { word = word; monitor = monitor; flag = false })
+    let fresh = fresh-of (sized-request 3 1 false) .table in
+    set-object (set-thread fresh 3 (write-thread 3 1 (Running doing) (thread-at fresh 3))) 1 (with-monitor (with-word (object-at fresh 1) word) monitor)
 
 -- the step of thread 3 returns this number and leaves the thread in this phase and the object with this word and depth
 abbrev pub Steps : Table → ℕ → ℕ → ℕ → ℕ → Type 0
@@ -39,8 +40,8 @@ abbrev pub engine-cases : List Case
 engine-cases =
     record { number = 5; states = Steps (case-table 0x0003fc no-monitor EnterLook) 0 4 0x0003fc 0 }
     ∷ record { number = 5; states = Steps (case-table 0x0003f8 no-monitor EnterLook) 1 0 0x0003fc 0 }
-    ∷ record { number = 7; states = fresh-returned (fresh-of 32 1 false .answer) ≡ 0 }
-    ∷ record { number = 7; states = fresh-returned (fresh-of 33 1 false .answer) ≡ 22 }
+    ∷ record { number = 7; states = fresh-returned (fresh-of (sized-request 32 1 false) .answer) ≡ 0 }
+    ∷ record { number = 7; states = fresh-returned (fresh-of (sized-request 33 1 false) .answer) ≡ 22 }
     ∷ record { number = 8; states = Steps (case-table 0x000002 no-monitor ExitLook) 18 0 0x000002 0 }
     ∷ record { number = 9; states = Steps (case-table 0x000101 (held 65534) EnterGoIn) 1 0 0x000101 65535 }
     ∷ record { number = 9; states = Steps (case-table 0x000101 (held 65535) EnterGoIn) 19 0 0x000101 65535 }

@@ -18,7 +18,7 @@ use Rattle.lock_rules.specs.declared.event.Gate.the-variants.{Open, Shut}
 use Rattle.lock_rules.specs.declared.Answer.the-variants.{GoneOn, Finished, Parked, NotOwner, TooDeep, NoRule}
 use Rattle.lock_table.specs.Limits.{thread-limit, object-limit}
 use Rattle.lock_word.specs.Depth.{depth-limit}
-use Rattle.lock_table.specs.Record.{no-thread, no-object}
+use Rattle.lock_table.specs.Record.{no-object, idle}
 use Rattle.lock_table.specs.Access.{thread-at, object-at, set-thread}
 use Rattle.lock_table.specs.Narrow.{narrow-of}
 use Rattle.lock_table.specs.Whole.{Whole}
@@ -34,15 +34,7 @@ use Rattle.lock_engine.proofs.Full.{full-thread}
 use Rattle.lock_engine.proofs.Narrow.{narrow-begin, narrow-step}
 use Rattle.lock_perform.specs.Perform.{stays, work-done}
 use Rattle.lock_rules.specs.declared.event.Refusal.{Refusal}
-use Rattle.lock_rules.specs.declared.event.Refusal.the-variants.{
-  NotSound,
-  NoSuchThread,
-  NoSuchObject,
-  NotIdle,
-  ThreadIdle,
-  ThreadParked,
-  NoSuchOperation,
-}
+use Rattle.lock_rules.specs.declared.event.Refusal.the-variants.{NotSound, NoSuchThread, NoSuchObject, NotIdle, ThreadIdle, ThreadParked, NoSuchOperation}
 use Rattle.lock_engine.specs.declared.outcome.Reply.{Reply}
 use Rattle.lock_engine.specs.declared.outcome.Reply.the-variants.{Begun, Refused, Answered}
 use Rattle.lock_engine.specs.declared.outcome.Outcome.{Outcome}
@@ -175,7 +167,7 @@ module _ (bytes : List ℕ) (small : AreBytes bytes) where
       kinds : is-table bytes ≡ true → (number : ℕ) → bytes-of (left-by number table (event-thread event)) ≡ left-bytes number bytes (event-thread event)
       kinds known number =
           split (either (eqb number 18) (eqb number 19))
-          (λ idle. rw idle (sym (thread-written bytes table (sym (bytes-back bytes small known)) (event-thread event) (read-full bytes .threads) no-thread)))
+          (λ ends. rw ends (sym (thread-written bytes table (sym (bytes-back bytes small known)) (event-thread event) (read-full bytes .threads) (idle (thread-at table (event-thread event))))))
           (λ other. rw other (bytes-back bytes small known))
 
   -- a begin is refused with neither 18 nor 19

@@ -13,7 +13,7 @@ use Rattle.lock_rules.specs.declared.event.Refusal.the-variants.{NotSound}
 use Rattle.lock_rules.specs.declared.Answer.{Answer}
 use Rattle.lock_rules.specs.declared.Answer.the-variants.{GoneOn, Finished, Parked, NotOwner, TooDeep, NoRule}
 use Rattle.lock_table.specs.Access.{thread-at, object-at}
-use Rattle.lock_table.specs.Fresh.{fresh-of, fresh-returned}
+use Rattle.lock_table.specs.Fresh.{sized-request, fresh-of, fresh-returned}
 use Rattle.lock_table.specs.declared.fresh_table.FreshAnswer.{FreshAnswer}
 use Rattle.lock_table.specs.declared.fresh_table.FreshAnswer.the-variants.{Made, SizeOutOfRange}
 use Rattle.lock_table.specs.declared.fresh_table.FreshTable.{FreshTable}
@@ -112,7 +112,7 @@ stepped-on bytes thread = step (table-of bytes) thread
 
 -- a fresh table: 11 where the bytes are not as many as a table has, then 22; both leave the bytes
 abbrev pub fresh-on : ℕ → ℕ → ℕ → FreshTable
-fresh-on threads objects reserved = fresh-of threads objects (not (eqb reserved 0))
+fresh-on threads objects reserved = fresh-of (sized-request threads objects (not (eqb reserved 0)))
 
 abbrev pub has-size : List ℕ → Bool
 has-size bytes = eqb (length bytes) table-size

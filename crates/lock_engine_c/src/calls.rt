@@ -24,6 +24,7 @@ use lock_table::fresh;
 use lock_table::fresh_returned;
 use lock_table::narrow;
 use lock_table::object_at;
+use lock_table::sized_request;
 use lock_table::thread_at;
 use table_bytes::TABLE_SIZE;
 use table_bytes::is_table;
@@ -192,11 +193,11 @@ pub extern "C" fn duskclamp_fresh(
     ensures { λ _. ⌜ now (bytes .exit) ≡ fresh-bytes (has-size (now (bytes .entry))) (now (bytes .entry)) (fresh-on threads objects reserved) ⌝ }
 {
     let fits = bytes.len() == TABLE_SIZE;
-    let made = fresh(
+    let made = fresh(sized_request(
         narrow(threads) as u16,
         narrow(objects) as u16,
         reserved != 0,
-    );
+    ));
     fresh_if_sized(bytes, made, fits)
 }
 

@@ -1,6 +1,5 @@
 -- How deep the monitors are. Document 01 gives the depth as 0 to 65,535, but not among the clauses of "Sound means": the code's 16 bits see to it.
 use Prim.Native.Nat.{_≤_}
-use native.Mathlib.Omega.{arith}
 use Rattle.lock_word.specs.Depth.{depth-limit}
 use Rattle.lock_table.specs.Access.{object-at}
 use Rattle.lock_table.specs.declared.record.Table.{Table}

@@ -10,9 +10,8 @@ use Rattle.laws.proofs.Choice.{equal?, Below, below, AtMost, at-most}
 use Rattle.laws.proofs.Count.{count-none}
 use Rattle.chains.proofs.Chain.{Chain as Linked, members-none, chain-once}
 use Rattle.lock_rules.specs.Numbers.{phase-of}
-use Rattle.lock_rules.specs.declared.Doing.{Doing}
 use Rattle.lock_rules.specs.declared.ThreadState.{ThreadState}
-use Rattle.lock_rules.specs.declared.ThreadState.the-variants.{Idle, Running}
+use Rattle.lock_rules.specs.declared.ThreadState.the-variants.{Idle}
 use Rattle.lock_rules.proofs.Tables.{ListThread, seen-from, seen-here}
 use Rattle.chains.specs.declared.named.Chain.{Chain}
 use Rattle.lock_rules.proofs.ListChains.{times-in, seen-or-at}
@@ -30,15 +29,7 @@ use Rattle.sound_records.proofs.Reading.{Within}
 use Rattle.lock_soundness.proofs.Reading.{threads-in-chain, Sound}
 use Rattle.lock_soundness.proofs.Chained.{leads-chain}
 use Rattle.lock_soundness.proofs.Reading.{sound-reads}
-use Rattle.lock_records.proofs.Naming.{
-  chain-number,
-  chain-number-low,
-  chain-number-high,
-  running-names-none,
-  idle-never,
-  named-once,
-  unnamed-never,
-}
+use Rattle.lock_records.proofs.Naming.{chain-number, chain-number-low, chain-number-high, idle-never, named-once, unnamed-never}
 use Rattle.lock_records.proofs.ReadBack.{IsWritten, fits-written, none-written, state-back, phase-back}
 
 -- a thread's record read as a thread of a table with lists
@@ -166,9 +157,3 @@ module _ (t : Table) (sound : sound-of t ≡ true) (n : ℕ) where
 
   pub idle-phase : read-thread (thread-at t n) ≡ Idle → phase-number-at t n ≡ 0
   idle-phase idle = phase-of-state ∙ ap phase-of idle
-
-  -- a thread that can take a step is in no chain, so its next index is 0
-  pub running-next : (doing : Doing) → read-thread (thread-at t n) ≡ Running doing → next-of t n ≡ 0
-  running-next doing running =
-      no-next-at t (sound-reads t sound) n
-      (named-at t (sound-reads t sound) n ∙ ap (λ (state : ThreadState). chain-named (phase-of state)) running ∙ running-names-none doing)

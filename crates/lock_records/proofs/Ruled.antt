@@ -8,15 +8,7 @@ use borrow.Author.Tests.{le-leb}
 use Rattle.lock_rules.specs.declared.event.Event.{Event}
 use Rattle.lock_rules.specs.declared.event.Event.the-variants.{Step}
 use Rattle.lock_rules.specs.declared.event.Refusal.{Refusal}
-use Rattle.lock_rules.specs.declared.event.Refusal.the-variants.{
-  NotSound,
-  NoSuchThread,
-  NoSuchObject,
-  NotIdle,
-  ThreadIdle,
-  ThreadParked,
-  NoSuchOperation,
-}
+use Rattle.lock_rules.specs.declared.event.Refusal.the-variants.{NotSound, NoSuchThread, NoSuchObject, NotIdle, ThreadIdle, ThreadParked, NoSuchOperation}
 use Rattle.lock_rules.specs.Events.{Refused, Answered}
 use Rattle.lock_rules.specs.Feed.{Plain, OperationLog, feed, blank, EndsRight}
 use Rattle.lock_rules.specs.Numbers.{first-refusal, refusal-number}
@@ -28,7 +20,6 @@ use Rattle.lock_rules.specs.declared.Answer.the-variants.{GoneOn, Finished, Par
 use Rattle.lock_rules.proofs.Turns.{TurnOf, shown-on, by-event}
 use Rattle.lock_rules.proofs.Tables.{ListTable, list-kind, turn, step-at, perform-at, shown, fresh}
 use Rattle.lock_rules.proofs.Lift.{World, world-turn, world-fresh}
-use Rattle.lock_table.specs.Limits.{thread-limit, object-limit}
 use Rattle.lock_table.specs.Fresh.{InRange, fresh-of}
 use Rattle.lock_table.specs.declared.fresh_table.FreshRequest.{FreshRequest}
 use Rattle.lock_records.specs.Agrees.{RuledReply, Ruled}

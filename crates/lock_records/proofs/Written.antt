@@ -28,13 +28,7 @@ use Rattle.lock_rules.specs.declared.Doing.the-variants.{WaitInflate, WaitGiveU
 use Rattle.lock_rules.specs.declared.ThreadState.{ThreadState}
 use Rattle.lock_rules.specs.declared.ThreadState.the-variants.{Idle, Running, Queued, Contending, Waiting}
 use Rattle.lock_word.specs.declared.meaning.WordSeen.{WordSeen}
-use Rattle.lock_word.specs.declared.meaning.WordSeen.the-variants.{
-  Free as SeenFree,
-  Flat as SeenFlat,
-  Anonymous as SeenAnonymous,
-  Reserved as SeenReserved,
-  Fat as SeenFat,
-}
+use Rattle.lock_word.specs.declared.meaning.WordSeen.the-variants.{Free as SeenFree, Flat as SeenFlat, Anonymous as SeenAnonymous, Reserved as SeenReserved, Fat as SeenFat}
 use Rattle.lock_rules.specs.declared.WordChange.{WordChange}
 use Rattle.lock_rules.specs.declared.WordChange.the-variants.{Unchanged, Freed, OwnFlat, OwnReserved, Cancelled, Inflated}
 use Rattle.lock_rules.proofs.ListSound.{WordFine, DoingFine, StateFine}

@@ -8,19 +8,11 @@ use Rattle.lock_rules.specs.declared.Answer.{Answer}
 use Rattle.lock_rules.specs.declared.Answer.the-variants.{GoneOn, Finished, Parked, NotOwner, TooDeep, NoRule}
 use Rattle.lock_rules.specs.Numbers.{refusal-number}
 use Rattle.lock_rules.specs.declared.event.Refusal.{Refusal}
-use Rattle.lock_rules.specs.declared.event.Refusal.the-variants.{
-  NotSound,
-  NoSuchThread,
-  NoSuchObject,
-  NotIdle,
-  ThreadIdle,
-  ThreadParked,
-  NoSuchOperation,
-}
+use Rattle.lock_rules.specs.declared.event.Refusal.the-variants.{NotSound, NoSuchThread, NoSuchObject, NotIdle, ThreadIdle, ThreadParked, NoSuchOperation}
 use Rattle.lock_rules.specs.declared.Effect.{Effect}
 use Rattle.lock_rules.specs.declared.Action.{Action}
 use Rattle.lock_rules.specs.declared.Action.the-variants.{Unruled, Do}
-use Rattle.lock_table.specs.Access.{thread-at, object-at, next-of}
+use Rattle.lock_table.specs.Access.{thread-at, object-at}
 use Rattle.lock_table.specs.declared.record.ThreadRecord.{ThreadRecord}
 use Rattle.lock_table.specs.declared.record.Table.{Table}
 use Rattle.lock_perform.specs.Sight.{sight-at}
@@ -73,7 +65,7 @@ refuse-same table NoSuchOperation = record { refused = refl; same = λ high. ref
 pub refuse-ended : (table : Table) (thread : ℕ) (refusal : Refusal) → Ended table thread (refusing table refusal) (refusal-number refusal)
 refuse-ended table thread refusal = same-ended thread (refuse-same table refusal)
 
-module _ (table : Table) (thread : ℕ) (out : next-of table thread ≡ 0) where
+module _ (table : Table) (thread : ℕ) where
   abbrev own : ThreadRecord
   own = thread-at table thread
 
@@ -90,12 +82,12 @@ module _ (table : Table) (thread : ℕ) (out : next-of table thread ≡ 0) where
   performed-ended word effect NotOwner number (is, same) =
       record {
         refused = sym is;
-        left = λ high. ap (perform-of table thread o (object-at table o)) same ∙ idle-again-performed table thread o word NotOwner out;
+        left = λ high. ap (perform-of table thread o (object-at table o)) same ∙ idle-again-performed table thread o word NotOwner;
       }
   performed-ended word effect TooDeep number (is, same) =
       record {
         refused = sym is;
-        left = λ high. ap (perform-of table thread o (object-at table o)) same ∙ idle-again-performed table thread o word TooDeep out;
+        left = λ high. ap (perform-of table thread o (object-at table o)) same ∙ idle-again-performed table thread o word TooDeep;
       }
   performed-ended word effect NoRule number never = absurd never
 

@@ -13,28 +13,7 @@ use Rattle.lock_rules.specs.Actions.{keep-object, finish-depth, become-holder}
 use Rattle.lock_word.specs.Depth.{depth-limit}
 use Rattle.lock_word.specs.Layout.{count-limit}
 use Rattle.lock_word.specs.Meaning.{owner-of}
-use Rattle.lock_rules.specs.Rules.{
-  holder-only,
-  owner-only,
-  enter-look,
-  exit-owned,
-  wait-owned,
-  notify-owned,
-  notify-all-owned,
-  enter-store,
-  exit-store,
-  cancel,
-  go-in-again,
-  go-in,
-  enter-check,
-  enter-try,
-  exit-test,
-  exit-tell,
-  exit-leave,
-  wait-inflate,
-  wait-give-up,
-  wait-resume,
-}
+use Rattle.lock_rules.specs.Rules.{holder-only, owner-only, enter-look, exit-owned, wait-owned, notify-owned, notify-all-owned, enter-store, exit-store, cancel, go-in-again, go-in, enter-check, enter-try, exit-test, exit-tell, exit-leave, wait-inflate, wait-give-up, wait-resume}
 use Rattle.lock_rules.specs.declared.Suspension.{Suspension}
 use Rattle.lock_rules.specs.declared.Carried.the-variants.{ToCheck, ToTell, ToInflate}
 use Rattle.lock_rules.specs.declared.Carried.{Carried}

@@ -22,37 +22,11 @@ use Rattle.lock_table.specs.Phase.{phase-number}
 use Rattle.lock_table.specs.declared.record.Monitor.{Monitor}
 use Rattle.lock_table.specs.declared.record.ObjectRecord.{ObjectRecord}
 use Rattle.lock_table.specs.declared.record.Table.{Table}
-use Rattle.lock_perform.specs.State.{doing-record}
+use Rattle.lock_perform.specs.State.{doing-activity}
 use Rattle.lock_perform.specs.Sight.{sight-at}
 use Rattle.lock_table.specs.Ownership.{ownership-in}
 use Rattle.lock_refusals.specs.Refusals.{Row, row, first-applies, not-the-owner, too-deep, unruled}
-use Rattle.lock_refusals.proofs.RuleEnds.{
-  Ends,
-  Ordinary,
-  ordinary-ends,
-  enter-look-ordinary,
-  enter-store-ordinary,
-  exit-store-ordinary,
-  cancel-ordinary,
-  exit-test-ordinary,
-  exit-tell-ordinary,
-  go-in-ordinary,
-  tell-again-ordinary,
-  inflate-again-ordinary,
-  enter-check-ordinary,
-  enter-try-ordinary,
-  exit-leave-ordinary,
-  wait-inflate-ordinary,
-  wait-give-up-ordinary,
-  wait-resume-ordinary,
-  holder-ordinary,
-  exit-ordinary,
-  wait-ordinary,
-  notify-ordinary,
-  notify-all-ordinary,
-  owner-ends,
-  go-in-ends,
-}
+use Rattle.lock_refusals.proofs.RuleEnds.{Ends, Ordinary, ordinary-ends, enter-look-ordinary, enter-store-ordinary, exit-store-ordinary, cancel-ordinary, exit-test-ordinary, exit-tell-ordinary, go-in-ordinary, tell-again-ordinary, inflate-again-ordinary, enter-check-ordinary, enter-try-ordinary, exit-leave-ordinary, wait-inflate-ordinary, wait-give-up-ordinary, wait-resume-ordinary, holder-ordinary, exit-ordinary, wait-ordinary, notify-ordinary, notify-all-ordinary, owner-ends, go-in-ends}
 
 -- a step's refusals by its rule, of a thread with this operation and phase; `none` says that no rule fits
 abbrev pub rule-refusals : ℕ → ℕ → ℕ → ℕ → Monitor → Bool → List Row
@@ -73,9 +47,9 @@ module _ (table : Table) (object : ObjectRecord) (word : LockWord) (thread : ℕ
   sight = sight-at table object word
 
   -- the record of such a thread, at an object with this owner, ends as its list says
-  abbrev Decided : ℕ → ℕ → ℕ → Doing → Type 0
-  Decided o next owner doing =
-      let own = doing-record thread o doing next in
+  abbrev Decided : ℕ → ℕ → Doing → Type 0
+  Decided o owner doing =
+      let own = doing-activity thread o doing in
       let action = decide thread sight doing in
       Ends sight action
       (first-applies
@@ -87,29 +61,29 @@ module _ (table : Table) (object : ObjectRecord) (word : LockWord) (thread : ℕ
   plain : (doing : Doing) → let action = decide thread sight doing in Ordinary action → Ends sight action (pick (unruled action) 20 0)
   plain doing = ordinary-ends sight (decide thread sight doing)
 
-  seen-ends : (o next : ℕ) (doing : Doing) → Decided o next (owner-seen sight) doing
-  unfolding decide doing-record phase-number operation-number
-  seen-ends o next EnterLook = plain EnterLook (enter-look-ordinary thread sight (sight .word))
-  seen-ends o next (EnterStore count) = plain (EnterStore count) (enter-store-ordinary sight count)
-  seen-ends o next EnterCancel = plain EnterCancel (cancel-ordinary sight EnterLook (sight .word))
-  seen-ends o next EnterGoIn = go-in-ends thread sight some small
-  seen-ends o next EnterCheck = plain EnterCheck (holder-ordinary thread sight _ (enter-check-ordinary thread sight (sight .word)))
-  seen-ends o next EnterTry = plain EnterTry (holder-ordinary thread sight _ (enter-try-ordinary thread sight (sight .word)))
-  seen-ends o next ExitLook = owner-ends thread sight (owner-seen sight) _ (λ same. exit-ordinary sight (sight .word) (owned-word same))
-  seen-ends o next (ExitStore count) = plain (ExitStore count) (exit-store-ordinary sight count)
-  seen-ends o next ExitGoIn = plain ExitGoIn (go-in-ordinary thread sight ToTell (tell-again-ordinary sight))
-  seen-ends o next ExitTest = plain ExitTest (exit-test-ordinary sight)
-  seen-ends o next ExitTell = plain ExitTell (holder-ordinary thread sight _ (exit-tell-ordinary sight))
-  seen-ends o next ExitLeave = plain ExitLeave (holder-ordinary thread sight _ (exit-leave-ordinary sight))
-  seen-ends o next WaitLook = owner-ends thread sight (owner-seen sight) _ (λ same. wait-ordinary sight (sight .word) (owned-word same))
-  seen-ends o next WaitCancel = plain WaitCancel (cancel-ordinary sight WaitLook (sight .word))
-  seen-ends o next WaitGoIn = plain WaitGoIn (go-in-ordinary thread sight ToInflate (inflate-again-ordinary sight))
-  seen-ends o next WaitInflate = plain WaitInflate (holder-ordinary thread sight _ (wait-inflate-ordinary thread sight (sight .word)))
-  seen-ends o next WaitGiveUp = plain WaitGiveUp (holder-ordinary thread sight _ (wait-give-up-ordinary sight (sight .word)))
-  seen-ends o next (WaitResume suspension) =
+  seen-ends : (o : ℕ) (doing : Doing) → Decided o (owner-seen sight) doing
+  unfolding decide doing-activity phase-number operation-number
+  seen-ends o EnterLook = plain EnterLook (enter-look-ordinary thread sight (sight .word))
+  seen-ends o (EnterStore count) = plain (EnterStore count) (enter-store-ordinary sight count)
+  seen-ends o EnterCancel = plain EnterCancel (cancel-ordinary sight EnterLook (sight .word))
+  seen-ends o EnterGoIn = go-in-ends thread sight some small
+  seen-ends o EnterCheck = plain EnterCheck (holder-ordinary thread sight _ (enter-check-ordinary thread sight (sight .word)))
+  seen-ends o EnterTry = plain EnterTry (holder-ordinary thread sight _ (enter-try-ordinary thread sight (sight .word)))
+  seen-ends o ExitLook = owner-ends thread sight (owner-seen sight) _ (λ same. exit-ordinary sight (sight .word) (owned-word same))
+  seen-ends o (ExitStore count) = plain (ExitStore count) (exit-store-ordinary sight count)
+  seen-ends o ExitGoIn = plain ExitGoIn (go-in-ordinary thread sight ToTell (tell-again-ordinary sight))
+  seen-ends o ExitTest = plain ExitTest (exit-test-ordinary sight)
+  seen-ends o ExitTell = plain ExitTell (holder-ordinary thread sight _ (exit-tell-ordinary sight))
+  seen-ends o ExitLeave = plain ExitLeave (holder-ordinary thread sight _ (exit-leave-ordinary sight))
+  seen-ends o WaitLook = owner-ends thread sight (owner-seen sight) _ (λ same. wait-ordinary sight (sight .word) (owned-word same))
+  seen-ends o WaitCancel = plain WaitCancel (cancel-ordinary sight WaitLook (sight .word))
+  seen-ends o WaitGoIn = plain WaitGoIn (go-in-ordinary thread sight ToInflate (inflate-again-ordinary sight))
+  seen-ends o WaitInflate = plain WaitInflate (holder-ordinary thread sight _ (wait-inflate-ordinary thread sight (sight .word)))
+  seen-ends o WaitGiveUp = plain WaitGiveUp (holder-ordinary thread sight _ (wait-give-up-ordinary sight (sight .word)))
+  seen-ends o (WaitResume suspension) =
       plain (WaitResume suspension) (holder-ordinary thread sight _ (wait-resume-ordinary sight suspension (sight .word)))
-  seen-ends o next NotifyLook = owner-ends thread sight (owner-seen sight) _ (λ same. notify-ordinary sight (sight .word) (owned-word same))
-  seen-ends o next NotifyAllLook = owner-ends thread sight (owner-seen sight) _ (λ same. notify-all-ordinary sight (sight .word) (owned-word same))
+  seen-ends o NotifyLook = owner-ends thread sight (owner-seen sight) _ (λ same. notify-ordinary sight (sight .word) (owned-word same))
+  seen-ends o NotifyAllLook = owner-ends thread sight (owner-seen sight) _ (λ same. notify-all-ordinary sight (sight .word) (owned-word same))
 
-  pub decide-ends : (o next : ℕ) (doing : Doing) → Decided o next (ownership-in (Valid word) (object .monitor) .thread) doing
-  decide-ends o next doing = rw (owner-is word (object .monitor)) (seen-ends o next doing)
+  pub decide-ends : (o : ℕ) (doing : Doing) → Decided o (ownership-in (Valid word) (object .monitor) .thread) doing
+  decide-ends o doing = rw (owner-is word (object .monitor)) (seen-ends o doing)

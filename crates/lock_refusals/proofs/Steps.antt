@@ -29,12 +29,14 @@ use Rattle.lock_rules.proofs.Turns.{status-of}
 use Rattle.lock_table.specs.Limits.{thread-limit, object-limit}
 use Rattle.lock_table.specs.Operation.{operation-number}
 use Rattle.lock_table.specs.Phase.{phase-number}
-use Rattle.lock_table.specs.Access.{thread-at, object-at, next-of}
+use Rattle.lock_table.specs.Access.{thread-at, object-at}
 use Rattle.lock_table.specs.Whole.{Whole}
+use Rattle.lock_table.specs.Record.{activity}
 use Rattle.lock_table.specs.declared.record.ThreadRecord.{ThreadRecord}
+use Rattle.lock_table.specs.declared.record.Activity.{Activity}
 use Rattle.lock_table.specs.declared.record.Table.{Table}
 use Rattle.lock_table.specs.Ownership.{ownership-in, ownership-at}
-use Rattle.lock_perform.specs.State.{doing-record, write-thread, read-thread}
+use Rattle.lock_perform.specs.State.{doing-activity, write-activity, read-thread}
 use Rattle.lock_perform.specs.Sight.{sight-at}
 use Rattle.lock_soundness.specs.Sound.{sound-of}
 use Rattle.sound_records.proofs.Reading.{WordFits}
@@ -47,7 +49,7 @@ use Rattle.lock_engine.specs.declared.outcome.Outcome.{Outcome}
 use Rattle.lock_engine.proofs.Refused.{refused-stays, handle-shut}
 use Rattle.lock_engine.proofs.Narrow.{sizes}
 use Rattle.lock_records.proofs.ReadBack.{IsWritten, state-back}
-use Rattle.lock_records.proofs.EveryNumber.{written-at, running-next}
+use Rattle.lock_records.proofs.EveryNumber.{written-at}
 use Rattle.lock_schedule.proofs.Turns.{status-read, home-inside}
 use Rattle.lock_refusals.specs.Refusals.{first-applies, no-rule-seeing, no-rule, rule-rows, refusals}
 use Rattle.lock_refusals.proofs.Rows.{by-gate-number, first-gated}
@@ -62,25 +64,25 @@ module _ (table : Table) (whole : Whole table) (sound : sound-of table ≡ true)
   home = own .object
 
   -- a step's refusals by its rule, for a thread in this state whose record is `written`
-  abbrev from-rule : ThreadRecord → ThreadState → ℕ
+  abbrev from-rule : Activity → ThreadState → ℕ
   from-rule written state =
       first-applies
       (rule-refusals thread (operation-number (written .operation)) (phase-number (written .phase)) (ownership-at table home .thread)
       (object-at table home .monitor) (no-rule table thread (object-at table home) state))
 
   -- a thread that can take a step, by its object's word
-  word-ended : (doing : Doing) → next-of table thread ≡ 0 → (decoded : Decoded) → WordFits (table .threadcount) home decoded
-      → let written = doing-record thread home doing (own .next) in
+  word-ended : (doing : Doing) (decoded : Decoded) → WordFits (table .threadcount) home decoded
+      → let written = doing-activity thread home doing in
       let object = object-at table home in
       Ended table thread (outcome-of table thread home (word-turn thread own object (waiters-of table object) doing decoded))
       (first-applies
       (rule-refusals thread (operation-number (written .operation)) (phase-number (written .phase)) (ownership-in decoded (object .monitor) .thread)
       (object .monitor) (no-rule-seeing table thread object doing decoded)))
   unfolding word-turn
-  word-ended doing out Invalid never = absurd never
-  word-ended doing out (Valid word) fits =
-      action-ended table thread out word (decide thread (sight-at table (object-at table home) word) doing) _
-      (decide-ends table (object-at table home) word thread some (whole .depths home) home (own .next) doing)
+  word-ended doing Invalid never = absurd never
+  word-ended doing (Valid word) fits =
+      action-ended table thread word (decide thread (sight-at table (object-at table home) word) doing) _
+      (decide-ends table (object-at table home) word thread some (whole .depths home) home doing)
 
   -- its record is the state that it is read as, written
   ready-ended : (state : ThreadState) → read-thread own ≡ state → status-of state ≡ Ready
@@ -88,21 +90,20 @@ module _ (table : Table) (whole : Whole table) (sound : sound-of table ≡ true)
       Ended table thread
       (outcome-of table thread home
       (pick (within 1 object-limit home) (state-turn thread own object (waiters-of table object) state) (refused own object NotSound)))
-      (from-rule own state)
-  unfolding state-turn write-thread
+      (from-rule (activity own) state)
+  unfolding state-turn write-activity
   ready-ended Idle is ready = false≢true (ap is-idle (sym ready))
   ready-ended (Running doing) is ready =
       let read : IsWritten (table .objectcount) thread own = written-at table (sound-reads table sound) thread in
       let back : read .state ≡ Running doing = sym (state-back (table .objectcount) thread own read) ∙ is in
-      let written : own ≡ doing-record thread home doing (own .next) =
-      read .written ∙ ap (λ (state : ThreadState). write-thread thread home state (own .next)) back in
+      let written : activity own ≡ doing-activity thread home doing = ap activity (read .written) ∙ ap (write-activity thread home) back in
       let (low, high) = read .home (rw back tt) in
       rw (home-inside table sound thread (rw is tt))
-      (subst (λ (shape : ThreadRecord). Ended table thread
+      (subst (λ (shape : Activity). Ended table thread
       (outcome-of table thread home
       (word-turn thread own (object-at table home) (waiters-of table (object-at table home)) doing (read-word (object-at table home .word))))
       (from-rule shape (Running doing))) (sym written)
-      (word-ended doing (running-next table sound thread doing is) (read-word (object-at table home .word)) (sound-reads table sound .objects home low high .word)))
+      (word-ended doing (read-word (object-at table home .word)) (sound-reads table sound .objects home low high .word)))
   ready-ended (Queued carried) is ready = false≢true (ap is-parked (sym ready))
   ready-ended Contending is ready = false≢true (ap is-parked (sym ready))
   ready-ended (Waiting suspension) is ready = false≢true (ap is-parked (sym ready))

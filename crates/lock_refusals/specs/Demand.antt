@@ -8,8 +8,8 @@ use Rattle.laws.specs.Choice.{pick, either}
 use Rattle.lock_rules.specs.declared.event.Event.{Event}
 use Rattle.lock_rules.specs.Gate.{event-thread}
 use Rattle.lock_rules.specs.Numbers.{first-refusal}
-use Rattle.lock_table.specs.Record.{no-thread}
-use Rattle.lock_table.specs.Access.{set-thread}
+use Rattle.lock_table.specs.Record.{idle}
+use Rattle.lock_table.specs.Access.{thread-at, set-thread}
 use Rattle.lock_table.specs.declared.record.Table.{Table}
 use Rattle.lock_engine.specs.Outcome.{reply-returned}
 use Rattle.lock_engine.specs.declared.outcome.Outcome.{Outcome}
@@ -32,7 +32,7 @@ pub record RefusedByFirst (rows : List Row) (outcome : Outcome) : Type 0 where
 
 -- "A refused event gives the table back unchanged, save that a thread refused as no owner or as too deep is idle again."
 abbrev pub left-by : ℕ → Table → ℕ → Table
-left-by number table thread = pick (either (eqb number 18) (eqb number 19)) (set-thread table thread no-thread) table
+left-by number table thread = pick (either (eqb number 18) (eqb number 19)) (set-thread table thread (idle (thread-at table thread))) table
 
 abbrev pub Leaves : Table → ℕ → Outcome → Type 0
 Leaves table thread outcome = first-refusal ≤ returned outcome → outcome .table ≡ left-by (returned outcome) table thread

@@ -9,10 +9,10 @@ use Rattle.laws.proofs.Choice.{equal?, AtMost, at-most}
 use Rattle.lock_rules.proofs.Tables.{ListTable, fresh}
 use Rattle.lock_rules.proofs.ListSound.{SoundTable}
 use Rattle.lock_rules.proofs.SoundKept.{sound-fresh}
-use Rattle.lock_table.specs.Limits.{thread-limit, object-limit}
 use Rattle.lock_word.specs.Depth.{depth-limit}
 use Rattle.lock_table.specs.Access.{object-at}
-use Rattle.lock_table.specs.Fresh.{fresh-of}
+use Rattle.lock_table.specs.Fresh.{InRange, fresh-of}
+use Rattle.lock_table.specs.declared.fresh_table.FreshRequest.{FreshRequest}
 use Rattle.lock_table.specs.Whole.{Whole}
 use Rattle.lock_table.specs.declared.record.ObjectRecord.{ObjectRecord}
 use Rattle.lock_table.specs.declared.record.Table.{Table}
@@ -35,8 +35,7 @@ represented-whole threads objects t lists represents sound =
     at o (inr some) true inside = subst DepthFits (sym (represents .object-is o (omega (arith, some)) inside)) (sound .sound o .deep)
     at o (inr some) false past = subst DepthFits (sym (represents .object-past o past)) (omega arith)
 
-pub fresh-whole : (threads objects : ℕ) (reserved : Bool) → 1 ≤ threads → threads ≤ thread-limit → 1 ≤ objects → objects ≤ object-limit
-    → Whole (fresh-of threads objects reserved .table)
-fresh-whole threads objects reserved some-threads thread-room some-objects object-room =
-    represented-whole threads objects (fresh-of threads objects reserved .table) (fresh reserved)
-    (fresh-represents threads objects reserved some-threads thread-room some-objects object-room) (sound-fresh threads objects reserved)
+pub fresh-whole : (request : FreshRequest) → InRange request → Whole (fresh-of request .table)
+fresh-whole request in-range =
+    represented-whole (request .threads) (request .objects) (fresh-of request .table) (fresh (request .reserved)) (fresh-represents request in-range)
+    (sound-fresh (request .threads) (request .objects) (request .reserved))

@@ -1,15 +1,15 @@
 -- A run goes on by one event, ends where none is left, and comes to a table of which demand 3 holds.
 use Prim.Native.Nat.{ℕ, _+_, _-_, _≤_, _<_}
 use mathlib.Core.Path.{_≡_, sym, ap, _∙_, subst}
-use mathlib.Core.Bool.{Bool}
 use mathlib.Core.List.{List}
 use Rattle.lock_rules.specs.declared.event.Event.{Event}
 use Rattle.lock_table.specs.Fresh.{fresh-of}
+use Rattle.lock_table.specs.declared.fresh_table.FreshRequest.{FreshRequest}
 use Rattle.lock_table.specs.declared.record.Table.{Table}
 use Rattle.lock_table.specs.declared.fresh_table.FreshAnswer.{FreshAnswer}
 use Rattle.lock_table.specs.declared.fresh_table.FreshAnswer.the-variants.{Made}
 use Rattle.lock_table.specs.declared.fresh_table.FreshTable.{FreshTable}
-use Rattle.lock_records.proofs.FreshRecords.{fresh-made}
+use Rattle.lock_table.proofs.FreshTables.{fresh-made}
 use Rattle.lock_schedule.specs.Schedule.{final-of}
 use Rattle.lock_schedule.specs.Demand.{Claim}
 use Rattle.event_bytes.specs.Encoding.{event-size, event-at, events-from}
@@ -34,15 +34,14 @@ made-runs : (events : List Event) (fresh : FreshTable) → fresh .answer ≡ Mad
 unfolding run-fresh
 made-runs events fresh made = ap (λ (answer : FreshAnswer). run-fresh answer (fresh .table) events .table) made
 
-module _ (threads objects : ℕ) (reserved : Bool) (events : List Event) {result : RunResult} where
-  pub run-same : {fresh : FreshTable} → fresh ≡ fresh-of threads objects reserved → result ≡ run-fresh (fresh .answer) (fresh .table) events
-      → result ≡ run-of threads objects reserved events
+module _ (request : FreshRequest) (events : List Event) {result : RunResult} where
+  pub run-same : {fresh : FreshTable} → fresh ≡ fresh-of request → result ≡ run-fresh (fresh .answer) (fresh .table) events → result ≡ run-of request events
   run-same gave ran = ran ∙ ap (λ (fresh : FreshTable). run-fresh (fresh .answer) (fresh .table) events) gave
 
-  pub run-claimed : result ≡ run-of threads objects reserved events → ClaimOfRun threads objects reserved events result
-  run-claimed same some-threads thread-room some-objects object-room =
-      let fresh = fresh-of threads objects reserved in
-      let made = fresh-made threads objects reserved some-threads thread-room some-objects object-room in
+  pub run-claimed : result ≡ run-of request events → ClaimOfRun request events result
+  run-claimed same in-range =
+      let fresh = fresh-of request in
+      let made = fresh-made request in-range in
       subst (Claim (fresh .table) events)
       (sym (ap (λ (r : RunResult). r .table) same ∙ made-runs events fresh (ap (λ (f : FreshTable). f .answer) made)))
-      (demand-three threads objects some-threads thread-room some-objects object-room reserved events)
+      (demand-three request in-range events)

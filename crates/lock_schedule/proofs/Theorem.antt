@@ -1,7 +1,7 @@
 -- Demand 3, and that every event on any sound table gives a sound table, whole as the code's tables are.
 use Prim.Native.Nat.{ℕ, _≤_}
 use mathlib.Core.Path.{_≡_, refl, sym, ap, _∙_, subst, subst₂}
-use mathlib.Core.Bool.{Bool, true}
+use mathlib.Core.Bool.{true}
 use mathlib.Core.List.{List, [], _∷_}
 use Rattle.lock_rules.specs.declared.event.Event.{Event}
 use Rattle.lock_rules.specs.Events.{Shown}
@@ -11,7 +11,8 @@ use Rattle.lock_rules.proofs.Tables.{ListTable, turn, fresh}
 use Rattle.lock_rules.proofs.ListSound.{SoundTable}
 use Rattle.lock_rules.proofs.SoundKept.{sound-fresh}
 use Rattle.lock_table.specs.Whole.{Whole}
-use Rattle.lock_table.specs.Fresh.{fresh-of}
+use Rattle.lock_table.specs.Fresh.{InRange, fresh-of}
+use Rattle.lock_table.specs.declared.fresh_table.FreshRequest.{FreshRequest}
 use Rattle.lock_table.specs.declared.record.Table.{Table}
 use Rattle.lock_soundness.specs.Sound.{sound-of}
 use Rattle.lock_engine.specs.Handle.{handle}
@@ -50,24 +51,26 @@ module _ (threads objects : ℕ) (some-threads : 1 ≤ threads) (some-objects : 
         λ j. record { event = event; reply = same j .reply } ∷ (ap (λ (x : Table). shown-of x rest) table ∙ shown) j,
       )
 
-pub demand-three : DemandThree
-demand-three threads objects some-threads thread-room some-objects object-room reserved events =
-    let (last, shown) =
-    schedule-same threads objects some-threads some-objects events (fresh-of threads objects reserved .table) (fresh reserved)
-    (fresh-represents threads objects reserved some-threads thread-room some-objects object-room) (sound-fresh threads objects reserved) in (
-      subst₂ (λ (x : Table) (y : List Shown). Agrees x (feed-all blank y)) (sym last) (sym shown)
-          (schedule-agrees threads objects some-threads thread-room some-objects object-room reserved events),
-      subst Ruled (sym shown) (schedule-ruled threads objects some-threads thread-room some-objects object-room reserved events),
-    )
+-- the same of a schedule from a fresh table
+module _ (request : FreshRequest) (in-range : InRange request) (events : List Event) where
+  from-fresh : let table = fresh-of request .table in
+      (final-of table events ≡ final-on record-kind (request .threads) (request .objects) table events)
+      × (shown-of table events ≡ shown-on record-kind (request .threads) (request .objects) table events)
+  from-fresh =
+      schedule-same (request .threads) (request .objects) (in-range .0) (in-range .2) events (fresh-of request .table) (fresh (request .reserved))
+      (fresh-represents request in-range) (sound-fresh (request .threads) (request .objects) (request .reserved))
 
-pub reached-sound : (threads objects : ℕ) → 1 ≤ threads → threads ≤ 32 → 1 ≤ objects → objects ≤ 64 → (reserved : Bool) (events : List Event)
-    → sound-of (final-of (fresh-of threads objects reserved .table) events) ≡ true
-reached-sound threads objects some-threads thread-room some-objects object-room reserved events =
-    let (represents, sound, same) = schedule-represents threads objects some-threads thread-room some-objects object-room reserved events in
-    let (last, shown) =
-    schedule-same threads objects some-threads some-objects events (fresh-of threads objects reserved .table) (fresh reserved)
-    (fresh-represents threads objects reserved some-threads thread-room some-objects object-room) (sound-fresh threads objects reserved) in
-    rw last (represented-sound threads objects _ _ some-threads some-objects represents sound)
+  pub reached-sound : sound-of (final-of (fresh-of request .table) events) ≡ true
+  reached-sound =
+      let (represents, sound, same) = schedule-represents request in-range events in
+      rw (from-fresh .0) (represented-sound (request .threads) (request .objects) _ _ (in-range .0) (in-range .2) represents sound)
+
+pub demand-three : DemandThree
+demand-three request in-range events =
+    let (last, shown) = from-fresh request in-range events in (
+      subst₂ (λ (x : Table) (y : List Shown). Agrees x (feed-all blank y)) (sym last) (sym shown) (schedule-agrees request in-range events),
+      subst Ruled (sym shown) (schedule-ruled request in-range events),
+    )
 
 -- what an event makes of a sound table represents sound lists again
 event-represents : (t : Table) → Whole t → sound-of t ≡ true → (event : Event)

@@ -41,7 +41,7 @@ use Rattle.lock_table.specs.declared.record.ThreadRecord.{ThreadRecord}
 use Rattle.lock_table.specs.declared.record.ObjectRecord.{ObjectRecord}
 use Rattle.lock_table.specs.declared.record.Table.{Table}
 use Rattle.lock_table.proofs.Records.{object-unchanged}
-use Rattle.lock_perform.specs.State.{read-thread, write-thread, doing-record, carried-record}
+use Rattle.lock_perform.specs.State.{read-thread, write-activity, doing-activity, carried-activity}
 use Rattle.lock_perform.specs.Sight.{sight-at}
 use Rattle.lock_perform.specs.Perform.{stays}
 use Rattle.lock_soundness.specs.Sound.{sound-of}
@@ -86,56 +86,57 @@ known-operation (suc (suc (suc (suc (suc (suc more)))))) inside none =
     false≢true (rw (le-leb 1 number (omega arith), lt-leb number operation-limit (omega arith)) at inside)
 
 -- the status of a record that is written is that of its state
-status-doing : (n o : ℕ) (doing : Doing) (next : ℕ) → thread-status (doing-record n o doing next .phase) ≡ Ready
-unfolding thread-status doing-record
-status-doing n o EnterLook next = refl
-status-doing n o (EnterStore count) next = refl
-status-doing n o EnterCancel next = refl
-status-doing n o EnterGoIn next = refl
-status-doing n o EnterCheck next = refl
-status-doing n o EnterTry next = refl
-status-doing n o ExitLook next = refl
-status-doing n o (ExitStore count) next = refl
-status-doing n o ExitGoIn next = refl
-status-doing n o ExitTest next = refl
-status-doing n o ExitTell next = refl
-status-doing n o ExitLeave next = refl
-status-doing n o WaitLook next = refl
-status-doing n o WaitCancel next = refl
-status-doing n o WaitGoIn next = refl
-status-doing n o WaitInflate next = refl
-status-doing n o WaitGiveUp next = refl
-status-doing n o (WaitResume suspension) next = refl
-status-doing n o NotifyLook next = refl
-status-doing n o NotifyAllLook next = refl
+status-doing : (n o : ℕ) (doing : Doing) → thread-status (doing-activity n o doing .phase) ≡ Ready
+unfolding thread-status doing-activity
+status-doing n o EnterLook = refl
+status-doing n o (EnterStore count) = refl
+status-doing n o EnterCancel = refl
+status-doing n o EnterGoIn = refl
+status-doing n o EnterCheck = refl
+status-doing n o EnterTry = refl
+status-doing n o ExitLook = refl
+status-doing n o (ExitStore count) = refl
+status-doing n o ExitGoIn = refl
+status-doing n o ExitTest = refl
+status-doing n o ExitTell = refl
+status-doing n o ExitLeave = refl
+status-doing n o WaitLook = refl
+status-doing n o WaitCancel = refl
+status-doing n o WaitGoIn = refl
+status-doing n o WaitInflate = refl
+status-doing n o WaitGiveUp = refl
+status-doing n o (WaitResume suspension) = refl
+status-doing n o NotifyLook = refl
+status-doing n o NotifyAllLook = refl
 
-status-written : (n o : ℕ) (state : ThreadState) (next : ℕ) → thread-status (write-thread n o state next .phase) ≡ status-of state
-unfolding thread-status write-thread carried-record
-status-written n o Idle next = refl
-status-written n o (Running doing) next = status-doing n o doing next
-status-written n o (Queued ToCheck) next = refl
-status-written n o (Queued ToTell) next = refl
-status-written n o (Queued ToInflate) next = refl
-status-written n o (Queued (ToResume suspension)) next = refl
-status-written n o Contending next = refl
-status-written n o (Waiting suspension) next = refl
+status-written : (n o : ℕ) (state : ThreadState) → thread-status (write-activity n o state .phase) ≡ status-of state
+unfolding thread-status write-activity carried-activity
+status-written n o Idle = refl
+status-written n o (Running doing) = status-doing n o doing
+status-written n o (Queued ToCheck) = refl
+status-written n o (Queued ToTell) = refl
+status-written n o (Queued ToInflate) = refl
+status-written n o (Queued (ToResume suspension)) = refl
+status-written n o Contending = refl
+status-written n o (Waiting suspension) = refl
 
 module _ (t : Table) where
   -- a begin: the object is written as it stands
   begin-settles : (n o : ℕ) (operation : Operation)
-      → outcome-of t n o (begin-turn (object-at t o) operation o) .table ≡ set-thread t n (begun operation o)
+      → outcome-of t n o (begin-turn (thread-at t n) (object-at t o) operation o) .table ≡ set-thread t n (begun (thread-at t n) operation o)
   unfolding stays
   begin-settles n o operation =
-      let after = set-thread t n (begun operation o) in
-      subst (λ (object : ObjectRecord). set-object after o object ≡ after) (object-beside-thread t n o (begun operation o)) (object-unchanged after o)
+      let own = begun (thread-at t n) operation o in
+      let after = set-thread t n own in
+      subst (λ (object : ObjectRecord). set-object after o object ≡ after) (object-beside-thread t n o own) (object-unchanged after o)
 
   begins-so : (n o number : ℕ) → within 1 operation-limit number ≡ true
-      → turn-of (outcome-of t n o (begin-turn (object-at t o) (operation-from number) o)) ≡ begin-asked record-kind t (asked-for number) n o
+      → turn-of (outcome-of t n o (begin-turn (thread-at t n) (object-at t o) (operation-from number) o)) ≡ begin-asked record-kind t (asked-for number) n o
   begins-so n o number inside =
       rw (asked-from number) (at (operation-from number) (known-operation number inside))
     where
       at : (operation : Operation) → (operation ≡ NoOperation → ⊥)
-          → turn-of (outcome-of t n o (begin-turn (object-at t o) operation o)) ≡ begin-asked record-kind t (asked-of operation) n o
+          → turn-of (outcome-of t n o (begin-turn (thread-at t n) (object-at t o) operation o)) ≡ begin-asked record-kind t (asked-of operation) n o
       at NoOperation known = absurd (known refl)
       at Enter known = rw (begin-settles n o Enter) refl
       at Exit known = rw (begin-settles n o Exit) refl
@@ -166,7 +167,7 @@ module _ (t : Table) where
     status-read n =
         let is : IsWritten (t .objectcount) n (thread-at t n) = written-at t (sound-reads t sound) n in
         ap (λ (own : ThreadRecord). thread-status (own .phase)) (is .written)
-        ∙ (status-written n (thread-at t n .object) (is .state) (thread-at t n .next) ∙ ap status-of (sym (state-back (t .objectcount) n (thread-at t n) is)))
+        ∙ (status-written n (thread-at t n .object) (is .state) ∙ ap status-of (sym (state-back (t .objectcount) n (thread-at t n) is)))
 
     -- a busy thread is at an object that has a record
     pub home-inside : (n : ℕ) → T (unfinished (read-thread (thread-at t n))) → within 1 object-limit (thread-at t n .object) ≡ true

@@ -1,13 +1,12 @@
 -- Demand 3 as one type, and two more promises about schedules and events.
-use Prim.Native.Nat.{ℕ, _≤_}
 use mathlib.Core.Path.{_≡_}
-use mathlib.Core.Bool.{Bool, true}
+use mathlib.Core.Bool.{true}
 use mathlib.Core.List.{List}
 use Rattle.lock_rules.specs.declared.event.Event.{Event}
 use Rattle.lock_rules.specs.Feed.{feed-all, blank}
-use Rattle.lock_table.specs.Limits.{thread-limit, object-limit}
 use Rattle.lock_table.specs.Whole.{Whole}
-use Rattle.lock_table.specs.Fresh.{fresh-of}
+use Rattle.lock_table.specs.Fresh.{InRange, fresh-of}
+use Rattle.lock_table.specs.declared.fresh_table.FreshRequest.{FreshRequest}
 use Rattle.lock_table.specs.declared.record.Table.{Table}
 use Rattle.lock_soundness.specs.Sound.{sound-of}
 use Rattle.lock_records.specs.Agrees.{Agrees, Ruled}
@@ -22,8 +21,8 @@ Claim first events last = Agrees last (feed-all blank (shown-of first events)) �
 -- The claim holds of every schedule from any fresh table.
 abbrev pub DemandThree : Type 0
 DemandThree =
-    (threads objects : ℕ) → 1 ≤ threads → threads ≤ thread-limit → 1 ≤ objects → objects ≤ object-limit → (reserved : Bool) (events : List Event)
-    → let table = fresh-of threads objects reserved .table in Claim table events (final-of table events)
+    (request : FreshRequest) → InRange request → (events : List Event)
+    → let table = fresh-of request .table in Claim table events (final-of table events)
 
 -- Every event on any sound table, reached by a schedule or not, gives a sound table.
 abbrev pub SoundKept : Type 0

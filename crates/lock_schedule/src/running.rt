@@ -3,6 +3,7 @@ use event_bytes::EVENT_SIZE;
 use event_bytes::event_from;
 use lock_engine::handle;
 use lock_table::FreshAnswer;
+use lock_table::FreshRequest;
 use lock_table::Table;
 ghost use mathlib.Core.Path.{_≡_};
 ghost use Rattle.event_bytes.specs.Encoding.{events-of};
@@ -48,12 +49,12 @@ fn run_fresh(answer: FreshAnswer, table: Table, events: &[u8]) -> RunResult
     }
 }
 
-// The schedule from a fresh table of these sizes, its words anonymously reserved or free as asked.
-pub fn run(threads: u16, objects: u16, reserved: bool, events: &[u8]) -> RunResult
-    ensures same { λ r. ⌜ r ≡ run-of threads objects reserved (events-of (now (events .entry))) ⌝ }
-    ensures claimed { λ r. ⌜ ClaimOfRun threads objects reserved (events-of (now (events .entry))) r ⌝ }
+// The schedule from a fresh table as asked for.
+pub fn run(request: FreshRequest, events: &[u8]) -> RunResult
+    ensures same { λ r. ⌜ r ≡ run-of request (events-of (now (events .entry))) ⌝ }
+    ensures claimed { λ r. ⌜ ClaimOfRun request (events-of (now (events .entry))) r ⌝ }
 {
-    let made = lock_table::fresh(threads, objects, reserved);
+    let made = lock_table::fresh(request);
     let answer = made.answer;
     run_fresh(answer, made.table, events)
 }

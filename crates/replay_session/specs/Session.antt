@@ -5,7 +5,7 @@ use lib.Dec.{leb}
 use Rattle.laws.specs.Choice.{pick}
 use Rattle.lock_table.specs.Access.{thread-at, object-at}
 use Rattle.lock_table.specs.Phase.{phase-number}
-use Rattle.lock_table.specs.Fresh.{fresh-of, fresh-returned}
+use Rattle.lock_table.specs.Fresh.{sized-request, fresh-of, fresh-returned}
 use Rattle.lock_table.specs.declared.record.Table.{Table}
 use Rattle.lock_table.specs.declared.fresh_table.FreshAnswer.{FreshAnswer}
 use Rattle.lock_table.specs.declared.fresh_table.FreshAnswer.the-variants.{Made, SizeOutOfRange}
@@ -29,7 +29,7 @@ abbrev pub malformed : ℕ
 malformed = 21
 
 abbrev pub no-table : Table
-no-table = fresh-of 0 0 false .table
+no-table = fresh-of (sized-request 0 0 false) .table
 
 abbrev pub fresh-session : Session
 fresh-session = record { stage = Opening; table = no-table }
@@ -43,7 +43,7 @@ opened-by Made table = staying Running table Silent
 opened-by SizeOutOfRange table = staying Over table (Refused (fresh-returned SizeOutOfRange))
 
 unfoldable pub open-by : Table → Line → Reaction
-open-by table (Header threads objects reserved) = let made = fresh-of threads objects reserved in opened-by (made .answer) (made .table)
+open-by table (Header threads objects reserved) = let made = fresh-of (sized-request threads objects reserved) in opened-by (made .answer) (made .table)
 open-by table (Begin operation thread object) = staying Over table (Refused malformed)
 open-by table (Step thread) = staying Over table (Refused malformed)
 open-by table Malformed = staying Over table (Refused malformed)

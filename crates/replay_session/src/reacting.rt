@@ -20,6 +20,7 @@ use lock_table::fresh_returned;
 use lock_table::narrow;
 use lock_table::object_at;
 use lock_table::phase_number;
+use lock_table::sized_request;
 use lock_table::thread_at;
 use replay_lines::Line;
 use replay_text::Answer;
@@ -79,7 +80,7 @@ fn open_by(table: Table, line: Line) -> Reaction
             threads,
             objects,
             reserved,
-        } => open_with(fresh(threads, objects, reserved)),
+        } => open_with(fresh(sized_request(threads, objects, reserved))),
         Line::Begin {
             operation: _,
             thread: _,

@@ -22,7 +22,7 @@ pub struct Session {
 fn no_table() -> Table
     ensures { λ r. ⌜ r ≡ no-table ⌝ }
 {
-    let refused = lock_table::fresh(0, 0, false);
+    let refused = lock_table::fresh(lock_table::sized_request(0, 0, false));
     refused.table
 }
 

@@ -1,8 +1,7 @@
 -- An event of a line carried out in place is what the line does: the table that the engine gives, and what is printed of the records of its turn.
 use Prim.Native.Nat.{ℕ, _<_}
 use mathlib.Core.Path.{_≡_, refl, sym, ap, _∙_}
-use mathlib.Core.Bool.{Bool, true, false}
-use native.Mathlib.Omega.{arith}
+use mathlib.Core.Bool.{Bool, true}
 use lib.Dec.{leb}
 use borrow.Author.Tests.{leb-false}
 use Rattle.laws.proofs.Choice.{split, false≢true}

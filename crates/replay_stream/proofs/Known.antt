@@ -1,8 +1,9 @@
 -- A session's table stays sound, or stays unsound, with every line. So what a line does where soundness is known, with its numbers in eight bits, is
 -- what document 01 says of it.
-use Prim.Native.Nat.{ℕ, _≤_}
+use Prim.Native.Nat.{_≤_}
 use mathlib.Core.Path.{_≡_, refl, sym, ap, _∙_, subst}
 use mathlib.Core.Bool.{Bool, true, false}
+use mathlib.Core.List.{[]}
 use lib.Dec.{eqb, ltb}
 use borrow.Author.Tests.{eqb-false, ltb-false}
 use native.Mathlib.Omega.{arith}
@@ -11,13 +12,13 @@ use Rattle.lock_rules.specs.declared.event.Event.{Event}
 use Rattle.lock_rules.specs.declared.event.Event.the-variants.{Begin as BeginEvent, Step as StepEvent}
 use Rattle.lock_table.specs.Limits.{thread-limit, object-limit}
 use Rattle.lock_table.specs.Access.{thread-at}
-use Rattle.lock_table.specs.Fresh.{fresh-of}
+use Rattle.lock_table.specs.Fresh.{sized-request, fresh-of}
 use Rattle.lock_table.specs.Whole.{Whole}
 use Rattle.lock_table.specs.declared.record.Table.{Table}
+use Rattle.lock_table.specs.declared.fresh_table.FreshRequest.{FreshRequest}
 use Rattle.lock_table.specs.declared.fresh_table.FreshTable.{FreshTable}
 use Rattle.lock_table.specs.Narrow.{narrow-of}
 use Rattle.lock_soundness.specs.Sound.{sound-of}
-use Rattle.lock_soundness.proofs.FreshSound.{fresh-sound}
 use Rattle.lock_rules.specs.Gate.{gate, event-thread}
 use Rattle.lock_rules.specs.declared.event.Refusal.the-variants.{NotSound}
 use Rattle.lock_rules.specs.declared.event.Gate.the-variants.{Shut}
@@ -26,7 +27,7 @@ use Rattle.lock_engine.specs.Handle.{handle-trusting, handle}
 use Rattle.lock_engine.specs.declared.outcome.Outcome.{Outcome}
 use Rattle.lock_engine.proofs.Refused.{handle-shut}
 use Rattle.lock_schedule.proofs.FreshWhole.{fresh-whole}
-use Rattle.lock_schedule.proofs.Theorem.{sound-kept, whole-kept}
+use Rattle.lock_schedule.proofs.Theorem.{reached-sound, sound-kept, whole-kept}
 use Rattle.replay_lines.specs.declared.reading.Line.{Line}
 use Rattle.replay_lines.specs.declared.reading.Line.the-variants.{Header, Begin, Step, Malformed}
 use Rattle.replay_stream.proofs.Numbers.{narrow-begun, narrow-stepped}
@@ -94,9 +95,11 @@ whole-by Over whole = tt
 abbrev Opens : FreshTable → Type 0
 Opens made = let session = opened-by (made .answer) (made .table) .session in (session-sound session ≡ true) × WholeBy (session .stage) (session .table)
 
-opens : (threads objects : ℕ) (reserved : Bool) → Opens (fresh-of threads objects reserved)
+opens : (request : FreshRequest) → Opens (fresh-of request)
 unfolding fresh-of opened-by sound-by
-opens threads objects reserved =
+opens request =
+    let threads = request .threads in
+    let objects = request .objects in
     by-test Opens (eqb threads 0) (λ none. (refl, tt))
     (λ some. by-test Opens (ltb thread-limit threads) (λ many. (refl, tt))
     (λ few. by-test Opens (eqb objects 0) (λ none. (refl, tt))
@@ -106,13 +109,13 @@ opens threads objects reserved =
     let high : threads ≤ thread-limit = ltb-false thread-limit threads few in
     let real : 1 ≤ objects = let e = eqb-false objects 0 some-objects in omega (arith, e) in
     let small : objects ≤ object-limit = ltb-false object-limit objects fewer in
-    let sound = fresh-sound threads objects reserved low high real small in
-    let whole = fresh-whole threads objects reserved low high real small in
+    let sound = reached-sound request (low, high, real, small) [] in
+    let whole = fresh-whole request (low, high, real, small) in
     (rw (some, few, some-objects, fewer) at sound, rw (some, few, some-objects, fewer) at whole)))))
 
 open-kept : (table : Table) (line : Line) → let session = open-by table line .session in (session-sound session ≡ true) × WholeBy (session .stage) (session .table)
 unfolding open-by sound-by
-open-kept table (Header threads objects reserved) = opens threads objects reserved
+open-kept table (Header threads objects reserved) = opens (sized-request threads objects reserved)
 open-kept table (Begin operation thread object) = (refl, tt)
 open-kept table (Step thread) = (refl, tt)
 open-kept table Malformed = (refl, tt)

@@ -58,15 +58,21 @@ fn all_owned(table: Table) -> Table {
 
 fn case_table(number: u8) -> Table {
     if number == 0 {
-        return lock_table::fresh(32, 64, false).table;
+        return lock_table::fresh(lock_table::sized_request(32, 64, false)).table;
     }
     if number == 1 {
-        let one = contended(lock_table::fresh(8, 16, false).table, 1, 1, 4, 5);
+        let one = contended(
+            lock_table::fresh(lock_table::sized_request(8, 16, false)).table,
+            1,
+            1,
+            4,
+            5,
+        );
         let two = contended(one, 2, 2, 6, 7);
         return contended(two, 3, 3, 8, 8);
     }
     contended(
-        all_owned(lock_table::fresh(32, 64, false).table),
+        all_owned(lock_table::fresh(lock_table::sized_request(32, 64, false)).table),
         1,
         1,
         2,

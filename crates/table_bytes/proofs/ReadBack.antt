@@ -19,24 +19,7 @@ use Rattle.lock_table.specs.declared.operation.Operation.{Operation}
 use Rattle.lock_table.specs.declared.operation.Operation.the-variants.{Idle as no-operation, Enter, Exit, Wait, Notify, NotifyAll}
 use Rattle.lock_table.specs.declared.phase.Onward.the-variants.{ToCheck, ToTell, ToInflate, ToResume}
 use Rattle.lock_table.specs.declared.phase.Phase.{Phase}
-use Rattle.lock_table.specs.declared.phase.Phase.the-variants.{
-  Idle,
-  Look,
-  Store,
-  Cancel,
-  GoIn,
-  Queued,
-  Check,
-  Try,
-  Contending,
-  Test,
-  Tell,
-  Leave,
-  Inflate,
-  GiveUp,
-  Waiting,
-  Resume,
-}
+use Rattle.lock_table.specs.declared.phase.Phase.the-variants.{Idle, Look, Store, Cancel, GoIn, Queued, Check, Try, Contending, Test, Tell, Leave, Inflate, GiveUp, Waiting, Resume}
 use Rattle.lock_table.specs.declared.record.ThreadRecord.{ThreadRecord}
 use Rattle.lock_table.specs.declared.record.ObjectRecord.{ObjectRecord}
 use Rattle.lock_table.specs.declared.record.Table.{Table}

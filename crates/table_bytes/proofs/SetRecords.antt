@@ -1,32 +1,25 @@
 -- One record stored over the bytes of a table gives the bytes of the table with that record set.
 use Prim.Native.Nat.{ℕ, _+_, _-_, _*_, _≤_}
-use mathlib.Core.Path.{_≡_, refl, sym, ap, _∙_}
+use mathlib.Core.Path.{_≡_, sym, ap, _∙_}
 use mathlib.Core.Logic.{_≢_}
 use mathlib.Core.List.{List, [], _++_, append-nil}
 use native.Mathlib.Omega.{arith}
 use lib.Dec.{eqb, ltb}
-use lib.ListN.{length, set, replicate}
+use lib.ListN.{length, set}
 use borrow.Author.Tests.{eq-eqb, eqb-false, ltb-false}
 use Rattle.laws.specs.Choice.{pick}
 use Rattle.laws.proofs.Choice.{split}
 use Rattle.lock_table.specs.Limits.{thread-limit, object-limit}
-use Rattle.lock_table.specs.Operation.{operation-number}
-use Rattle.lock_table.specs.Phase.{phase-number, carried-number}
 use Rattle.lock_table.specs.Record.{no-thread, no-object}
 use Rattle.lock_table.specs.Access.{set-thread, set-object}
 use Rattle.lock_table.specs.declared.record.ThreadRecord.{ThreadRecord}
 use Rattle.lock_table.specs.declared.record.ObjectRecord.{ObjectRecord}
 use Rattle.lock_table.specs.declared.record.Table.{Table}
 use Rattle.table_bytes.specs.Rows.{overwritten}
-use Rattle.table_bytes.specs.Layout.{thread-layout, object-layout, thread-size, object-size, table-size, thread-bytes, object-bytes, thread-start, object-start}
+use Rattle.table_bytes.specs.Layout.{thread-layout, object-layout, object-size, table-size, thread-bytes, object-bytes, thread-start, object-start}
 use Rattle.table_bytes.specs.Writing.{threads-bytes, objects-bytes, bytes-of, write-thread, write-object}
 use Rattle.table_bytes.proofs.Parts.{area-write}
 use Rattle.table_bytes.proofs.Written.{sizes, front-long, bytes-long}
-
--- an idle thread's record is zeros
-pub idle-zeros : thread-bytes no-thread ≡ replicate thread-size 0
-unfolding operation-number phase-number carried-number
-idle-zeros = refl
 
 -- a number that is none of a kind's changes nothing
 numbered : (limit number : ℕ) (bytes changed : List ℕ) (table after : Table) → bytes ≡ bytes-of table

@@ -12,24 +12,7 @@ use Rattle.lock_table.specs.Operation.{operation-from}
 use Rattle.lock_table.specs.declared.phase.Onward.{Onward}
 use Rattle.lock_table.specs.declared.phase.Onward.the-variants.{ToCheck, ToTell, ToInflate, ToResume}
 use Rattle.lock_table.specs.declared.phase.Phase.{Phase}
-use Rattle.lock_table.specs.declared.phase.Phase.the-variants.{
-  Idle,
-  Look,
-  Store,
-  Cancel,
-  GoIn,
-  Queued,
-  Check,
-  Try,
-  Contending,
-  Test,
-  Tell,
-  Leave,
-  Inflate,
-  GiveUp,
-  Waiting,
-  Resume,
-}
+use Rattle.lock_table.specs.declared.phase.Phase.the-variants.{Idle, Look, Store, Cancel, GoIn, Queued, Check, Try, Contending, Test, Tell, Leave, Inflate, GiveUp, Waiting, Resume}
 use Rattle.lock_table.specs.declared.record.ThreadRecord.{ThreadRecord}
 use Rattle.lock_table.specs.declared.record.ObjectRecord.{ObjectRecord}
 use Rattle.lock_table.specs.declared.record.Table.{Table}

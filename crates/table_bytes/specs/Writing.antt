@@ -5,11 +5,13 @@ use lib.Dec.{eqb, ltb}
 use lib.ListN.{length, getD}
 use Rattle.laws.specs.Choice.{pick}
 use Rattle.lock_table.specs.Limits.{thread-limit, object-limit}
-use Rattle.lock_table.specs.Record.{no-thread, no-object}
+use Rattle.lock_table.specs.Record.{no-thread, no-object, idle}
+use Rattle.lock_table.specs.Access.{thread-at}
 use Rattle.lock_table.specs.declared.record.ThreadRecord.{ThreadRecord}
 use Rattle.lock_table.specs.declared.record.ObjectRecord.{ObjectRecord}
 use Rattle.lock_table.specs.declared.record.Table.{Table}
 use Rattle.table_bytes.specs.Rows.{joined, overwritten}
+use Rattle.table_bytes.specs.Reading.{table-of}
 use Rattle.table_bytes.specs.Layout.{table-size, thread-start, object-start, thread-bytes, object-bytes}
 
 -- all records of a kind
@@ -39,6 +41,6 @@ write-object bytes number object =
     (pick (eqb number 0) bytes (pick (ltb object-limit number) bytes (overwritten (object-start (number - 1)) (object-bytes object) bytes)))
     bytes
 
--- the bytes with one thread's record that of an idle thread, all zeros
+-- the bytes with one thread idle
 abbrev pub idled-bytes : List ℕ → ℕ → List ℕ
-idled-bytes bytes thread = write-thread bytes thread no-thread
+idled-bytes bytes thread = write-thread bytes thread (idle (thread-at (table-of bytes) thread))

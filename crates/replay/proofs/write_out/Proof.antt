@@ -1,6 +1,5 @@
 -- `replay::write_out` ends: each turn writes, is interrupted or stops, and the turns run out.
 use Prim.Native.Nat.{_≤_}
-use lib.ListN.{length}
 use borrow.Author.Needs.{needs}
 use Rattle.replay.proofs.write_out.Statement.{statement}
 use Rattle.replay.proofs.write_out.Tie as tie

@@ -8,8 +8,8 @@ returns : tie.Need-returns
 returns c =
     let args = c .before .before .before .args in
     let events = events-of (args .events .now) in
-    let same = run-same (args .threads) (args .objects) (args .reserved) events (c .before .fresh .ensures) (c .run-fresh .ensures) in
-    (same, run-claimed (args .threads) (args .objects) (args .reserved) events same)
+    let same = run-same (args .request) events (c .before .fresh .ensures) (c .run-fresh .ensures) in
+    (same, run-claimed (args .request) events same)
 
 pub run-spec : {M : Type 1} → statement M
 run-spec = tie.close (tie.spec (λ c κs. tt) (λ c κs. tt) returns)
