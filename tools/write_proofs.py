@@ -16,6 +16,7 @@ import sys
 import tempfile
 
 TEST_LAWS = {'eq-eqb', 'ne-eqb', 'lt-ltb', 'le-ltb', 'le-leb', 'lt-leb'}
+WIDTH = 148
 TOLD = re.compile(r'(enum-told|known-told|struct-known|struct-told|row-known|slice-known|shared-slice-known)\d*$')
 
 
@@ -114,6 +115,17 @@ def asks(need, source):
     return bool(head) and 'requires {' in head.group(0)
 
 
+def filled(first, answers):
+    """Lines of at most WIDTH columns: as many answers on each as have room, since most of them say nothing."""
+    lines = [first]
+    for answer in answers:
+        if len(lines[-1]) + 1 + len(answer) <= WIDTH:
+            lines[-1] += ' ' + answer
+        else:
+            lines.append('    ' + answer)
+    return lines
+
+
 def proof_text(crate, function, places, order, definition, source):
     lines, laws = [], set()
     for need in order:
@@ -141,8 +153,8 @@ def proof_text(crate, function, places, order, definition, source):
              f'pub {name}-spec : {{M : Type 1}} → statement M']
     if definition:
         text.append('unfolding ' + definition[1])
-    text += [f'{name}-spec =', '    tie.close', '    (tie.spec'] + ['    ' + line for line in lines]
-    return '\n'.join(text) + ')\n'
+    text += [f'{name}-spec =', '    tie.close'] + filled('    (tie.spec', lines[:-1] + [lines[-1] + ')'])
+    return '\n'.join(text) + '\n'
 
 
 def main():

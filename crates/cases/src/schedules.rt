@@ -108,7 +108,10 @@ fn listing_cases() {
         \x01\x01\x00\x00\x00\x00\x00\x00\
         \x01\x02\x00\x00\x00\x00\x00\x00\
         \x01\x02\x00\x00\x00\x00\x00\x00";
-    report_run(b"listing", lock_schedule::run(lock_table::sized_request(2, 1, false), &listing));
+    report_run(
+        b"listing",
+        lock_schedule::run(lock_table::sized_request(2, 1, false), &listing),
+    );
     report_run(
         b"listing, 63 bytes",
         lock_schedule::run(lock_table::sized_request(2, 1, false), &listing[..63]),
@@ -122,26 +125,44 @@ fn listing_cases() {
 // What is no event, and what is one but names no kind or no operation.
 fn encoding_cases() {
     let begin = *b"\x00\x01\x01\x01\x00\x00\x00\x00";
-    report_run(b"no bytes", lock_schedule::run(lock_table::sized_request(2, 1, false), b""));
-    report_run(b"7 bytes", lock_schedule::run(lock_table::sized_request(2, 1, false), &begin[..7]));
-    report_run(b"8 bytes", lock_schedule::run(lock_table::sized_request(2, 1, false), &begin));
+    report_run(
+        b"no bytes",
+        lock_schedule::run(lock_table::sized_request(2, 1, false), b""),
+    );
+    report_run(
+        b"7 bytes",
+        lock_schedule::run(lock_table::sized_request(2, 1, false), &begin[..7]),
+    );
+    report_run(
+        b"8 bytes",
+        lock_schedule::run(lock_table::sized_request(2, 1, false), &begin),
+    );
     // begins of no operation and of one too many, and a step of nobody
     let unknown = b"\
         \x00\x01\x00\x01\x00\x00\x00\x00\
         \x00\x01\x06\x01\x00\x00\x00\x00\
         \x01\x03\x00\x00\x00\x00\x00\x00";
-    report_run(b"refused", lock_schedule::run(lock_table::sized_request(2, 1, false), unknown));
+    report_run(
+        b"refused",
+        lock_schedule::run(lock_table::sized_request(2, 1, false), unknown),
+    );
     // the events of two kinds that are none, of thread 1; thread 2 begins behind them
     let kinds = b"\
         \x02\x01\x01\x01\x00\x00\x00\x00\
         \xff\x01\x01\x01\x00\x00\x00\x00\
         \x00\x02\x01\x01\x00\x00\x00\x00";
-    report_run(b"no such kind", lock_schedule::run(lock_table::sized_request(2, 1, false), kinds));
+    report_run(
+        b"no such kind",
+        lock_schedule::run(lock_table::sized_request(2, 1, false), kinds),
+    );
     // a kind that is none is no step either
     let stays = b"\
         \x00\x01\x01\x01\x00\x00\x00\x00\
         \x02\x01\x00\x00\x00\x00\x00\x00";
-    report_run(b"no step", lock_schedule::run(lock_table::sized_request(2, 1, false), stays));
+    report_run(
+        b"no step",
+        lock_schedule::run(lock_table::sized_request(2, 1, false), stays),
+    );
 }
 
 // Thread 1 enters object 2: the kinds of words, and sizes out of range. The bytes that an event does not read have no meaning.
@@ -149,10 +170,22 @@ fn size_cases() {
     let enter = b"\
         \x00\x01\x01\x02\xff\xff\xff\xff\
         \x01\x01\x06\x07\xff\xff\xff\xff";
-    report_run(b"enter, free", lock_schedule::run(lock_table::sized_request(2, 2, false), enter));
-    report_run(b"enter, reserved", lock_schedule::run(lock_table::sized_request(2, 2, true), enter));
-    report_run(b"no threads", lock_schedule::run(lock_table::sized_request(0, 2, true), enter));
-    report_run(b"65 objects", lock_schedule::run(lock_table::sized_request(2, 65, true), enter));
+    report_run(
+        b"enter, free",
+        lock_schedule::run(lock_table::sized_request(2, 2, false), enter),
+    );
+    report_run(
+        b"enter, reserved",
+        lock_schedule::run(lock_table::sized_request(2, 2, true), enter),
+    );
+    report_run(
+        b"no threads",
+        lock_schedule::run(lock_table::sized_request(0, 2, true), enter),
+    );
+    report_run(
+        b"65 objects",
+        lock_schedule::run(lock_table::sized_request(2, 65, true), enter),
+    );
 }
 
 // Thread 1 enters and waits; thread 2 enters and notifies, then exits, and thread 1 goes on.
@@ -175,20 +208,32 @@ fn waiting_cases() {
         \x01\x02\x00\x00\x00\x00\x00\x00\
         \x01\x02\x00\x00\x00\x00\x00\x00\
         \x01\x01\x00\x00\x00\x00\x00\x00";
-    report_run(b"waiting", lock_schedule::run(lock_table::sized_request(2, 1, false), &waiting[..56]));
+    report_run(
+        b"waiting",
+        lock_schedule::run(lock_table::sized_request(2, 1, false), &waiting[..56]),
+    );
     report_run(
         b"notified",
         lock_schedule::run(lock_table::sized_request(2, 1, false), &waiting[..104]),
     );
-    report_run(b"resumed", lock_schedule::run(lock_table::sized_request(2, 1, false), &waiting));
+    report_run(
+        b"resumed",
+        lock_schedule::run(lock_table::sized_request(2, 1, false), &waiting),
+    );
 }
 
 // The cases that are about the engine and fresh tables.
 fn numbered_cases() {
     report_step(b"K5 0003fc", 3, first_step(with_word(0x0003fc), 1, 3));
     report_step(b"K5 0003f8", 3, first_step(with_word(0x0003f8), 1, 3));
-    report_run(b"K7 32", lock_schedule::run(lock_table::sized_request(32, 1, false), b""));
-    report_run(b"K7 33", lock_schedule::run(lock_table::sized_request(33, 1, false), b""));
+    report_run(
+        b"K7 32",
+        lock_schedule::run(lock_table::sized_request(32, 1, false), b""),
+    );
+    report_run(
+        b"K7 33",
+        lock_schedule::run(lock_table::sized_request(33, 1, false), b""),
+    );
     report_step(b"K8 000002", 1, first_step(with_word(0x000002), 2, 1));
     report_step(b"K9 65534", 1, lock_engine::step(going_in_at(65534), 1));
     report_step(b"K9 65535", 1, lock_engine::step(going_in_at(65535), 1));
