@@ -11,7 +11,6 @@ use Rattle.lock_table.specs.Access.{thread-at, set-thread, object-at, set-objec
 use Rattle.lock_table.specs.Fresh.{fresh-of, fresh-returned, first-word}
 use Rattle.lock_table.specs.Operation.{operation-number}
 use Rattle.lock_table.specs.Phase.{phase-number, carried-number}
-use Rattle.lock_table.specs.Empty.{empty-thread, empty-monitor, empty-object}
 use Rattle.lock_table.specs.Parked.{chain-named, first-in}
 use Rattle.lock_perform.specs.State.{state-by, look-of, go-in-of, write-thread, doing-record}
 use Rattle.lock_word.specs.Meaning.{seen-word}
@@ -29,6 +28,9 @@ use Rattle.lock_soundness.specs.Sound.{
   found-in,
   names-chain,
   unused-fits,
+  empty-thread,
+  empty-monitor,
+  empty-object,
   sound-of,
 }
 use Rattle.lock_engine.specs.Outcome.{reply-returned}

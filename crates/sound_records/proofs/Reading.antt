@@ -17,7 +17,6 @@ use Rattle.lock_word.specs.Depth.{depth-limit}
 use Rattle.lock_table.specs.Operation.{operation-number}
 use Rattle.lock_table.specs.Phase.{phase-number, carried-number}
 use Rattle.lock_table.specs.Record.{no-thread, no-monitor, no-object, with-word}
-use Rattle.lock_table.specs.Empty.{empty-thread, empty-monitor, empty-object}
 use Rattle.lock_table.specs.Parked.{chain-named, thread-chain}
 use Rattle.lock_table.specs.declared.operation.Operation.{Operation}
 use Rattle.lock_table.specs.declared.operation.Operation.the-variants.{Idle, Enter, Exit, Wait, Notify, NotifyAll}
@@ -58,6 +57,9 @@ use Rattle.sound_records.specs.Records.{
   unused-fits,
   used-object-fits,
   used-thread-fits,
+  empty-thread,
+  empty-monitor,
+  empty-object,
 }
 use Rattle.laws.proofs.Facts.{
   Reads,
