@@ -12,12 +12,28 @@ use Rattle.lock_table.specs.Access.{thread-at, set-thread, object-at, set-objec
 use Rattle.lock_table.specs.Fresh.{fresh-object, fresh-of, fresh-returned, first-word}
 use Rattle.lock_table.specs.Operation.{operation-number}
 use Rattle.lock_table.specs.Phase.{phase-number, carried-number}
-use Rattle.lock_table.specs.Empty.{empty-thread, empty-monitor, empty-object}
 use Rattle.lock_table.specs.Parked.{chain-named, first-in}
 use Rattle.lock_perform.specs.State.{state-by, look-of, go-in-of, write-activity, doing-activity}
 use Rattle.lock_word.specs.Meaning.{seen-word}
 use Rattle.lock_perform.specs.Perform.{word-after, stays}
-use Rattle.lock_soundness.specs.Sound.{sizes-fit, word-fits, uses-phase, carries-phase, operation-fits, kept-fits, saves-depth, saved-fits, unheld-fits, found-in, names-chain, unused-fits, sound-of}
+use Rattle.lock_soundness.specs.Sound.{
+  sizes-fit,
+  word-fits,
+  uses-phase,
+  carries-phase,
+  operation-fits,
+  kept-fits,
+  saves-depth,
+  saved-fits,
+  unheld-fits,
+  found-in,
+  names-chain,
+  unused-fits,
+  empty-thread,
+  empty-monitor,
+  empty-object,
+  sound-of,
+}
 use Rattle.lock_engine.specs.Outcome.{reply-returned}
 use Rattle.lock_engine.specs.Turn.{action-turn, word-turn, state-turn, step-turn, open-turn, gate-turn}
 use Rattle.lock_gate.specs.Status.{thread-status}

@@ -11,17 +11,10 @@ use Rattle.laws.specs.Choice.{pick, both}
 use Rattle.laws.proofs.Choice.{Equal, equal, Below, below}
 use Rattle.lock_rules.specs.Actions.{keep-object, finish-depth, become-holder}
 use Rattle.lock_word.specs.Depth.{depth-limit}
-use Rattle.lock_word.specs.Layout.{count-limit}
-use Rattle.lock_word.specs.Meaning.{owner-of}
-use Rattle.lock_rules.specs.Rules.{holder-only, owner-only, enter-look, exit-owned, wait-owned, notify-owned, notify-all-owned, enter-store, exit-store, cancel, go-in-again, go-in, enter-check, enter-try, exit-test, exit-tell, exit-leave, wait-inflate, wait-give-up, wait-resume}
-use Rattle.lock_rules.specs.declared.Suspension.{Suspension}
-use Rattle.lock_rules.specs.declared.Carried.the-variants.{ToCheck, ToTell, ToInflate}
-use Rattle.lock_rules.specs.declared.Carried.{Carried}
-use Rattle.lock_rules.specs.declared.Doing.{Doing}
+use Rattle.lock_rules.specs.Rules.{owner-only, go-in-again, go-in}
+use Rattle.lock_rules.specs.declared.Carried.the-variants.{ToCheck}
 use Rattle.lock_rules.specs.declared.Doing.the-variants.{EnterCheck}
 use Rattle.lock_rules.specs.declared.ThreadState.the-variants.{Idle, Queued}
-use Rattle.lock_word.specs.declared.meaning.WordSeen.{WordSeen}
-use Rattle.lock_word.specs.declared.meaning.WordSeen.the-variants.{Free, Anonymous, Fat, Flat, Reserved}
 use Rattle.lock_rules.specs.declared.WordChange.the-variants.{Unchanged}
 use Rattle.lock_rules.specs.declared.Sight.{Sight}
 use Rattle.chains.specs.declared.named.Chain.{Chain}
@@ -86,143 +79,11 @@ ordinary-ends sight (Do effect) ordinary = at (effect .answer) ordinary
     at NoRule never = absurd never
 
 -- either side of a test
-either-ordinary : (test : Bool) (x y : Action) → Ordinary x → Ordinary y → Ordinary (pick test x y)
+pub either-ordinary : (test : Bool) (x y : Action) → Ordinary x → Ordinary y → Ordinary (pick test x y)
 either-ordinary true x y first second = first
 either-ordinary false x y first second = second
 
--- the rules that read the object alone
-module _ (sight : Sight) where
-  pub enter-store-ordinary : (count : ℕ) → Ordinary (enter-store sight count)
-  unfolding enter-store
-  enter-store-ordinary count = either-ordinary (ltb count count-limit) _ _ tt tt
-
-  pub exit-store-ordinary : (count : ℕ) → Ordinary (exit-store sight count)
-  unfolding exit-store
-  exit-store-ordinary count = either-ordinary (eqb count 0) _ _ tt tt
-
-  pub cancel-ordinary : (look : Doing) (word : WordSeen) → Ordinary (cancel sight look word)
-  unfolding cancel
-  cancel-ordinary look Free = tt
-  cancel-ordinary look Anonymous = tt
-  cancel-ordinary look Fat = tt
-  cancel-ordinary look (Flat owner count) = tt
-  cancel-ordinary look (Reserved owner count) = tt
-
-  pub exit-test-ordinary : Ordinary (exit-test sight)
-  unfolding exit-test
-  exit-test-ordinary = either-ordinary (sight .flag) _ _ tt tt
-
-  pub exit-tell-ordinary : Ordinary (exit-tell sight)
-  unfolding exit-tell
-  exit-tell-ordinary = either-ordinary (sight .flag) _ _ (either-ordinary (sight .contentionempty) _ _ tt tt) tt
-
-  pub exit-leave-ordinary : Ordinary (exit-leave sight)
-  unfolding exit-leave
-  exit-leave-ordinary = either-ordinary (eqb (sight .depth) 0) _ _ tt tt
-
-  pub wait-give-up-ordinary : (word : WordSeen) → Ordinary (wait-give-up sight word)
-  unfolding wait-give-up
-  wait-give-up-ordinary Free = tt
-  wait-give-up-ordinary Anonymous = tt
-  wait-give-up-ordinary Fat = either-ordinary (eqb (sight .depth) 0) _ _ tt tt
-  wait-give-up-ordinary (Flat owner count) = tt
-  wait-give-up-ordinary (Reserved owner count) = tt
-
-  pub wait-resume-ordinary : (suspension : Suspension) (word : WordSeen) → Ordinary (wait-resume sight suspension word)
-  unfolding wait-resume
-  wait-resume-ordinary suspension Free = tt
-  wait-resume-ordinary suspension Anonymous = tt
-  wait-resume-ordinary suspension Fat = either-ordinary (eqb (sight .depth) 0) _ _ tt tt
-  wait-resume-ordinary suspension (Flat owner count) = tt
-  wait-resume-ordinary suspension (Reserved owner count) = tt
-
-  -- the holder itself goes in again: an exit or a wait has no rule for it
-  pub tell-again-ordinary : Ordinary (go-in-again sight ToTell)
-  unfolding go-in-again
-  tell-again-ordinary = tt
-
-  pub inflate-again-ordinary : Ordinary (go-in-again sight ToInflate)
-  unfolding go-in-again
-  inflate-again-ordinary = tt
-
-  -- Exit, wait and the notifies: the owner's rule never says 18, for nobody owns a word that is free or anonymous.
-  abbrev pub Owned : WordSeen → Type 0
-  Owned word = owner-of word (sight .holder) (sight .depth) ≢ 0
-
-  pub exit-ordinary : (word : WordSeen) → Owned word → Ordinary (exit-owned sight word)
-  unfolding exit-owned
-  exit-ordinary Free owned = absurd (owned refl)
-  exit-ordinary Anonymous owned = absurd (owned refl)
-  exit-ordinary Fat owned = either-ordinary (ltb 1 (sight .depth)) _ _ tt tt
-  exit-ordinary (Flat owner count) owned = either-ordinary (ltb 0 count) _ _ tt tt
-  exit-ordinary (Reserved owner count) owned = tt
-
-  pub wait-ordinary : (word : WordSeen) → Owned word → Ordinary (wait-owned sight word)
-  unfolding wait-owned
-  wait-ordinary Free owned = absurd (owned refl)
-  wait-ordinary Anonymous owned = absurd (owned refl)
-  wait-ordinary Fat owned = tt
-  wait-ordinary (Flat owner count) owned = tt
-  wait-ordinary (Reserved owner count) owned = tt
-
-  pub notify-ordinary : (word : WordSeen) → Owned word → Ordinary (notify-owned sight word)
-  unfolding notify-owned
-  notify-ordinary Free owned = absurd (owned refl)
-  notify-ordinary Anonymous owned = absurd (owned refl)
-  notify-ordinary Fat owned = either-ordinary (eqb (sight .waiters) 0) _ _ tt tt
-  notify-ordinary (Flat owner count) owned = tt
-  notify-ordinary (Reserved owner count) owned = tt
-
-  pub notify-all-ordinary : (word : WordSeen) → Owned word → Ordinary (notify-all-owned sight word)
-  unfolding notify-all-owned
-  notify-all-ordinary Free owned = absurd (owned refl)
-  notify-all-ordinary Anonymous owned = absurd (owned refl)
-  notify-all-ordinary Fat owned = tt
-  notify-all-ordinary (Flat owner count) owned = tt
-  notify-all-ordinary (Reserved owner count) owned = tt
-
--- the rules that ask for the thread too
 module _ (thread : ℕ) (sight : Sight) where
-  pub enter-look-ordinary : (word : WordSeen) → Ordinary (enter-look thread sight word)
-  unfolding enter-look
-  enter-look-ordinary Free = tt
-  enter-look-ordinary Anonymous = tt
-  enter-look-ordinary Fat = tt
-  enter-look-ordinary (Flat owner count) = either-ordinary (eqb owner thread) _ _ (either-ordinary (ltb count count-limit) _ _ tt tt) tt
-  enter-look-ordinary (Reserved owner count) = either-ordinary (eqb owner thread) _ _ (either-ordinary (ltb count count-limit) _ _ tt tt) tt
-
-  pub enter-check-ordinary : (word : WordSeen) → Ordinary (enter-check thread sight word)
-  unfolding enter-check
-  enter-check-ordinary Free = tt
-  enter-check-ordinary Anonymous = tt
-  enter-check-ordinary Fat = either-ordinary (eqb (sight .depth) 0) _ _ tt tt
-  enter-check-ordinary (Flat owner count) = either-ordinary (eqb owner thread) _ _ tt tt
-  enter-check-ordinary (Reserved owner count) = tt
-
-  pub enter-try-ordinary : (word : WordSeen) → Ordinary (enter-try thread sight word)
-  unfolding enter-try
-  enter-try-ordinary Free = tt
-  enter-try-ordinary Anonymous = tt
-  enter-try-ordinary Fat = tt
-  enter-try-ordinary (Flat owner count) = either-ordinary (eqb owner thread) _ _ tt tt
-  enter-try-ordinary (Reserved owner count) = tt
-
-  pub wait-inflate-ordinary : (word : WordSeen) → Ordinary (wait-inflate thread sight word)
-  unfolding wait-inflate
-  wait-inflate-ordinary Free = tt
-  wait-inflate-ordinary Anonymous = tt
-  wait-inflate-ordinary Fat = tt
-  wait-inflate-ordinary (Flat owner count) = either-ordinary (eqb owner thread) _ _ tt tt
-  wait-inflate-ordinary (Reserved owner count) = tt
-
-  pub go-in-ordinary : (carried : Carried) → Ordinary (go-in-again sight carried) → Ordinary (go-in thread sight carried)
-  unfolding go-in
-  go-in-ordinary carried again =
-      either-ordinary (eqb (sight .holder) 0) _ _ tt (either-ordinary (eqb (sight .holder) thread) _ _ again tt)
-
-  pub holder-ordinary : (action : Action) → Ordinary action → Ordinary (holder-only thread sight action)
-  holder-ordinary action ordinary = either-ordinary (eqb (sight .holder) thread) _ _ ordinary tt
-
   -- 18, for the rules of the owner, before 20
   pub owner-ends : (owner : ℕ) (action : Action) → (owner ≡ thread → Ordinary action)
       → let decided = owner-only thread sight owner action in

@@ -2,16 +2,22 @@
 use Prim.Native.Nat.{ℕ, _≤_}
 use mathlib.Core.Path.{_≡_, sym, _∙_}
 use mathlib.Core.Logic.{_≢_}
-use mathlib.Core.Bool.{Bool}
+use mathlib.Core.Bool.{Bool, not}
 use mathlib.Core.List.{List, [], _∷_}
+use lib.Dec.{eqb}
 use Rattle.laws.specs.Choice.{pick}
 use Rattle.lock_word.specs.Meaning.{seen-word, owner-of, depth-of}
 use Rattle.lock_word.proofs.Ownership.{owner-owned}
 use Rattle.lock_word.specs.declared.reading.LockWord.{LockWord}
 use Rattle.lock_word.specs.declared.reading.Decoded.the-variants.{Valid}
 use Rattle.lock_word.specs.Depth.{depth-limit}
-use Rattle.lock_rules.specs.Rules.{owner-seen, decide}
-use Rattle.lock_rules.specs.declared.Carried.the-variants.{ToTell, ToInflate}
+use Rattle.lock_rules.specs.Rules.{owner-seen, owner-only, holder-only, decide, enter-look, enter-store, cancel, enter-check, enter-try, go-in-again, go-in}
+use Rattle.lock_rules.specs.Rules.{exit-owned, exit-store, exit-test, exit-tell, exit-leave, wait-owned, wait-inflate, wait-give-up, wait-resume}
+use Rattle.lock_rules.specs.Rules.{notify-owned, notify-all-owned}
+use Rattle.lock_rules.proofs.Each.{Words, each-word}
+use Rattle.lock_rules.specs.declared.Action.{Action}
+use Rattle.lock_rules.specs.declared.Action.the-variants.{Unruled}
+use Rattle.lock_word.specs.declared.meaning.WordSeen.{WordSeen}
 use Rattle.lock_rules.specs.declared.Doing.{Doing}
 use Rattle.lock_rules.specs.declared.Doing.the-variants.{EnterLook, EnterStore, EnterCancel, EnterGoIn, EnterCheck, EnterTry, ExitLook}
 use Rattle.lock_rules.specs.declared.Doing.the-variants.{ExitStore, ExitGoIn, ExitTest, ExitTell, ExitLeave, WaitLook, WaitCancel, WaitGoIn}
@@ -26,7 +32,7 @@ use Rattle.lock_perform.specs.State.{doing-activity}
 use Rattle.lock_perform.specs.Sight.{sight-at}
 use Rattle.lock_table.specs.Ownership.{ownership-in}
 use Rattle.lock_refusals.specs.Refusals.{Row, row, first-applies, not-the-owner, too-deep, unruled}
-use Rattle.lock_refusals.proofs.RuleEnds.{Ends, Ordinary, ordinary-ends, enter-look-ordinary, enter-store-ordinary, exit-store-ordinary, cancel-ordinary, exit-test-ordinary, exit-tell-ordinary, go-in-ordinary, tell-again-ordinary, inflate-again-ordinary, enter-check-ordinary, enter-try-ordinary, exit-leave-ordinary, wait-inflate-ordinary, wait-give-up-ordinary, wait-resume-ordinary, holder-ordinary, exit-ordinary, wait-ordinary, notify-ordinary, notify-all-ordinary, owner-ends, go-in-ends}
+use Rattle.lock_refusals.proofs.RuleEnds.{Ends, Ordinary, ordinary-ends, either-ordinary, owner-ends, go-in-ends}
 
 -- a step's refusals by its rule, of a thread with this operation and phase; `none` says that no rule fits
 abbrev pub rule-refusals : ℕ → ℕ → ℕ → ℕ → Monitor → Bool → List Row
@@ -55,35 +61,46 @@ module _ (table : Table) (object : ObjectRecord) (word : LockWord) (thread : ℕ
       (first-applies
       (rule-refusals thread (operation-number (own .operation)) (phase-number (own .phase)) owner (object .monitor) (unruled action)))
 
-  owned-word : owner-seen sight ≡ thread → owner-seen sight ≢ 0
-  owned-word same none = some (sym same ∙ none)
+  -- a rule that goes by the word is accepted or has no case, whatever the word is; the owner's, whatever word has an owner, so that it never says 18
+  by-word : (rule : WordSeen → Action) → Words (λ word. Ordinary (rule word)) → Ordinary (rule (sight .word))
+  by-word rule all = each-word (λ word. Ordinary (rule word)) all (sight .word)
+
+  by-owned : (rule : WordSeen → Action) → Words (λ word. owner-of word (sight .holder) (sight .depth) ≢ 0 → Ordinary (rule word))
+      → let decided = owner-only thread sight (owner-seen sight) (rule (sight .word)) in
+      Ends sight decided (pick (not (eqb (owner-seen sight) thread)) 18 (pick (unruled decided) 20 0))
+  by-owned rule all =
+      owner-ends thread sight (owner-seen sight) (rule (sight .word))
+      (λ same. each-word (λ word. owner-of word (sight .holder) (sight .depth) ≢ 0 → Ordinary (rule word)) all (sight .word) (λ none. some (sym same ∙ none)))
 
   plain : (doing : Doing) → let action = decide thread sight doing in Ordinary action → Ends sight action (pick (unruled action) 20 0)
   plain doing = ordinary-ends sight (decide thread sight doing)
 
+  held : (action : Action) → Ordinary action → Ordinary (holder-only thread sight action)
+  held action ordinary = either-ordinary (eqb (sight .holder) thread) action Unruled ordinary tt
+
   seen-ends : (o : ℕ) (doing : Doing) → Decided o (owner-seen sight) doing
-  unfolding decide doing-activity phase-number operation-number
-  seen-ends o EnterLook = plain EnterLook (enter-look-ordinary thread sight (sight .word))
-  seen-ends o (EnterStore count) = plain (EnterStore count) (enter-store-ordinary sight count)
-  seen-ends o EnterCancel = plain EnterCancel (cancel-ordinary sight EnterLook (sight .word))
+  unfolding decide doing-activity phase-number operation-number enter-look enter-store cancel enter-check enter-try go-in-again go-in exit-owned exit-store exit-test
+      exit-tell exit-leave wait-owned wait-inflate wait-give-up wait-resume notify-owned notify-all-owned
+  seen-ends o EnterLook = plain EnterLook (by-word (enter-look thread sight) (search either-ordinary))
+  seen-ends o (EnterStore count) = plain (EnterStore count) (search either-ordinary)
+  seen-ends o EnterCancel = plain EnterCancel (by-word (cancel sight EnterLook) (search))
   seen-ends o EnterGoIn = go-in-ends thread sight some small
-  seen-ends o EnterCheck = plain EnterCheck (holder-ordinary thread sight _ (enter-check-ordinary thread sight (sight .word)))
-  seen-ends o EnterTry = plain EnterTry (holder-ordinary thread sight _ (enter-try-ordinary thread sight (sight .word)))
-  seen-ends o ExitLook = owner-ends thread sight (owner-seen sight) _ (λ same. exit-ordinary sight (sight .word) (owned-word same))
-  seen-ends o (ExitStore count) = plain (ExitStore count) (exit-store-ordinary sight count)
-  seen-ends o ExitGoIn = plain ExitGoIn (go-in-ordinary thread sight ToTell (tell-again-ordinary sight))
-  seen-ends o ExitTest = plain ExitTest (exit-test-ordinary sight)
-  seen-ends o ExitTell = plain ExitTell (holder-ordinary thread sight _ (exit-tell-ordinary sight))
-  seen-ends o ExitLeave = plain ExitLeave (holder-ordinary thread sight _ (exit-leave-ordinary sight))
-  seen-ends o WaitLook = owner-ends thread sight (owner-seen sight) _ (λ same. wait-ordinary sight (sight .word) (owned-word same))
-  seen-ends o WaitCancel = plain WaitCancel (cancel-ordinary sight WaitLook (sight .word))
-  seen-ends o WaitGoIn = plain WaitGoIn (go-in-ordinary thread sight ToInflate (inflate-again-ordinary sight))
-  seen-ends o WaitInflate = plain WaitInflate (holder-ordinary thread sight _ (wait-inflate-ordinary thread sight (sight .word)))
-  seen-ends o WaitGiveUp = plain WaitGiveUp (holder-ordinary thread sight _ (wait-give-up-ordinary sight (sight .word)))
-  seen-ends o (WaitResume suspension) =
-      plain (WaitResume suspension) (holder-ordinary thread sight _ (wait-resume-ordinary sight suspension (sight .word)))
-  seen-ends o NotifyLook = owner-ends thread sight (owner-seen sight) _ (λ same. notify-ordinary sight (sight .word) (owned-word same))
-  seen-ends o NotifyAllLook = owner-ends thread sight (owner-seen sight) _ (λ same. notify-all-ordinary sight (sight .word) (owned-word same))
+  seen-ends o EnterCheck = plain EnterCheck (held _ (by-word (enter-check thread sight) (search either-ordinary)))
+  seen-ends o EnterTry = plain EnterTry (held _ (by-word (enter-try thread sight) (search either-ordinary)))
+  seen-ends o ExitLook = by-owned (exit-owned sight) (search either-ordinary)
+  seen-ends o (ExitStore count) = plain (ExitStore count) (search either-ordinary)
+  seen-ends o ExitGoIn = plain ExitGoIn (search either-ordinary)
+  seen-ends o ExitTest = plain ExitTest (search either-ordinary)
+  seen-ends o ExitTell = plain ExitTell (search either-ordinary)
+  seen-ends o ExitLeave = plain ExitLeave (search either-ordinary)
+  seen-ends o WaitLook = by-owned (wait-owned sight) (search)
+  seen-ends o WaitCancel = plain WaitCancel (by-word (cancel sight WaitLook) (search))
+  seen-ends o WaitGoIn = plain WaitGoIn (search either-ordinary)
+  seen-ends o WaitInflate = plain WaitInflate (held _ (by-word (wait-inflate thread sight) (search either-ordinary)))
+  seen-ends o WaitGiveUp = plain WaitGiveUp (held _ (by-word (wait-give-up sight) (search either-ordinary)))
+  seen-ends o (WaitResume suspension) = plain (WaitResume suspension) (held _ (by-word (wait-resume sight suspension) (search either-ordinary)))
+  seen-ends o NotifyLook = by-owned (notify-owned sight) (search either-ordinary)
+  seen-ends o NotifyAllLook = by-owned (notify-all-owned sight) (search)
 
   pub decide-ends : (o : ℕ) (doing : Doing) → Decided o (ownership-in (Valid word) (object .monitor) .thread) doing
   decide-ends o doing = rw (owner-is word (object .monitor)) (seen-ends o doing)

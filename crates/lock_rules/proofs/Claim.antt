@@ -8,14 +8,11 @@ use lib.Dec.{T, eqb}
 use Rattle.laws.specs.Choice.{pick}
 use Rattle.laws.proofs.Choice.{Equal, equal}
 use Rattle.lock_rules.specs.Numbers.{phase-of-doing}
-use Rattle.lock_rules.specs.Rules.{onward}
+use Rattle.lock_rules.proofs.Each.{each-doing, each-state}
 use Rattle.lock_rules.proofs.Status.{is-woken, parked-for-entry, unparked, unfinished}
 use Rattle.lock_rules.specs.declared.Doing.{Doing}
-use Rattle.lock_rules.specs.declared.Doing.the-variants.{EnterLook, EnterStore, EnterCancel, EnterGoIn, EnterCheck, EnterTry, ExitLook, ExitStore}
-use Rattle.lock_rules.specs.declared.Doing.the-variants.{ExitGoIn, ExitTest, ExitTell, ExitLeave, WaitLook, WaitCancel, WaitGoIn, WaitInflate}
-use Rattle.lock_rules.specs.declared.Doing.the-variants.{WaitGiveUp, WaitResume, NotifyLook, NotifyAllLook}
 use Rattle.lock_rules.specs.declared.ThreadState.{ThreadState}
-use Rattle.lock_rules.specs.declared.ThreadState.the-variants.{Idle, Running, Queued, Contending, Waiting}
+use Rattle.lock_rules.specs.declared.ThreadState.the-variants.{Idle}
 use Rattle.lock_rules.specs.declared.event.Event.{Event}
 use Rattle.lock_rules.specs.Events.{woken}
 use Rattle.lock_rules.specs.PlainMonitor.{PlainMonitor}
@@ -52,33 +49,10 @@ Demand =
     → Claim (final threads objects (fresh reserved) events) (feed-all blank (shown threads objects (fresh reserved) events))
 
 woken-doing : (doing : Doing) → woken? (phase-row doing .saved) ≡ eqb (phase-of-doing doing) 15
-woken-doing EnterLook = refl
-woken-doing (EnterStore c) = refl
-woken-doing EnterCancel = refl
-woken-doing EnterGoIn = refl
-woken-doing EnterCheck = refl
-woken-doing EnterTry = refl
-woken-doing ExitLook = refl
-woken-doing (ExitStore c) = refl
-woken-doing ExitGoIn = refl
-woken-doing ExitTest = refl
-woken-doing ExitTell = refl
-woken-doing ExitLeave = refl
-woken-doing WaitLook = refl
-woken-doing WaitCancel = refl
-woken-doing WaitGoIn = refl
-woken-doing WaitInflate = refl
-woken-doing WaitGiveUp = refl
-woken-doing (WaitResume saved) = refl
-woken-doing NotifyLook = refl
-woken-doing NotifyAllLook = refl
+woken-doing = each-doing _ (search)
 
 woken-state : (state : ThreadState) → state-woken? state ≡ is-woken state
-woken-state Idle = refl
-woken-state (Running doing) = woken-doing doing
-woken-state (Queued carried) = woken-doing (onward carried)
-woken-state Contending = refl
-woken-state (Waiting saved) = refl
+woken-state = each-state _ (search woken-doing)
 
 pub world-claim : (table : ListTable) (plain : Plain) → World table plain → Claim table plain
 world-claim table plain world =

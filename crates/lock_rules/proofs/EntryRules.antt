@@ -25,6 +25,7 @@ use Rattle.lock_word.specs.declared.meaning.WordSeen.the-variants.{Free, Anonym
 use Rattle.lock_rules.specs.declared.ChainWork.the-variants.{Join}
 use Rattle.lock_rules.specs.declared.Answer.the-variants.{GoneOn, Finished, Parked, TooDeep}
 use Rattle.lock_rules.specs.PlainMonitor.{owned-by, finished, commit}
+use Rattle.lock_rules.proofs.Each.{each-word}
 use Rattle.lock_rules.proofs.Commits.{commit-enter, commit-enter-again, commit-too-deep}
 use Rattle.lock_rules.proofs.Objects.{ListObject, with-word, with-flag, with-holder, with-entry, sight-of, object-owner}
 use Rattle.lock_rules.proofs.Perform.{enter-queue, count-join}
@@ -160,11 +161,9 @@ module _ (actor : Actor) where
       go-in-refines o ExitGoIn ToTell step refl refl refl refl refl (λ e. step .self .relies) (λ e. step .self .relies) (λ q. absurd (step .self .seated .0 q))
 
   flat-shallow : (word : WordSeen) (holder depth : ℕ) → FlatOf (actor .thread) word → MonitorOk word holder depth → depth ≡ 0
-  flat-shallow Free holder depth o m = absurd o
-  flat-shallow Anonymous holder depth o m = absurd o
-  flat-shallow Fat holder depth o m = absurd o
-  flat-shallow (Flat owner c) holder depth o m = m .0
-  flat-shallow (Reserved owner c) holder depth o m = absurd o
+  flat-shallow word holder depth =
+      each-word (λ w. FlatOf (actor .thread) w → MonitorOk w holder depth → depth ≡ 0)
+      (λ f. absurd f, λ f. absurd f, λ f. absurd f, λ owner c f m. m .0, λ owner c f. absurd f) word
 
   pub wait-go-in-refines : (o : ListObject) → Stepping actor WaitGoIn o → Right actor Wait o (go-in (actor .thread) (sight-of o) ToInflate)
   wait-go-in-refines o step =
@@ -200,11 +199,7 @@ module _ (actor : Actor) where
       })
     where
       up : (word : WordSeen) → NotOwn (actor .thread) word → FlagOk word true (o .contention)
-      up Free x = λ e. absurd (true≢false e)
-      up Anonymous x = absurd x
-      up Fat x = absurd x
-      up (Flat owner c) x = λ e. absurd (true≢false e)
-      up (Reserved owner c) x = absurd x
+      up = each-word _ (λ x e. absurd (true≢false e), λ x. absurd x, λ x. absurd x, λ owner c x e. absurd (true≢false e), λ owner c x. absurd x)
 
   -- an enter ends by inflating
   enter-inflates : (o : ListObject) (new : ℕ) (doing : Doing)

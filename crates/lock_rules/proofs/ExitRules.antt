@@ -14,6 +14,7 @@ use Rattle.laws.proofs.Count.{count-none, count-same}
 use Rattle.chains.specs.declared.named.Chain.{Chain}
 use Rattle.lock_rules.specs.Actions.{go-on}
 use Rattle.lock_rules.specs.Rules.{onward, exit-test, exit-tell, exit-leave}
+use Rattle.lock_rules.proofs.Each.{each-word}
 use Rattle.lock_rules.proofs.Changes.{handed, moved}
 use Rattle.lock_rules.specs.Operations.{Exit}
 use Rattle.lock_rules.specs.declared.Carried.{Carried}
@@ -164,11 +165,8 @@ module _ (actor : Actor) where
   unstranded-handed : (it : ListObject) (word : WordSeen) → let o = with-word it word in
       Stepping actor ExitLeave o
       → Unstranded word (update (handed-states (actor .states) o) (actor .thread) Idle) (first-of (it .entry)) (left First (it .entry)) (it .contention)
-  unstranded-handed it Free step = told-handed it (it .entry) step
-  unstranded-handed it Anonymous step = tt
-  unstranded-handed it Fat step = tt
-  unstranded-handed it (Flat owner c) step = tt
-  unstranded-handed it (Reserved owner c) step = tt
+  unstranded-handed it =
+      each-word _ (told-handed it (it .entry), search, search, search, search)
 
   pub exit-leave-refines : (o : ListObject) → Stepping actor ExitLeave o → Right actor Exit o (exit-leave (sight-of o))
   unfolding exit-leave

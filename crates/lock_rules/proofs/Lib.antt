@@ -1,4 +1,5 @@
 -- Proof devices: tables with chains as lists, the invariant that every event keeps, demand 3 over these tables, and that a sound one stays sound.
+pub mod Each
 pub mod Changes
 pub mod Status
 pub mod Commits

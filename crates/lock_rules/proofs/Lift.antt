@@ -14,7 +14,6 @@ use Rattle.laws.proofs.Update.{update-same, update-other, update-map}
 use Rattle.laws.proofs.Count.{count-none}
 use Rattle.lock_rules.specs.Rules.{begun}
 use Rattle.lock_rules.specs.Operations.{Operation}
-use Rattle.lock_rules.specs.Operations.{Enter, Exit, Wait, Notify, NotifyAll}
 use Rattle.lock_rules.specs.Operations.{Known}
 use Rattle.lock_rules.specs.declared.Suspension.{Suspension}
 use Rattle.lock_rules.specs.declared.Doing.{Doing}
@@ -28,6 +27,7 @@ use Rattle.lock_rules.specs.declared.event.Event.the-variants.{Begin, St
 use Rattle.lock_rules.specs.Events.{Refused}
 use Rattle.lock_rules.specs.PlainMonitor.{PlainMonitor, Committed, unowned, commit}
 use Rattle.lock_rules.specs.Feed.{OperationLog, Plain, new-log, log-after, fed-step, fed-begin, feed, feed-all, blank, EndsRight, AllEndRight}
+use Rattle.lock_rules.proofs.Each.{each-operation}
 use Rattle.lock_rules.proofs.Objects.{ListObject, empty}
 use Rattle.lock_rules.proofs.Perform.{Performed}
 use Rattle.lock_rules.proofs.Turns.{by-event}
@@ -64,53 +64,11 @@ inv-log t states o ghost log inv e = record { threads = λ u. at u (equal? u t);
 first-phase : (operation : Operation) (t object : ℕ) (o : ListObject) (log : OperationLog) (woken : Bool) (suspension : Suspension)
     → ThreadOk t Idle o log woken suspension
     → ThreadOk t (Running (begun operation)) o (new-log operation object) woken suspension
-first-phase Enter t object o log woken suspension a = record {
-  seated = a .seated;
-  placed = a .placed;
-  relies = tt;
-  logged = (refl, refl);
-  saved = tt;
-  woken = a .woken;
-}
-first-phase Exit t object o log woken suspension a = record {
-  seated = a .seated;
-  placed = a .placed;
-  relies = tt;
-  logged = (refl, refl);
-  saved = tt;
-  woken = a .woken;
-}
-first-phase Wait t object o log woken suspension a = record {
-  seated = a .seated;
-  placed = a .placed;
-  relies = tt;
-  logged = (refl, refl);
-  saved = tt;
-  woken = a .woken;
-}
-first-phase Notify t object o log woken suspension a = record {
-  seated = a .seated;
-  placed = a .placed;
-  relies = tt;
-  logged = (refl, refl);
-  saved = tt;
-  woken = a .woken;
-}
-first-phase NotifyAll t object o log woken suspension a = record {
-  seated = a .seated;
-  placed = a .placed;
-  relies = tt;
-  logged = (refl, refl);
-  saved = tt;
-  woken = a .woken;
-}
+first-phase operation t object o log woken suspension a =
+    each-operation (λ asked. ThreadOk t (Running (begun asked)) o (new-log asked object) woken suspension) (search) operation
 
 first-stays : (operation : Operation) → T (leaving? (phase-row (begun operation) .seat)) → ⊥
-first-stays Enter k = k
-first-stays Exit k = k
-first-stays Wait k = k
-first-stays Notify k = k
-first-stays NotifyAll k = k
+first-stays = each-operation _ (search)
 
 inv-begin : (operation : Operation) (t object : ℕ) (states : ℕ → ThreadState) (o : ListObject) (ghost : Ghost) → t ≢ 0 → Invariant states o ghost
     → states t ≡ Idle

@@ -14,7 +14,8 @@ use Rattle.laws.proofs.Choice.{equal?, Equal, equal}
 use Rattle.laws.proofs.Count.{distinct-within}
 use Rattle.chains.specs.declared.named.Chain.{Chain}
 use Rattle.lock_rules.specs.declared.ThreadState.{ThreadState}
-use Rattle.lock_rules.specs.declared.ThreadState.the-variants.{Idle, Running, Queued, Contending, Waiting}
+use Rattle.lock_rules.specs.declared.ThreadState.the-variants.{Idle}
+use Rattle.lock_rules.proofs.Each.{each-state, each-chain}
 use Rattle.lock_rules.proofs.Objects.{ListObject, chain-of}
 use Rattle.lock_rules.proofs.Tables.{ListThread, ListTable, seen-from, states-at, seen-idle}
 use Rattle.lock_rules.proofs.Invariant.{in-entry, in-contention, in-waiting, Placed}
@@ -33,26 +34,10 @@ placed-in Chain.Contention t state o p = p .contention
 placed-in Chain.Waiting t state o p = p .waiting
 
 idle-out : (chain : Chain) → times-in chain Idle ≡ 0
-idle-out Chain.Entry = refl
-idle-out Chain.Contention = refl
-idle-out Chain.Waiting = refl
+idle-out = each-chain _ (search)
 
 once : (chain : Chain) (state : ThreadState) → times-in chain state ≤ 1
-once Chain.Entry Idle = omega arith
-once Chain.Entry (Running doing) = omega arith
-once Chain.Entry (Queued carried) = omega arith
-once Chain.Entry Contending = omega arith
-once Chain.Entry (Waiting saved) = omega arith
-once Chain.Contention Idle = omega arith
-once Chain.Contention (Running doing) = omega arith
-once Chain.Contention (Queued carried) = omega arith
-once Chain.Contention Contending = omega arith
-once Chain.Contention (Waiting saved) = omega arith
-once Chain.Waiting Idle = omega arith
-once Chain.Waiting (Running doing) = omega arith
-once Chain.Waiting (Queued carried) = omega arith
-once Chain.Waiting Contending = omega arith
-once Chain.Waiting (Waiting saved) = omega arith
+once = each-chain _ (each-state _ (search arith), each-state _ (search arith), each-state _ (search arith))
 
 -- a thread is seen idle from o, or is at o
 pub seen-or-at : (o : ℕ) (thread : ListThread) → (seen-from o thread ≡ Idle) ⊎ (thread .object ≡ o)

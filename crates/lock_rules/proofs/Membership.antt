@@ -12,11 +12,12 @@ use Rattle.lock_rules.proofs.Changes.{sent-back}
 use Rattle.lock_rules.specs.declared.Suspension.{Suspension}
 use Rattle.lock_rules.specs.declared.Carried.{Carried}
 use Rattle.lock_rules.specs.declared.ThreadState.{ThreadState}
-use Rattle.lock_rules.specs.declared.ThreadState.the-variants.{Idle, Running, Queued, Contending, Waiting}
+use Rattle.lock_rules.specs.declared.ThreadState.the-variants.{Queued, Contending, Waiting}
 use Rattle.lock_rules.specs.declared.Taken.{Taken}
 use Rattle.lock_rules.specs.declared.Taken.the-variants.{First}
 use Rattle.lock_rules.specs.declared.ChainWork.{ChainWork}
 use Rattle.lock_rules.specs.declared.ChainWork.the-variants.{Stay, Join, JoinAndHand, Hand, Move, SendBack}
+use Rattle.lock_rules.proofs.Each.{each-state}
 use Rattle.lock_rules.proofs.Objects.{ListObject, chain-of}
 use Rattle.lock_rules.proofs.Perform.{count-entered-all, count-join, taken, left, count-taken, first-of, changed-states, joined-object}
 use Rattle.lock_rules.proofs.Perform.{handed-object, handed-states, moved-object, moved-states, states-after, object-after}
@@ -37,11 +38,7 @@ not-first t first rest out = at (equal? t first)
 -- going back from a store moves nobody
 pub placed-sent-back : {t : ℕ} {entry contention waiting : List ℕ} (state : ThreadState) → Placed state t entry contention waiting
     → Placed (sent-back state) t entry contention waiting
-placed-sent-back Idle p = p
-placed-sent-back (Running doing) p = p
-placed-sent-back (Queued carried) p = p
-placed-sent-back Contending p = p
-placed-sent-back (Waiting suspension) p = p
+placed-sent-back = each-state _ (search)
 
 -- the chains of an object, and where a thread in a state is in them
 abbrev pub PlacedAt : ℕ → ThreadState → ListObject → Type 0

@@ -12,10 +12,10 @@ use Rattle.laws.proofs.Update.{update-same, update-other}
 use Rattle.laws.proofs.Count.{count-none, count-same, count-other}
 use Rattle.chains.specs.declared.named.Chain.{Chain}
 use Rattle.lock_rules.specs.Rules.{onward}
+use Rattle.lock_rules.proofs.Each.{each-state, each-carried, each-chain}
 use Rattle.lock_rules.proofs.Changes.{sent-back}
 use Rattle.lock_rules.specs.declared.Suspension.{Suspension}
 use Rattle.lock_rules.specs.declared.Carried.{Carried}
-use Rattle.lock_rules.specs.declared.Carried.the-variants.{ToCheck, ToTell, ToInflate, ToResume}
 use Rattle.lock_rules.specs.declared.ThreadState.{ThreadState}
 use Rattle.lock_rules.specs.declared.ThreadState.the-variants.{Idle, Running, Queued, Contending, Waiting}
 use Rattle.lock_rules.specs.declared.Taken.{Taken}
@@ -62,17 +62,11 @@ abbrev pub inflated : ListObject → ℕ → ListObject
 inflated o depth = with-depth (with-flag (with-word (moved-object Chain.Contention All o) Fat) false) depth
 
 -- a queued thread that is handed the monitor
-handed-ok : (carried : Carried) (t : ℕ) (o : ListObject) (log : OperationLog) (woken : Bool) (suspension : Suspension) → t ≢ 0 → first-of (o .entry) ≡ t
+handed-ok : (t : ℕ) (o : ListObject) (log : OperationLog) (woken : Bool) (suspension : Suspension) → t ≢ 0 → first-of (o .entry) ≡ t → (carried : Carried)
     → ThreadOk t (Queued carried) o log woken suspension → PlacedAt t (Running (onward carried)) (handed-object o)
     → ThreadOk t (Running (onward carried)) (handed-object o) log woken suspension
-handed-ok ToCheck t o log woken suspension real first a placed =
-    record { seated = (first, refl, real); placed = placed; relies = a .relies; logged = a .logged; saved = a .saved; woken = a .woken }
-handed-ok ToTell t o log woken suspension real first a placed =
-    record { seated = (first, refl, real); placed = placed; relies = a .relies; logged = a .logged; saved = a .saved; woken = a .woken }
-handed-ok ToInflate t o log woken suspension real first a placed =
-    record { seated = (first, refl, real); placed = placed; relies = a .relies; logged = a .logged; saved = a .saved; woken = a .woken }
-handed-ok (ToResume saved) t o log woken suspension real first a placed =
-    record { seated = (first, refl, real); placed = placed; relies = (a .relies, first, real); logged = a .logged; saved = a .saved; woken = a .woken }
+handed-ok t o log woken suspension real first =
+    each-carried _ (λ a placed. search, λ a placed. search, λ a placed. search, λ saved a placed. search)
 
 -- moving from the waiting chain wakes
 abbrev wakes : Chain → Bool
@@ -107,13 +101,10 @@ module _ (thread : ℕ) (states : ℕ → ThreadState) (o : ListObject) (ghost :
 
   -- the thread joins a chain
   pub others-joined : (chain : Chain) → Others thread states o ghost → Others thread states (joined-object chain thread o) ghost
-  others-joined chain others t n = at chain (others t n) (members-joined thread states o (places others) chain t n)
-    where
-      at : (chain : Chain) → ThreadOk t (states t) o (ghost .logs t) (ghost .woken t) (ghost .saved t) → PlacedAt t (states t) (joined-object chain thread o)
-          → ThreadOk t (states t) (joined-object chain thread o) (ghost .logs t) (ghost .woken t) (ghost .saved t)
-      at Chain.Entry a placed = beside a (a .seated) placed (a .relies)
-      at Chain.Contention a placed = beside a (a .seated) placed (a .relies)
-      at Chain.Waiting a placed = beside a (a .seated) placed (a .relies)
+  others-joined chain others t n =
+      let a = others t n in
+      each-chain (λ c. PlacedAt t (states t) (joined-object c thread o) → ThreadOk t (states t) (joined-object c thread o) (ghost .logs t) (ghost .woken t) (ghost .saved t))
+      (search beside) chain (members-joined thread states o (places others) chain t n)
 
   -- what the plain monitor knows of the others stays
   pub others-ghost : (woken : ℕ → Bool) (saved : ℕ → Suspension) → ((t : ℕ) → t ≢ thread → woken t ≡ ghost .woken t)
@@ -139,7 +130,7 @@ module _ (thread : ℕ) (states : ℕ → ThreadState) (o : ListObject) (ghost :
       at (suc k) e a =
           let ((carried, v), c) = was-in t (states t) o (a .placed) Chain.Entry First k e in
           let b : ThreadOk t (Queued carried) o (ghost .logs t) (ghost .woken t) (ghost .saved t) = rw v at a in
-          rw (e, v) (handed-ok carried t o (ghost .logs t) (ghost .woken t) (ghost .saved t) (b .seated .1) (first-taken (o .entry) t k e) b)
+          rw (e, v) (handed-ok t o (ghost .logs t) (ghost .woken t) (ghost .saved t) (b .seated .1) (first-taken (o .entry) t k e) carried b)
 
   -- threads of a chain move to the entry chain; waiters are woken
   pub others-moved : (from : Chain) (which : Taken) → Others thread states o ghost
@@ -191,26 +182,26 @@ module _ (thread : ℕ) (states : ℕ → ThreadState) (o : ListObject) (ghost :
       (a .relies))
 
 -- the thread for which the word was reserved, after a cancel
-sent-back-ok : (state : ThreadState) (t c : ℕ) (it : ListObject) (word′ : WordSeen) (log : OperationLog) (woken : Bool) (suspension : Suspension)
+sent-back-ok : (t c : ℕ) (it : ListObject) (word′ : WordSeen) (log : OperationLog) (woken : Bool) (suspension : Suspension) (state : ThreadState)
     → ThreadOk t state (with-word it (Reserved t c)) log woken suspension
     → ThreadOk t (sent-back state) (with-word it word′) log woken suspension
-sent-back-ok Idle t c it word′ log woken suspension a = beside a (a .seated) (a .placed) tt
-sent-back-ok (Running doing) t c it word′ log woken suspension a =
-    let (same-operation, same-seat, same-stage, same-saved) = sent-back-row doing in
-    record {
-      seated = rw same-seat (a .seated);
-      placed = a .placed;
-      relies = relies-sent-back doing t c word′ (it .flag) (it .holder) (a .relies);
-      logged = rw (same-operation, same-stage) (a .logged);
-      saved = rw same-saved (a .saved);
-      woken = rw same-saved (a .woken);
-    }
-sent-back-ok (Queued ToCheck) t c it word′ log woken suspension a = absurd (a .relies)
-sent-back-ok (Queued ToTell) t c it word′ log woken suspension a = absurd (a .relies)
-sent-back-ok (Queued ToInflate) t c it word′ log woken suspension a = absurd (a .relies)
-sent-back-ok (Queued (ToResume saved)) t c it word′ log woken suspension a = absurd (a .relies)
-sent-back-ok Contending t c it word′ log woken suspension a = absurd (a .relies)
-sent-back-ok (Waiting saved) t c it word′ log woken suspension a = absurd (a .relies)
+sent-back-ok t c it word′ log woken suspension =
+    each-state _ (
+      λ a. beside a (a .seated) (a .placed) tt,
+      λ doing a.
+          (let (same-operation, same-seat, same-stage, same-saved) = sent-back-row doing in
+          record {
+            seated = rw same-seat (a .seated);
+            placed = a .placed;
+            relies = relies-sent-back t c word′ (it .flag) (it .holder) doing (a .relies);
+            logged = rw (same-operation, same-stage) (a .logged);
+            saved = rw same-saved (a .saved);
+            woken = rw same-saved (a .woken);
+          }),
+      each-carried _ (λ a. absurd (a .relies), λ a. absurd (a .relies), λ a. absurd (a .relies), λ saved a. absurd (a .relies)),
+      λ a. absurd (a .relies),
+      λ saved a. absurd (a .relies),
+    )
 
 pub others-cancelled : (thread : ℕ) (states : ℕ → ThreadState) (ghost : Ghost) (it : ListObject) (u c : ℕ) (word′ : WordSeen)
     → Others thread states (with-word it (Reserved u c)) ghost
@@ -222,7 +213,7 @@ others-cancelled thread states ghost it u c word′ others t x = at (equal? t u)
     at (inl q) a =
         let here : count t (u ∷ []) ≡ 1 = rw q (count-same u [] ∙ ap suc (count-none u)) in
         rw here
-        (sent-back-ok (states t) t c it word′ _ _ _
+        (sent-back-ok t c it word′ _ _ _ (states t)
         (subst (λ (owner : ℕ). ThreadOk t (states t) (with-word it (Reserved owner c)) (ghost .logs t) (ghost .woken t) (ghost .saved t)) (sym q) a))
     at (inr p) a =
         rw (count-other t u [] p ∙ count-none t)

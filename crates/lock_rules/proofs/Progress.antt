@@ -8,6 +8,7 @@ use lib.Dec.{T}
 use Rattle.laws.specs.Count.{count}
 use Rattle.laws.proofs.Count.{count-none}
 use Rattle.lock_word.specs.Meaning.{owner-of}
+use Rattle.lock_rules.proofs.Each.{each-state}
 use Rattle.lock_rules.proofs.Status.{parked-for-entry, unparked, unfinished}
 use Rattle.lock_rules.specs.declared.ThreadState.{ThreadState}
 use Rattle.lock_rules.specs.declared.ThreadState.the-variants.{Idle, Running, Queued, Contending, Waiting}
@@ -18,11 +19,7 @@ use Rattle.lock_rules.proofs.Invariant.{seat, telling?, Seated, NotOwn,
 use Rattle.lock_rules.proofs.SharedFacts.{fat-owner}
 
 telling-runs : (state : ThreadState) → T (telling? (seat state)) → T (unparked state) × T (unfinished state)
-telling-runs Idle k = absurd k
-telling-runs (Running doing) k = (tt, tt)
-telling-runs (Queued carried) k = absurd k
-telling-runs Contending k = absurd k
-telling-runs (Waiting suspension) k = absurd k
+telling-runs = each-state _ (search)
 
 deep-owner : (word : WordSeen) (holder depth : ℕ) → MonitorOk word holder depth → 0 < depth → owner-of word holder depth ≡ holder
 deep-owner Free holder depth m l = absurd (omega (arith, m, l))

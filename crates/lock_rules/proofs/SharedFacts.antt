@@ -21,80 +21,38 @@ use Rattle.lock_rules.specs.declared.ThreadState.the-variants.{Idle}
 use Rattle.lock_word.specs.declared.meaning.WordSeen.{WordSeen}
 use Rattle.lock_word.specs.declared.meaning.WordSeen.the-variants.{Free, Anonymous, Fat, Flat, Reserved}
 use Rattle.lock_rules.specs.PlainMonitor.{PlainMonitor, above-zero}
+use Rattle.lock_rules.proofs.Each.{each-word}
 use Rattle.lock_rules.proofs.Objects.{ListObject}
 use Rattle.lock_rules.proofs.Perform.{enter-queue, entered≢nil, changed-states}
-use Rattle.lock_rules.proofs.Invariant.{unreserved, seat, telling?, leaving?, in-entry, in-waiting, Ghost}
-use Rattle.lock_rules.proofs.Invariant.{MonitorOk, FlagOk, Told, Unstranded, Invariant}
+use Rattle.lock_rules.proofs.Invariant.{seat, telling?, leaving?, in-entry, in-waiting, Ghost}
+use Rattle.lock_rules.proofs.Invariant.{FlatOf, KeptWord, MonitorOk, FlagOk, Told, Unstranded, Invariant}
 use Rattle.lock_rules.proofs.Reliances.{KeepsReliance}
 
 -- what a new word owes to another thread t than the one that steps
 module _ (state : ThreadState) (thread t holder : ℕ) (n : t ≢ thread) where
+  other : {A : Type 0} {owner : ℕ} → owner ≡ thread → owner ≡ t → A
+  other q e = absurd (n (sym e ∙ q))
+
   pub keeps-taken : (c : ℕ) → KeepsReliance state t Free (Flat thread c) holder
-  keeps-taken c =
-      record {
-        unreserved = λ a. tt;
-        flat = λ a. absurd a;
-        chained = λ l a. absurd a;
-        held = λ e a. absurd a;
-        not-own = λ a k. n (sym k);
-        kept = λ c a. absurd a;
-      }
+  keeps-taken c = search (absurd, sym)
 
   pub keeps-flat : (owner c d : ℕ) → owner ≡ thread → KeepsReliance state t (Flat owner c) (Flat thread d) holder
   keeps-flat owner c d q =
-      record {
-        unreserved = λ a. tt;
-        flat = λ a. absurd (n (sym a ∙ q));
-        chained = λ l a. absurd a;
-        held = λ e a. absurd a;
-        not-own = λ a k. n (sym k);
-        kept = λ c a. absurd a;
-      }
+      let flat : FlatOf t (Flat owner c) → FlatOf t (Flat thread d) = λ a. other q a in search (flat, sym)
 
   pub keeps-freed : (owner c : ℕ) → owner ≡ thread → KeepsReliance state t (Flat owner c) Free holder
-  keeps-freed owner c q =
-      record {
-        unreserved = λ a. tt;
-        flat = λ a. absurd (n (sym a ∙ q));
-        chained = λ l a. absurd a;
-        held = λ e a. absurd a;
-        not-own = λ a. tt;
-        kept = λ c a. absurd a;
-      }
+  keeps-freed owner c q = search (other)
 
   pub keeps-anonymous : (word : WordSeen) → KeepsReliance state t Anonymous word holder
-  keeps-anonymous word =
-      record {
-        unreserved = λ a. absurd a;
-        flat = λ a. absurd a;
-        chained = λ l a. absurd a;
-        held = λ e a. absurd a;
-        not-own = λ a. absurd a;
-        kept = λ c a. absurd a;
-      }
+  keeps-anonymous word = search absurd
 
   pub keeps-reserved : (owner c d : ℕ) → owner ≡ thread → KeepsReliance state t (Reserved owner c) (Reserved thread d) holder
   keeps-reserved owner c d q =
-      record {
-        unreserved = λ a. absurd a;
-        flat = λ a. absurd a;
-        chained = λ l a. absurd a;
-        held = λ e a. absurd a;
-        not-own = λ a. absurd a;
-        kept = λ c a. absurd (n (sym (a .0) ∙ q));
-      }
+      let kept : (e : ℕ) → KeptWord t e (Reserved owner c) → KeptWord t e (Reserved thread d) = λ e a. other q (a .0) in search kept
 
   -- a monitor that its holder leaves, with nobody in a chain
   pub keeps-deflated : holder ≡ thread → in-entry state ≡ 0 → in-waiting state ≡ 0 → KeepsReliance state t Fat Free holder
-  keeps-deflated q x y =
-      record {
-        unreserved = λ a. tt;
-        flat = λ a. absurd a;
-        chained = λ l a. absurd (omega (arith, l, x, y));
-        held = λ e a. absurd (n (sym e ∙ q));
-        not-own = λ a. absurd a;
-        kept = λ c a. absurd a;
-      }
+  keeps-deflated q x y = search (absurd, other, arith)
 
 -- the contenders of a free word, when the thread goes from one state to another
 told-moved : (states : ℕ → ThreadState) (thread : ℕ) (old new : ThreadState) (holder : ℕ) (entry : List ℕ) → states thread ≡ old
@@ -115,19 +73,13 @@ pub unstranded-moved : (word : WordSeen) (states : ℕ → ThreadState) (thread 
     → states thread ≡ old
     → (T (telling? (seat old)) → T (telling? (seat new))) → (T (leaving? (seat new)) → holder ≡ thread → entry ≢ [])
     → Unstranded word states holder entry contention → Unstranded word (update states thread new) holder entry contention
-unstranded-moved Free states thread old new holder entry contention e keep last r = λ c. told-moved states thread old new holder entry e keep last (r c)
-unstranded-moved Anonymous states thread old new holder entry contention e keep last r = tt
-unstranded-moved Fat states thread old new holder entry contention e keep last r = tt
-unstranded-moved (Flat owner c) states thread old new holder entry contention e keep last r = tt
-unstranded-moved (Reserved owner c) states thread old new holder entry contention e keep last r = tt
+unstranded-moved word states thread old new holder entry contention e keep last =
+    each-word (λ w. Unstranded w states holder entry contention → Unstranded w (update states thread new) holder entry contention)
+    (λ r c. told-moved states thread old new holder entry e keep last (r c), search, search, search, search) word
 
 pub unstranded-told : (word : WordSeen) (states : ℕ → ThreadState) (holder : ℕ) (entry contention : List ℕ) → (contention ≢ [] → Told states holder entry)
     → Unstranded word states holder entry contention
-unstranded-told Free states holder entry contention told = told
-unstranded-told Anonymous states holder entry contention told = tt
-unstranded-told Fat states holder entry contention told = tt
-unstranded-told (Flat owner c) states holder entry contention told = tt
-unstranded-told (Reserved owner c) states holder entry contention told = tt
+unstranded-told word states holder entry contention = each-word (λ w. (contention ≢ [] → Told states holder entry) → Unstranded w states holder entry contention) (search) word
 
 -- nobody contends; the thread holds the monitor and does not leave; somebody has just joined entry
 pub unstranded-empty : (word : WordSeen) (states : ℕ → ThreadState) (holder : ℕ) (entry contention : List ℕ) → contention ≡ []
@@ -145,11 +97,7 @@ unstranded-joined word states first holder entry contention z =
     unstranded-told word states holder (enter-queue entry first) contention (λ c. inr (z, λ k. entered≢nil entry first))
 
 pub flag-down : (word : WordSeen) (contention : List ℕ) → FlagOk word false contention → contention ≡ []
-flag-down Free contention x = x refl
-flag-down Anonymous contention x = x
-flag-down Fat contention x = x .1
-flag-down (Flat owner c) contention x = x refl
-flag-down (Reserved owner c) contention x = x
+flag-down word contention = each-word (λ w. FlagOk w false contention → contention ≡ []) (search, search, λ x. x .1, search, search) word
 
 -- nobody holds the monitor: its depth is 0
 pub unheld : (word : WordSeen) (holder depth : ℕ) → MonitorOk word holder depth → holder ≡ 0 → depth ≡ 0
@@ -161,19 +109,13 @@ unheld (Flat owner c) holder depth m e = m .0
 unheld (Reserved owner c) holder depth m e = m .0
 
 pub monitor-handed : (word : WordSeen) (holder next depth : ℕ) → MonitorOk word holder depth → MonitorOk word next 0
-monitor-handed Free holder next depth m = refl
-monitor-handed Anonymous holder next depth m = refl
-monitor-handed Fat holder next depth m = (omega arith, λ k. absurd (omega arith))
-monitor-handed (Flat owner c) holder next depth m = (refl, m .1, m .2)
-monitor-handed (Reserved owner c) holder next depth m = (refl, m .1, m .2)
+monitor-handed word holder next depth =
+    each-word (λ w. MonitorOk w holder depth → MonitorOk w next 0)
+    (search, search, λ m. (omega arith, λ k. absurd (omega arith)), λ owner c m. (refl, m .1, m .2), λ owner c m. (refl, m .1, m .2)) word
 
 -- who owns: at depth 0 the holder does not matter; a fat word at a depth above 0 has its holder as owner; a reserved word with a count its thread
 pub owner-shallow : (word : WordSeen) (holder next : ℕ) → owner-of word holder 0 ≡ owner-of word next 0
-owner-shallow Free holder next = refl
-owner-shallow Anonymous holder next = refl
-owner-shallow Fat holder next = refl
-owner-shallow (Flat owner c) holder next = refl
-owner-shallow (Reserved owner c) holder next = refl
+owner-shallow word holder next = each-word (λ w. owner-of w holder 0 ≡ owner-of w next 0) (search) word
 
 pub fat-owner : (holder depth : ℕ) → 0 < depth → owner-of Fat holder depth ≡ holder
 fat-owner holder depth l = rw (ne-eqb depth 0 (omega (arith, l)))

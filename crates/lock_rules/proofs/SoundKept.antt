@@ -13,11 +13,11 @@ use Rattle.laws.proofs.Update.{update-same, update-other}
 use Rattle.laws.proofs.Count.{count-none}
 use Rattle.lock_rules.specs.Rules.{begun, decide}
 use Rattle.lock_rules.specs.Operations.{Operation}
-use Rattle.lock_rules.specs.Operations.{Enter, Exit, Wait, Notify, NotifyAll}
 use Rattle.lock_rules.specs.declared.Doing.{Doing}
 use Rattle.lock_rules.specs.declared.ThreadState.{ThreadState}
 use Rattle.lock_rules.specs.declared.ThreadState.the-variants.{Idle, Running}
 use Rattle.lock_rules.specs.declared.event.Event.{Event}
+use Rattle.lock_rules.proofs.Each.{each-operation}
 use Rattle.lock_rules.proofs.Objects.{empty, sight-of}
 use Rattle.lock_rules.proofs.Perform.{Performed}
 use Rattle.lock_rules.proofs.Turns.{by-event}
@@ -35,11 +35,7 @@ seen-fine : (o : ℕ) (thread : ListThread) → StateFine (thread .state) → St
 seen-fine o thread fine = either-way StateFine (eqb (thread .object) o) fine tt
 
 begun-fine : (operation : Operation) → StateFine (Running (begun operation))
-begun-fine Enter = tt
-begun-fine Exit = tt
-begun-fine Wait = tt
-begun-fine Notify = tt
-begun-fine NotifyAll = tt
+begun-fine = each-operation _ (search)
 
 module _ (threads objects : ℕ) (table : ListTable) (sound : SoundTable threads objects table) where
   sound-begin : (operation : Operation) (t o : ℕ) → 1 ≤ t → t ≤ threads → 1 ≤ o → o ≤ objects → table .threads t .state ≡ Idle

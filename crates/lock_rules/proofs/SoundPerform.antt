@@ -16,11 +16,8 @@ use Rattle.chains.specs.declared.named.Chain.{Chain}
 use Rattle.lock_word.specs.Depth.{depth-limit}
 use Rattle.lock_rules.proofs.Changes.{seen-after, handed, moved, look-again, sent-back}
 use Rattle.lock_rules.specs.declared.Doing.{Doing}
-use Rattle.lock_rules.specs.declared.Doing.the-variants.{EnterLook, EnterStore, EnterCancel, EnterGoIn, EnterCheck, EnterTry, ExitLook, ExitStore}
-use Rattle.lock_rules.specs.declared.Doing.the-variants.{ExitGoIn, ExitTest, ExitTell, ExitLeave, WaitLook, WaitCancel, WaitGoIn, WaitInflate}
-use Rattle.lock_rules.specs.declared.Doing.the-variants.{WaitGiveUp, WaitResume, NotifyLook, NotifyAllLook}
 use Rattle.lock_rules.specs.declared.ThreadState.{ThreadState}
-use Rattle.lock_rules.specs.declared.ThreadState.the-variants.{Idle, Running, Queued, Contending, Waiting}
+use Rattle.lock_rules.specs.declared.ThreadState.the-variants.{Idle, Running}
 use Rattle.lock_word.specs.declared.meaning.WordSeen.{WordSeen}
 use Rattle.lock_word.specs.declared.meaning.WordSeen.the-variants.{Free, Anonymous, Fat, Flat, Reserved}
 use Rattle.lock_rules.specs.declared.WordChange.{WordChange}
@@ -32,8 +29,9 @@ use Rattle.lock_rules.specs.declared.ChainWork.the-variants.{Stay, Join,
 use Rattle.lock_rules.specs.declared.Action.{Action}
 use Rattle.lock_rules.specs.declared.Action.the-variants.{Unruled, Do}
 use Rattle.lock_rules.specs.PlainMonitor.{above-zero}
+use Rattle.lock_rules.proofs.Each.{each-doing, each-state, each-chain}
 use Rattle.lock_rules.proofs.Objects.{ListObject, chain-of, empty}
-use Rattle.lock_rules.proofs.Perform.{count-join, taken, left, count-taken, first-of, changed-states, joined-object, handed-object, states-after}
+use Rattle.lock_rules.proofs.Perform.{count-join, taken, left, count-taken, first-of, changed-states, joined-object, handed-object, moved-object, states-after}
 use Rattle.lock_rules.proofs.Perform.{object-after, effected, perform}
 use Rattle.lock_rules.proofs.Invariant.{InChains, Placed}
 use Rattle.lock_rules.proofs.Membership.{PlacedAt, placed-left, placed-unmoved, members-after}
@@ -61,47 +59,16 @@ word-after-fine threads thread real low Inflated word fine valid = tt
 
 -- the other threads' states
 look-again-fine : (doing : Doing) → DoingFine doing → DoingFine (look-again doing)
-look-again-fine EnterLook f = tt
-look-again-fine (EnterStore c) f = tt
-look-again-fine EnterCancel f = tt
-look-again-fine EnterGoIn f = tt
-look-again-fine EnterCheck f = tt
-look-again-fine EnterTry f = tt
-look-again-fine ExitLook f = tt
-look-again-fine (ExitStore c) f = tt
-look-again-fine ExitGoIn f = tt
-look-again-fine ExitTest f = tt
-look-again-fine ExitTell f = tt
-look-again-fine ExitLeave f = tt
-look-again-fine WaitLook f = tt
-look-again-fine WaitCancel f = tt
-look-again-fine WaitGoIn f = tt
-look-again-fine WaitInflate f = tt
-look-again-fine WaitGiveUp f = tt
-look-again-fine (WaitResume saved) f = f
-look-again-fine NotifyLook f = tt
-look-again-fine NotifyAllLook f = tt
+look-again-fine = each-doing _ (search)
 
 sent-back-fine : (state : ThreadState) → StateFine state → StateFine (sent-back state)
-sent-back-fine Idle f = f
-sent-back-fine (Running doing) f = look-again-fine doing f
-sent-back-fine (Queued carried) f = f
-sent-back-fine Contending f = f
-sent-back-fine (Waiting saved) f = f
+sent-back-fine = each-state _ (search look-again-fine)
 
 handed-fine : (state : ThreadState) → StateFine state → StateFine (handed state)
-handed-fine Idle f = f
-handed-fine (Running doing) f = f
-handed-fine (Queued carried) f = f
-handed-fine Contending f = f
-handed-fine (Waiting saved) f = f
+handed-fine = each-state _ (search)
 
 moved-fine : (state : ThreadState) → StateFine state → StateFine (moved state)
-moved-fine Idle f = f
-moved-fine (Running doing) f = f
-moved-fine (Queued carried) f = f
-moved-fine Contending f = tt
-moved-fine (Waiting saved) f = f
+moved-fine = each-state _ (search)
 
 module _ (states : ℕ → ThreadState) (fine : (t : ℕ) → StateFine (states t)) where
   update-fine : (u : ℕ) (state : ThreadState) → StateFine state → (t : ℕ) → StateFine (update states u state t)
@@ -202,18 +169,14 @@ module _ (threads : ℕ) where
       → EntryHeld work was (o .holder) → WordFine threads (o .word) → o .holder ≤ threads → o .depth ≤ depth-limit → (o .holder ≡ 0 → o .depth ≡ 0)
       → WholeFine (object-after work thread o)
   whole-after Stay thread was o members queued held word low deep shallow = (word, low, deep, shallow, λ e. queued (held e))
-  whole-after (Join Chain.Entry) thread was o members queued held word low deep shallow = (word, low, deep, shallow, λ e. absurd (held e))
-  whole-after (Join Chain.Contention) thread was o members queued held word low deep shallow = (word, low, deep, shallow, λ e. absurd (held e))
-  whole-after (Join Chain.Waiting) thread was o members queued held word low deep shallow = (word, low, deep, shallow, λ e. absurd (held e))
+  whole-after (Join chain) thread was o members queued held word low deep shallow =
+      let unheld : (list : List ℕ) → o .holder ≡ 0 → list ≡ [] = λ list e. absurd (held e) in each-chain (λ c. WholeFine (joined-object c thread o)) (search unheld) chain
   whole-after (JoinAndHand Chain.Entry) thread was o members queued held word low deep shallow = absurd held
-  whole-after (JoinAndHand Chain.Contention) thread was o members queued held word low deep shallow =
-      whole-handed o members word
-  whole-after (JoinAndHand Chain.Waiting) thread was o members queued held word low deep shallow =
-      whole-handed o members word
+  whole-after (JoinAndHand Chain.Contention) thread was o members queued held word low deep shallow = whole-handed o members word
+  whole-after (JoinAndHand Chain.Waiting) thread was o members queued held word low deep shallow = whole-handed o members word
   whole-after Hand thread was o members queued held word low deep shallow = whole-handed o members word
-  whole-after (Move Chain.Entry which) thread was o members queued held word low deep shallow = (word, low, deep, shallow, λ e. absurd (held e))
-  whole-after (Move Chain.Contention which) thread was o members queued held word low deep shallow = (word, low, deep, shallow, λ e. absurd (held e))
-  whole-after (Move Chain.Waiting which) thread was o members queued held word low deep shallow = (word, low, deep, shallow, λ e. absurd (held e))
+  whole-after (Move from which) thread was o members queued held word low deep shallow =
+      let unheld : (list : List ℕ) → o .holder ≡ 0 → list ≡ [] = λ list e. absurd (held e) in each-chain (λ c. WholeFine (moved-object c which o)) (search unheld) from
   whole-after (SendBack u) thread was o members queued held word low deep shallow = (word, low, deep, shallow, λ e. queued (held e))
 
 -- a step of `thread` at an object that is sound

@@ -20,13 +20,12 @@ use Rattle.lock_table.specs.Limits.{thread-limit, object-limit}
 use Rattle.lock_table.specs.Phase.{phase-number}
 use Rattle.lock_table.specs.Record.{no-thread, no-object}
 use Rattle.lock_table.specs.Access.{thread-at, object-at, next-of, phase-number-at}
-use Rattle.lock_table.specs.Empty.{empty-object}
 use Rattle.lock_table.specs.Parked.{chain-named, thread-chain, first-in, chain-first}
 use Rattle.lock_table.specs.declared.record.Monitor.{Monitor}
 use Rattle.lock_table.specs.declared.record.Table.{Table}
 use Rattle.lock_table.proofs.Records.{thread-none}
 use Rattle.lock_table.proofs.Walks.{next-none}
-use Rattle.sound_records.specs.Records.{used-object-fits}
+use Rattle.sound_records.specs.Records.{used-object-fits, empty-object}
 use Rattle.sound_records.specs.OnePass.{thread-passes}
 use Rattle.sound_records.proofs.Reading.{Within, ObjectFits, ThreadFits, chain-kinds, parked-busy, no-object-fits, no-thread-fits}
 use Rattle.sound_records.proofs.Reading.{reads-object, reads-thread, reads-names, reads-empty-thread, reads-empty-object}

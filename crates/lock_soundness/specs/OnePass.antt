@@ -11,12 +11,11 @@ use Rattle.chains.specs.Chain.{chain-test}
 use Rattle.lock_table.specs.Limits.{thread-limit, object-limit}
 use Rattle.lock_table.specs.Record.{no-thread}
 use Rattle.lock_table.specs.Access.{thread-at, object-at}
-use Rattle.lock_table.specs.Empty.{empty-object}
 use Rattle.lock_table.specs.declared.record.ThreadRecord.{ThreadRecord}
 use Rattle.lock_table.specs.declared.record.Monitor.{Monitor}
 use Rattle.lock_table.specs.declared.record.ObjectRecord.{ObjectRecord}
 use Rattle.lock_table.specs.declared.record.Table.{Table}
-use Rattle.sound_records.specs.Records.{used-object-fits, names-chain}
+use Rattle.sound_records.specs.Records.{used-object-fits, names-chain, empty-object}
 use Rattle.sound_records.specs.OnePass.{thread-passes}
 use Rattle.lock_soundness.specs.Sound.{sizes-fit}
 

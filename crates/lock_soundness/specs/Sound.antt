@@ -9,14 +9,13 @@ use Rattle.laws.specs.Every.{all-up-to}
 use Rattle.chains.specs.Chain.{chain-test, in-chain}
 use Rattle.lock_table.specs.Limits.{thread-limit, object-limit}
 use Rattle.lock_table.specs.Access.{thread-at, object-at, next-of, phase-number-at, carried-at}
-use Rattle.lock_table.specs.Empty.{empty-thread, empty-object}
 use Rattle.lock_table.specs.Parked.{thread-chain, first-in, home-at, chain-first}
 use Rattle.lock_table.specs.declared.record.Monitor.{Monitor}
 use Rattle.lock_table.specs.declared.record.Table.{Table}
-use Rattle.sound_records.specs.Records.{used-object-fits, used-thread-fits}
+use Rattle.sound_records.specs.Records.{used-object-fits, used-thread-fits, empty-thread, empty-object}
 -- passed on to whoever computes the whole test
 unfoldable pub use Rattle.sound_records.specs.Records.{word-fits, uses-phase, carries-phase, operation-fits, kept-fits, saves-depth, saved-fits, unheld-fits}
-unfoldable pub use Rattle.sound_records.specs.Records.{names-chain, unused-fits}
+unfoldable pub use Rattle.sound_records.specs.Records.{names-chain, unused-fits, empty-thread, empty-monitor, empty-object}
 
 -- "sizes in range"
 unfoldable pub sizes-fit : ℕ → ℕ → Bool

@@ -6,7 +6,6 @@ pub mod Record
 pub mod Access
 pub mod Place
 pub mod Whole
-pub mod Empty
 pub mod Parked
 pub mod Monitor
 pub mod Chain

@@ -17,7 +17,6 @@ use Rattle.lock_word.specs.Depth.{depth-limit}
 use Rattle.lock_table.specs.Operation.{operation-number}
 use Rattle.lock_table.specs.Phase.{phase-number, carried-number}
 use Rattle.lock_table.specs.Record.{no-thread, no-monitor, no-object, with-word}
-use Rattle.lock_table.specs.Empty.{empty-thread, empty-monitor, empty-object}
 use Rattle.lock_table.specs.Parked.{chain-named, thread-chain}
 use Rattle.lock_table.specs.declared.operation.Operation.{Operation}
 use Rattle.lock_table.specs.declared.operation.Operation.the-variants.{Idle, Enter, Exit, Wait, Notify, NotifyAll}
@@ -26,8 +25,39 @@ use Rattle.lock_table.specs.declared.phase.Phase.the-variants.{Idle as idle-pha
 use Rattle.lock_table.specs.declared.record.ThreadRecord.{ThreadRecord}
 use Rattle.lock_table.specs.declared.record.Monitor.{Monitor}
 use Rattle.lock_table.specs.declared.record.ObjectRecord.{ObjectRecord}
-use Rattle.sound_records.specs.Records.{word-fits, uses-phase, carries-phase, operation-fits, kept-count-fits, reserved-for, kept-fits, saves-depth, saved-fits, unheld-fits, names-chain, unused-fits, used-object-fits, used-thread-fits}
-use Rattle.laws.proofs.Facts.{Reads, reads-map, reads-never, reads-always, reads-not, reads-eqb, reads-leb, reads-both, reads-within, reads-either, reads-unless, reads-implies}
+use Rattle.sound_records.specs.Records.{
+  word-fits,
+  uses-phase,
+  carries-phase,
+  operation-fits,
+  kept-count-fits,
+  reserved-for,
+  kept-fits,
+  saves-depth,
+  saved-fits,
+  unheld-fits,
+  names-chain,
+  unused-fits,
+  used-object-fits,
+  used-thread-fits,
+  empty-thread,
+  empty-monitor,
+  empty-object,
+}
+use Rattle.laws.proofs.Facts.{
+  Reads,
+  reads-map,
+  reads-never,
+  reads-always,
+  reads-not,
+  reads-eqb,
+  reads-leb,
+  reads-both,
+  reads-within,
+  reads-either,
+  reads-unless,
+  reads-implies,
+}
 
 abbrev pub Within : ℕ → ℕ → ℕ → Type 0
 Within low high n = (low ≤ n) × (n ≤ high)

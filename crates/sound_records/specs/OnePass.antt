@@ -4,10 +4,9 @@ use mathlib.Core.Bool.{Bool}
 use lib.Dec.{eqb, leb}
 use Rattle.laws.specs.Choice.{both, either}
 use Rattle.lock_table.specs.Phase.{phase-number, carried-number}
-use Rattle.lock_table.specs.Empty.{empty-thread}
 use Rattle.lock_table.specs.Parked.{thread-chain}
 use Rattle.lock_table.specs.declared.record.ThreadRecord.{ThreadRecord}
-use Rattle.sound_records.specs.Records.{used-thread-fits}
+use Rattle.sound_records.specs.Records.{used-thread-fits, empty-thread}
 
 -- a thread's record: empty, or in use and as the clauses ask, and marked if it is parked
 unfoldable pub thread-passes : ℕ → ℕ → ℕ → ThreadRecord → Bool → Bool

@@ -2,7 +2,7 @@
 -- its order and words, each a test that computes. The others are in lock_soundness/specs/Sound.antt.
 -- Phases are document 01's numbers, `threads` its T and `objects` its N; n is a thread, o an object, and a chain 1 entry, 2 contention or 3 waiting.
 use Prim.Native.Nat.{ℕ, _-_}
-use mathlib.Core.Bool.{Bool, true, false}
+use mathlib.Core.Bool.{Bool, true, false, not}
 use lib.Dec.{eqb, leb}
 use Rattle.laws.specs.Choice.{both, either, implies, within}
 use Rattle.lock_word.specs.Layout.{count-limit}
@@ -12,6 +12,7 @@ use Rattle.lock_word.specs.declared.reading.Decoded.{Decoded}
 use Rattle.lock_word.specs.declared.reading.Decoded.the-variants.{Valid, Invalid}
 use Rattle.lock_word.specs.Depth.{depth-limit}
 use Rattle.lock_table.specs.Operation.{operation-number}
+use Rattle.lock_table.specs.Phase.{phase-number}
 use Rattle.lock_table.specs.Parked.{chain-named, thread-chain}
 use Rattle.lock_table.specs.declared.operation.Operation.{Operation}
 use Rattle.lock_table.specs.declared.operation.Operation.the-variants.{Idle, Enter, Exit, Wait, Notify, NotifyAll}
@@ -100,6 +101,22 @@ unused-fits phase carried thread =
     both (implies (eqb phase 0) (both (eqb (operation-number (thread .operation)) 0) (eqb (thread .object) 0)))
     (both (either (eqb phase 2) (eqb (thread .kept) 0))
     (both (implies (eqb (chain-named phase) 0) (eqb (thread .next) 0)) (either (saves-depth phase carried) (eqb (thread .saved) 0))))
+
+-- "records past T and N .. are 0": every field of a record is 0
+unfoldable pub empty-thread : ThreadRecord → Bool
+empty-thread thread =
+    both (eqb (thread .kept) 0)
+    (both (eqb (thread .saved) 0)
+    (both (eqb (thread .object) 0)
+    (both (eqb (thread .next) 0) (both (eqb (operation-number (thread .operation)) 0) (eqb (phase-number (thread .phase)) 0)))))
+
+unfoldable pub empty-monitor : Monitor → Bool
+empty-monitor monitor =
+    both (eqb (monitor .depth) 0)
+    (both (eqb (monitor .holder) 0) (both (eqb (monitor .entry) 0) (both (eqb (monitor .contention) 0) (eqb (monitor .waiting) 0))))
+
+unfoldable pub empty-object : ObjectRecord → Bool
+empty-object object = both (eqb (object .word) 0) (both (not (object .flag)) (empty-monitor (object .monitor)))
 
 -- What the clauses ask of one record, a row for each clause: of an object's, and of a thread's, by its phase and the phase that it carries.
 abbrev pub used-object-fits : ℕ → ℕ → ObjectRecord → Bool

@@ -5,8 +5,7 @@ use lock_table::ObjectRecord;
 use lock_word::Decoded;
 use lock_word::LockWord;
 ghost use mathlib.Core.Path.{_≡_};
-ghost use Rattle.lock_table.specs.Empty.{empty-monitor, empty-object};
-ghost use Rattle.sound_records.specs.Records.{word-fits, unheld-fits, used-object-fits};
+ghost use Rattle.sound_records.specs.Records.{word-fits, unheld-fits, used-object-fits, empty-monitor, empty-object};
 
 // A valid word, with its thread at most `threads`; a fat word names its own object.
 fn word_fits(threads: u8, number: u8, decoded: Decoded) -> bool

@@ -11,9 +11,8 @@ use lock_word::DEPTH_LIMIT;
 use lock_word::Decoded;
 use lock_word::LockWord;
 ghost use mathlib.Core.Path.{_≡_};
-ghost use Rattle.lock_table.specs.Empty.{empty-thread};
 ghost use Rattle.lock_table.specs.Parked.{chain-named, thread-chain};
-ghost use Rattle.sound_records.specs.Records.{uses-phase, carries-phase, operation-fits, kept-count-fits, reserved-for, kept-fits};
+ghost use Rattle.sound_records.specs.Records.{uses-phase, carries-phase, operation-fits, kept-count-fits, reserved-for, kept-fits, empty-thread};
 ghost use Rattle.sound_records.specs.Records.{saves-depth, saved-fits, unused-fits, used-thread-fits, names-chain};
 ghost use Rattle.sound_records.specs.OnePass.{thread-passes};
 

@@ -2,6 +2,8 @@
 pub mod Rows
 pub mod Parts
 pub mod Written
+pub mod ThreadBytes
+pub mod ObjectBytes
 pub mod ReadBack
 pub mod SameBytes
 pub mod SetRecords

@@ -2,14 +2,17 @@
 use Prim.Native.Nat.{ℕ, zero, suc, _+_, _-_, _*_, _≤_, _<_}
 use mathlib.Core.Path.{_≡_, refl, ap, sym, _∙_}
 use mathlib.Core.Logic.{_≢_}
-use mathlib.Core.Bool.{true}
+use mathlib.Core.Bool.{Bool, true}
 use mathlib.Core.List.{List, [], _++_, append-assoc, append-nil}
 use native.Mathlib.Omega.{arith}
 use native.Mathlib.Nat.{zero-add, suc-add, zero-mul, suc-mul, add-assoc, add-comm}
 use lib.ListN.{length, getD, set, take, drop, length-append, length-drop}
 use lib.Seq.{paste-zero, getD-append-add, getD-set-same, getD-set-other, length-take-le, take-at, drop-at, drop-append-add, drop-drop}
+use Rattle.laws.specs.Every.{all-below}
 use Rattle.laws.specs.Sequence.{tabulate}
-use Rattle.table_bytes.specs.Rows.{Field, size, record-bytes, numbers-in, joined, overwritten}
+use Rattle.laws.proofs.Every.{all-below-at, all-of}
+use Rattle.laws.proofs.Sequence.{tabulate-at, tabulate-all}
+use Rattle.table_bytes.specs.Rows.{Field, size, record-bytes, Numbers, numbers-in, joined, overwritten}
 use Rattle.table_bytes.specs.Reading.{AreBytes, byte-at}
 use Rattle.table_bytes.proofs.Rows.{wide, numbers, record-length, read-rows, write-rows, tabulate-more}
 
@@ -95,66 +98,87 @@ module _ {A : Type 0} (rows : List (Field A)) (none : A) (list : List A) where
     pub stored-length : (n : ℕ) → at + n * size rows ≤ length bytes → length (stored n) ≡ length bytes
     stored-length n room = overwritten-length at (joined n records) bytes (omega (arith, room, records-length n))
 
-  -- records that say what was read are written back as the bytes that they were read from
-  pub area-same : (n at : ℕ) (bytes : List ℕ) → AreBytes bytes
-      → ((place : ℕ) → place < n → numbers rows (getD list place none) ≡ numbers-in rows (λ i. byte-at bytes (at + place * size rows + i)))
-      → joined n records ≡ tabulate (n * size rows) (λ i. byte-at bytes (at + i))
-  area-same n at bytes small same =
-      joined-same n records (λ place. tabulate (size rows) (λ i. byte-at bytes (at + (place * size rows + i))))
+-- records that are known are written back as the bytes that they were read from
+module _ {A : Type 0} (rows : List (Field A)) (none : A) (of : Numbers rows → A) (known : Numbers rows → Bool)
+    (same : (read : Numbers rows) → known read ≡ true → numbers rows (of read) ≡ read) (n at : ℕ) (bytes : List ℕ) (small : AreBytes bytes) where
+  abbrev read-at : ℕ → Numbers rows
+  read-at place = numbers-in rows (λ i. byte-at bytes (at + place * size rows + i))
+
+  pub area-same : all-below n (λ place. known (read-at place)) ≡ true
+      → joined n (records rows none (tabulate n (λ place. of (read-at place)))) ≡ tabulate (n * size rows) (λ i. byte-at bytes (at + i))
+  area-same all =
+      let list = tabulate n (λ place. of (read-at place)) in
+      joined-same n (records rows none list) (λ place. tabulate (size rows) (λ i. byte-at bytes (at + (place * size rows + i))))
       (λ place low.
-      write-rows rows (getD list place none) (λ i. byte-at bytes (at + place * size rows + i)) (λ i. small (at + place * size rows + i)) (same place low)
+      write-rows rows (getD list place none) (λ i. byte-at bytes (at + place * size rows + i)) (λ i. small (at + place * size rows + i))
+      (rw (tabulate-at n (λ p. of (read-at p)) none place low) (same (read-at place) (all-below-at n (λ p. known (read-at p)) all place low)))
       ∙ simp (add-assoc))
       ∙ joined-run (size rows) n (λ i. byte-at bytes (at + i))
 
--- all records of a kind, with other bytes before and behind them
-module _ {A : Type 0} (rows : List (Field A)) (none : A) (list : List A) (n place : ℕ) (low : place < n) (front back : List ℕ) where
+-- all records of a kind in some bytes, with others before and behind them
+pub record Area {A : Type 0} (rows : List (Field A)) (none : A) (list : List A) (n at : ℕ) (bytes : List ℕ) : Type 0 where
+  pub front : List ℕ
+  pub back : List ℕ
+  pub starts : length front ≡ at
+  pub is : bytes ≡ front ++ joined n (records rows none list) ++ back
+  pub some : wide rows ≡ true
+
+module _ {A : Type 0} {rows : List (Field A)} {none : A} {list : List A} {n at : ℕ} {bytes : List ℕ} (area : Area rows none list n at bytes) where
   abbrev part : List A → ℕ → List ℕ
   part = records rows none
 
-  abbrev area : List A → List ℕ
-  area these = front ++ joined n (part these) ++ back
+  module _ (place : ℕ) (low : place < n) where
+    abbrev before : List A → List ℕ
+    before these = area .front ++ joined place (part these)
 
-  abbrev before : List A → List ℕ
-  before these = front ++ joined place (part these)
+    abbrev behind : List A → List ℕ
+    behind these = joined (n - suc place) (λ i. part these (suc (place + i))) ++ area .back
 
-  abbrev behind : List A → List ℕ
-  behind these = joined (n - suc place) (λ i. part these (suc (place + i))) ++ back
+    area-split : (these : List A) → area .front ++ joined n (part these) ++ area .back ≡ before these ++ (part these place ++ behind these)
+    area-split these =
+        let all : n ≡ place + suc (n - suc place) = omega (arith, low) in
+        ap (λ (count : ℕ). area .front ++ joined count (part these) ++ area .back) all ∙ simp (joined-split (part these) place (n - suc place), append-assoc)
 
-  area-split : (these : List A) → area these ≡ before these ++ (part these place ++ behind these)
-  area-split these =
-      let all : n ≡ place + suc (n - suc place) = omega (arith, low) in
-      ap (λ (count : ℕ). front ++ joined count (part these) ++ back) all ∙ simp (joined-split (part these) place (n - suc place), append-assoc)
+    before-length : (these : List A) → length (before these) ≡ at + place * size rows
+    before-length these = length-append (area .front) (joined place (part these)) ∙ rw (area .starts, records-length rows none these place) refl
 
-  before-length : (these : List A) → length (before these) ≡ length front + place * size rows
-  before-length these =
-      length-append front (joined place (part these))
-      ∙ ap (λ (count : ℕ). length front + count) (records-length rows none these place)
+    -- a record is read where it stands
+    area-read : numbers-in rows (λ i. byte-at bytes (at + place * size rows + i)) ≡ numbers rows (getD list place none)
+    area-read =
+        let there : (i : ℕ) → byte-at bytes (at + place * size rows + i) ≡ getD (part list place ++ behind list) i 0 = λ i.
+        rw (area .is, area-split list, ← before-length list) (getD-append-add (before list) (part list place ++ behind list) i 0) in
+        ap (numbers-in rows) (λ k i. there i k) ∙ read-rows rows (area .some) (getD list place none) (behind list)
 
-  -- a record is read where it stands
-  pub area-read : wide rows ≡ true → numbers-in rows (λ i. getD (area list) (length front + place * size rows + i) 0) ≡ numbers rows (getD list place none)
-  area-read some =
-      let there : (i : ℕ) → getD (area list) (length front + place * size rows + i) 0 ≡ getD (part list place ++ behind list) i 0 = λ i.
-      rw (area-split list, ← before-length list) (getD-append-add (before list) (part list place ++ behind list) i 0) in
-      ap (numbers-in rows) (λ k i. there i k) ∙ read-rows rows some (getD list place none) (behind list)
+    -- a record stored where another stands is the record replaced
+    pub area-write : length list ≡ n → (new : A)
+        → overwritten (at + place * size rows) (record-bytes rows new) bytes ≡ area .front ++ joined n (part (set list place new)) ++ area .back
+    area-write full new =
+        let after = set list place new in
+        let others : (i : ℕ) → i ≢ place → part list i ≡ part after i = λ i away. ap (record-bytes rows) (sym (getD-set-other list place i new none away)) in
+        let front-same : before list ≡ before after =
+        ap (λ (l : List ℕ). area .front ++ l) (joined-same place (part list) (part after) (λ i less. others i (λ e. omega (arith, less, e)))) in
+        let back-same : behind list ≡ behind after =
+        ap (λ (l : List ℕ). l ++ area .back)
+        (joined-same (n - suc place) (λ i. part list (suc (place + i))) (λ i. part after (suc (place + i))) (λ i less. others (suc (place + i)) (λ e. omega (arith, e)))) in
+        let long : length (part list place) ≡ length (record-bytes rows new) = record-length rows (getD list place none) ∙ sym (record-length rows new) in
+        rw (
+          area .is,
+          area-split list,
+          overwritten-part (before list) (part list place) (behind list) (record-bytes rows new) (at + place * size rows) (before-length list) long,
+          area-split after,
+          getD-set-same list place new none (omega (arith, low, full)),
+          front-same,
+          back-same,
+        )
+        refl
 
-  -- a record stored where another stands is the record replaced
-  pub area-write : length list ≡ n → (new : A)
-      → overwritten (length front + place * size rows) (record-bytes rows new) (area list) ≡ area (set list place new)
-  area-write full new =
-      let after = set list place new in
-      let others : (i : ℕ) → i ≢ place → part list i ≡ part after i = λ i away. ap (record-bytes rows) (sym (getD-set-other list place i new none away)) in
-      let front-same : before list ≡ before after =
-      ap (λ (l : List ℕ). front ++ l) (joined-same place (part list) (part after) (λ i less. others i (λ e. omega (arith, less, e)))) in
-      let back-same : behind list ≡ behind after =
-      ap (λ (l : List ℕ). l ++ back)
-      (joined-same (n - suc place) (λ i. part list (suc (place + i))) (λ i. part after (suc (place + i))) (λ i less. others (suc (place + i)) (λ e. omega (arith, e)))) in
-      let long : length (part list place) ≡ length (record-bytes rows new) = record-length rows (getD list place none) ∙ sym (record-length rows new) in
-      rw (
-        area-split list,
-        overwritten-part (before list) (part list place) (behind list) (record-bytes rows new) (length front + place * size rows) (before-length list) long,
-        area-split after,
-        getD-set-same list place new none (omega (arith, low, full)),
-        front-same,
-        back-same,
-      )
-      refl
+  -- all records that were written are known, and read back
+  pub area-known : (known : Numbers rows → Bool) → ((whole : A) → known (numbers rows whole) ≡ true)
+      → all-below n (λ place. known (numbers-in rows (λ i. byte-at bytes (at + place * size rows + i)))) ≡ true
+  area-known known each =
+      all-of n (λ i. known (numbers-in rows (λ k. byte-at bytes (at + (i - 1) * size rows + k))))
+      (λ i some few. ap known (area-read (i - 1) (omega (arith, some, few))) ∙ each (getD list (i - 1) none))
+
+  pub area-back : (of : Numbers rows → A) → ((whole : A) → of (numbers rows whole) ≡ whole) → length list ≡ n
+      → tabulate n (λ place. of (numbers-in rows (λ i. byte-at bytes (at + place * size rows + i)))) ≡ list
+  area-back of each full = sym (tabulate-all n _ none list full (λ i low. sym (ap of (area-read i low) ∙ each (getD list i none))))

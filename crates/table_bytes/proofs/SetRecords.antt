@@ -1,8 +1,8 @@
 -- One record stored over the bytes of a table gives the bytes of the table with that record set.
-use Prim.Native.Nat.{ℕ, _+_, _-_, _*_, _≤_}
-use mathlib.Core.Path.{_≡_, sym, ap, _∙_}
+use Prim.Native.Nat.{ℕ, _-_, _≤_}
+use mathlib.Core.Path.{_≡_, refl, ap, _∙_}
 use mathlib.Core.Logic.{_≢_}
-use mathlib.Core.List.{List, [], _++_, append-nil}
+use mathlib.Core.List.{List, append-nil}
 use native.Mathlib.Omega.{arith}
 use lib.Dec.{eqb, ltb}
 use lib.ListN.{length, set}
@@ -10,16 +10,18 @@ use borrow.Author.Tests.{eq-eqb, eqb-false, ltb-false}
 use Rattle.laws.specs.Choice.{pick}
 use Rattle.laws.proofs.Choice.{split}
 use Rattle.lock_table.specs.Limits.{thread-limit, object-limit}
-use Rattle.lock_table.specs.Record.{no-thread, no-object}
+use Rattle.lock_table.specs.Operation.{operation-number}
+use Rattle.lock_table.specs.Phase.{phase-number, carried-number}
+use Rattle.lock_table.specs.Record.{no-thread}
 use Rattle.lock_table.specs.Access.{set-thread, set-object}
 use Rattle.lock_table.specs.declared.record.ThreadRecord.{ThreadRecord}
 use Rattle.lock_table.specs.declared.record.ObjectRecord.{ObjectRecord}
 use Rattle.lock_table.specs.declared.record.Table.{Table}
 use Rattle.table_bytes.specs.Rows.{overwritten}
-use Rattle.table_bytes.specs.Layout.{thread-layout, object-layout, object-size, table-size, thread-bytes, object-bytes, thread-start, object-start}
-use Rattle.table_bytes.specs.Writing.{threads-bytes, objects-bytes, bytes-of, write-thread, write-object}
+use Rattle.table_bytes.specs.Layout.{thread-size, table-size, thread-bytes, object-bytes, thread-start, object-start}
+use Rattle.table_bytes.specs.Writing.{bytes-of, write-thread, write-object}
 use Rattle.table_bytes.proofs.Parts.{area-write}
-use Rattle.table_bytes.proofs.Written.{sizes, front-long, bytes-long}
+use Rattle.table_bytes.proofs.Written.{bytes-long, threads-area, objects-area}
 
 -- a number that is none of a kind's changes nothing
 numbered : (limit number : ℕ) (bytes changed : List ℕ) (table after : Table) → bytes ≡ bytes-of table
@@ -41,18 +43,14 @@ module _ (bytes : List ℕ) (table : Table) (same : bytes ≡ bytes-of table) (n
       rw (eq-eqb (length bytes) table-size long)
       (numbered thread-limit number bytes (overwritten at (thread-bytes thread) bytes) table
       (record { threadcount = table .threadcount; objectcount = table .objectcount; threads = set (table .threads) (number - 1) thread; objects = table .objects }) same
-      (λ some few. ap (overwritten at (thread-bytes thread)) same
-      ∙ area-write thread-layout no-thread (table .threads) thread-limit (number - 1) (omega (arith, some, few)) (sizes table) (objects-bytes (table .objects)) full thread))
+      (λ some few. ap (overwritten at (thread-bytes thread)) same ∙ area-write (threads-area table) (number - 1) (omega (arith, some, few)) full thread))
 
   pub object-written : length (table .objects) ≡ object-limit → (object : ObjectRecord) → write-object bytes number object ≡ bytes-of (set-object table number object)
   unfolding write-object set-object
   object-written full object =
       let at = object-start (number - 1) in
-      let front = sizes table ++ threads-bytes (table .threads) in
       let after : Table = record { threadcount = table .threadcount; objectcount = table .objectcount; threads = table .threads; objects = set (table .objects) (number - 1) object } in
       rw (eq-eqb (length bytes) table-size long)
       (numbered object-limit number bytes (overwritten at (object-bytes object) bytes) table after same
-      (λ some few. ap (overwritten at (object-bytes object)) (same ∙ sym (append-nil (bytes-of table)))
-      ∙ ap (λ (n : ℕ). overwritten (n + (number - 1) * object-size) (object-bytes object) (bytes-of table ++ [])) (sym (front-long table))
-      ∙ area-write object-layout no-object (table .objects) object-limit (number - 1) (omega (arith, some, few)) front [] full object
-      ∙ append-nil (bytes-of after)))
+      (λ some few. ap (overwritten at (object-bytes object)) same
+      ∙ area-write (objects-area table) (number - 1) (omega (arith, some, few)) full object ∙ append-nil (bytes-of after)))

@@ -13,10 +13,12 @@ use Rattle.lock_table.specs.Limits.{thread-limit, object-limit}
 use Rattle.lock_table.specs.Record.{no-thread, no-object}
 use Rattle.lock_table.specs.declared.record.Table.{Table}
 use Rattle.table_bytes.specs.Rows.{overwritten}
-use Rattle.table_bytes.specs.Layout.{thread-layout, object-layout, threads-start, objects-start, table-size}
+use Rattle.table_bytes.specs.ThreadBytes.{thread-layout}
+use Rattle.table_bytes.specs.ObjectBytes.{object-layout}
+use Rattle.table_bytes.specs.Layout.{threads-start, objects-start, table-size}
 use Rattle.table_bytes.specs.Reading.{is-table}
 use Rattle.table_bytes.specs.Writing.{threads-bytes, objects-bytes, bytes-of, kept-over}
-use Rattle.table_bytes.proofs.Parts.{records-length, overwritten-next, overwritten-length}
+use Rattle.table_bytes.proofs.Parts.{Area, records-length, overwritten-next, overwritten-length}
 
 module _ (table : Table) where
   abbrev pub sizes : List ℕ
@@ -32,6 +34,14 @@ module _ (table : Table) where
   bytes-long =
       length-append (sizes ++ threads-bytes (table .threads)) (objects-bytes (table .objects))
       ∙ rw (front-long, records-length object-layout no-object (table .objects) object-limit) refl
+
+  -- where its records stand
+  abbrev pub threads-area : Area thread-layout no-thread (table .threads) thread-limit threads-start (bytes-of table)
+  threads-area = record { front = sizes; back = objects-bytes (table .objects); starts = refl; is = refl; some = refl }
+
+  abbrev pub objects-area : Area object-layout no-object (table .objects) object-limit objects-start (bytes-of table)
+  objects-area =
+      record { front = sizes ++ threads-bytes (table .threads); back = []; starts = front-long; is = sym (append-nil (bytes-of table)); some = refl }
 
   module _ (bytes : List ℕ) (long : length bytes ≡ table-size) where
     abbrev pub sized : List ℕ

@@ -1,7 +1,10 @@
 // A table as bytes, each field at its place (specs/Layout.antt), the same on every machine.
 mod copying;
 mod layout;
+mod numbers;
+mod object_bytes;
 mod reading;
+mod thread_bytes;
 mod writing;
 
 pub use layout::LAYOUT_VERSION;

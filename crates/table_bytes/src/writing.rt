@@ -1,102 +1,22 @@
 // A table written as bytes, whole or one record of it.
 use crate::copying::put;
-use crate::layout::OBJECT_SIZE;
 use crate::layout::OBJECTS_START;
 use crate::layout::TABLE_SIZE;
-use crate::layout::THREAD_SIZE;
 use crate::layout::THREADS_START;
+use crate::object_bytes::OBJECT_SIZE;
+use crate::object_bytes::object_bytes;
+use crate::thread_bytes::THREAD_SIZE;
+use crate::thread_bytes::thread_bytes;
 use lock_table::OBJECTS;
 use lock_table::ObjectRecord;
 use lock_table::THREADS;
 use lock_table::Table;
 use lock_table::ThreadRecord;
-use lock_table::carried_number;
-use lock_table::operation_number;
-use lock_table::phase_number;
 ghost use mathlib.Core.Path.{_≡_};
-ghost use Prim.Native.Nat.{_%_};
 ghost use lib.ListN.{length};
-ghost use Rattle.table_bytes.specs.Rows.{number-bytes, overwritten};
-ghost use Rattle.table_bytes.specs.Layout.{flag-byte, thread-bytes, object-bytes, threads-start, objects-start, table-size};
+ghost use Rattle.table_bytes.specs.Rows.{overwritten};
+ghost use Rattle.table_bytes.specs.Layout.{threads-start, objects-start, table-size};
 ghost use Rattle.table_bytes.specs.Writing.{threads-bytes, objects-bytes, bytes-of, kept-over, write-thread, write-object};
-
-fn low_byte(number: u32) -> u8
-    ensures { λ r. ⌜ r ≡ number % 256 ⌝ }
-{
-    (number % 256) as u8
-}
-
-// The two bytes of a half, and the four of a word, the lowest first.
-fn half_bytes(half: u16) -> [u8; 2]
-    ensures { λ r. ⌜ r ≡ number-bytes 2 half ⌝ }
-{
-    [(half % 256) as u8, (half / 256) as u8]
-}
-
-fn word_bytes(word: u32) -> [u8; 4]
-    ensures { λ r. ⌜ r ≡ number-bytes 4 word ⌝ }
-{
-    let second = word / 256;
-    let third = second / 256;
-    [
-        low_byte(word),
-        low_byte(second),
-        low_byte(third),
-        (third / 256) as u8,
-    ]
-}
-
-fn flag_byte(flag: bool) -> u8
-    ensures { λ r. ⌜ r ≡ flag-byte flag ⌝ }
-{
-    if flag {
-        return 1;
-    }
-    0
-}
-
-fn thread_bytes(thread: ThreadRecord) -> [u8; THREAD_SIZE]
-    ensures { λ r. ⌜ r ≡ thread-bytes thread ⌝ }
-{
-    let operation = thread.operation;
-    let phase = thread.phase;
-    let kept = word_bytes(thread.kept);
-    let saved = half_bytes(thread.saved);
-    [
-        operation_number(operation),
-        thread.object,
-        phase_number(phase),
-        carried_number(phase),
-        kept[0],
-        kept[1],
-        kept[2],
-        kept[3],
-        saved[0],
-        saved[1],
-        thread.next,
-    ]
-}
-
-fn object_bytes(object: ObjectRecord) -> [u8; OBJECT_SIZE]
-    ensures { λ r. ⌜ r ≡ object-bytes object ⌝ }
-{
-    let monitor = object.monitor;
-    let word = word_bytes(object.word);
-    let depth = half_bytes(monitor.depth);
-    [
-        word[0],
-        word[1],
-        word[2],
-        word[3],
-        flag_byte(object.flag),
-        monitor.holder,
-        depth[0],
-        depth[1],
-        monitor.entry,
-        monitor.contention,
-        monitor.waiting,
-    ]
-}
 
 fn put_threads(bytes: &mut [u8], threads: [ThreadRecord; 32])
     requires { ⌜ length (now bytes) ≡ table-size ⌝ }

@@ -17,7 +17,7 @@ use Rattle.lock_rules.specs.Numbers.{refusal-number}
 use Rattle.lock_rules.specs.declared.event.Refusal.{Refusal}
 use Rattle.lock_rules.specs.declared.event.Refusal.the-variants.{NotSound, NoSuchThread, NoSuchObject}
 use Rattle.table_bytes.specs.Reading.{is-table, table-of}
-use Rattle.table_bytes.specs.Layout.{flag-byte}
+use Rattle.table_bytes.specs.ObjectBytes.{flag-byte}
 use Rattle.table_questions.specs.declared.asking.ThreadQuestion.{ThreadQuestion}
 use Rattle.table_questions.specs.declared.asking.ThreadQuestion.the-variants.{OperationOf, ObjectOf, PhaseOf, OnwardOf, KeptOf, SavedOf, NextOf, BlockerOf}
 use Rattle.table_questions.specs.declared.asking.ObjectQuestion.{ObjectQuestion}

@@ -18,7 +18,7 @@ use lock_word::Ownership;
 use table_bytes::is_table;
 use table_bytes::read_table;
 ghost use mathlib.Core.Path.{_≡_};
-ghost use Rattle.table_bytes.specs.Layout.{flag-byte};
+ghost use Rattle.table_bytes.specs.ObjectBytes.{flag-byte};
 ghost use Rattle.table_questions.specs.Questions.{said-of, holder-blocks, owner-blocks, blocker-of, thread-value, object-value};
 ghost use Rattle.table_questions.specs.Questions.{thread-in, object-in, ask-thread, ask-object, thread-count, object-count};
 

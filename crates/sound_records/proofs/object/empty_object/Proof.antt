@@ -1,5 +1,5 @@
 -- `sound_records::object::empty_object` meets its contract: each way through the code is that of the definition.
-use Rattle.lock_table.specs.Empty.{empty-object}
+use Rattle.sound_records.specs.Records.{empty-object}
 use Rattle.sound_records.proofs.object.empty_object.Statement.{statement}
 use Rattle.sound_records.proofs.object.empty_object.Tie as tie
 

@@ -1,5 +1,5 @@
 -- `sound_records::thread::empty_thread` meets its contract: each way through the code is that of the definition.
-use Rattle.lock_table.specs.Empty.{empty-thread}
+use Rattle.sound_records.specs.Records.{empty-thread}
 use Rattle.sound_records.proofs.thread.empty_thread.Statement.{statement}
 use Rattle.sound_records.proofs.thread.empty_thread.Tie as tie
 

@@ -1,8 +1,8 @@
 -- `table_bytes::reading::object_from` meets its contract: the part that is lent begins with the record.
 use mathlib.Core.Path.{ap, _∙_}
 use borrow.Author.Needs.{needs}
-use Rattle.table_bytes.specs.Layout.{object-layout, object-start}
-use Rattle.table_bytes.specs.Reading.{object-of}
+use Rattle.table_bytes.specs.ObjectBytes.{object-layout, object-of}
+use Rattle.table_bytes.specs.Layout.{object-start}
 use Rattle.table_bytes.proofs.Rows.{read-part}
 use Rattle.table_bytes.proofs.reading.object_from.Statement.{statement}
 use Rattle.table_bytes.proofs.reading.object_from.Tie as tie

@@ -6,7 +6,8 @@ use borrow.Author.Needs.{needs}
 use borrow.Author.Tests.{not-true, not-false}
 use Rattle.laws.specs.Every.{all-below}
 use Rattle.laws.proofs.Every.{all-step, all-end}
-use Rattle.table_bytes.specs.Reading.{object-known, object-numbers}
+use Rattle.table_bytes.specs.ObjectBytes.{object-known}
+use Rattle.table_bytes.specs.Reading.{object-numbers}
 use Rattle.table_bytes.proofs.reading.objects_known.Statement.{statement}
 use Rattle.table_bytes.proofs.reading.objects_known.Tie as tie
 
@@ -37,6 +38,8 @@ objects-known-spec =
     Inv-loop
     μ-loop
     (λ c. (omega arith, refl))
+    (λ c. search needs)
+    (λ c. search needs)
     (λ c. search needs)
     (λ c κs. search needs)
     unknown

@@ -8,8 +8,10 @@ use lib.Seq.{getD-drop}
 use Rattle.laws.specs.Sequence.{tabulate}
 use Rattle.lock_table.specs.Limits.{thread-limit, object-limit}
 use Rattle.table_bytes.specs.Rows.{numbers-in, overwritten}
-use Rattle.table_bytes.specs.Layout.{thread-layout, object-layout, table-size, threadcount-at, objectcount-at, thread-start, object-start}
-use Rattle.table_bytes.specs.Reading.{byte-at, thread-of, object-of, table-of}
+use Rattle.table_bytes.specs.ThreadBytes.{thread-layout, thread-of}
+use Rattle.table_bytes.specs.ObjectBytes.{object-layout, object-of}
+use Rattle.table_bytes.specs.Layout.{table-size, threadcount-at, objectcount-at, thread-start, object-start}
+use Rattle.table_bytes.specs.Reading.{byte-at, table-of}
 use Rattle.table_bytes.proofs.reading.read_table.Statement.{statement}
 use Rattle.table_bytes.proofs.reading.read_table.Tie as tie
 

@@ -1,8 +1,8 @@
 -- `table_bytes::reading::thread_from` meets its contract: the part that is lent begins with the record.
 use mathlib.Core.Path.{ap, _∙_}
 use borrow.Author.Needs.{needs}
-use Rattle.table_bytes.specs.Layout.{thread-layout, thread-start}
-use Rattle.table_bytes.specs.Reading.{thread-of}
+use Rattle.table_bytes.specs.ThreadBytes.{thread-layout, thread-of}
+use Rattle.table_bytes.specs.Layout.{thread-start}
 use Rattle.table_bytes.proofs.Rows.{read-part}
 use Rattle.table_bytes.proofs.reading.thread_from.Statement.{statement}
 use Rattle.table_bytes.proofs.reading.thread_from.Tie as tie

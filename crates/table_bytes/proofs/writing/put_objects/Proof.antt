@@ -5,7 +5,8 @@ use native.Mathlib.Omega.{arith}
 use borrow.Author.Needs.{needs}
 use lib.ListN.{length}
 use Rattle.lock_table.specs.Record.{no-object}
-use Rattle.table_bytes.specs.Layout.{object-layout, objects-start}
+use Rattle.table_bytes.specs.ObjectBytes.{object-layout}
+use Rattle.table_bytes.specs.Layout.{objects-start}
 use Rattle.table_bytes.proofs.Parts.{stored, stored-none, stored-next, stored-length}
 use Rattle.table_bytes.proofs.writing.put_objects.Statement.{statement}
 use Rattle.table_bytes.proofs.writing.put_objects.Tie as tie

@@ -5,7 +5,8 @@ use native.Mathlib.Omega.{arith}
 use borrow.Author.Needs.{needs}
 use lib.ListN.{length}
 use Rattle.lock_table.specs.Record.{no-thread}
-use Rattle.table_bytes.specs.Layout.{thread-layout, threads-start}
+use Rattle.table_bytes.specs.ThreadBytes.{thread-layout}
+use Rattle.table_bytes.specs.Layout.{threads-start}
 use Rattle.table_bytes.proofs.Parts.{stored, stored-none, stored-next, stored-length}
 use Rattle.table_bytes.proofs.writing.put_threads.Statement.{statement}
 use Rattle.table_bytes.proofs.writing.put_threads.Tie as tie

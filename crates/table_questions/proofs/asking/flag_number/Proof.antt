@@ -1,5 +1,5 @@
 -- `table_questions::asking::flag_number` meets its contract: each way through the code is that of the definition.
-use Rattle.table_bytes.specs.Layout.{flag-byte}
+use Rattle.table_bytes.specs.ObjectBytes.{flag-byte}
 use Rattle.table_questions.proofs.asking.flag_number.Statement.{statement}
 use Rattle.table_questions.proofs.asking.flag_number.Tie as tie
 

@@ -1,8 +1,8 @@
--- `table_bytes::reading::onward_from` meets its contract: each way through the code is that of the definition.
+-- `table_bytes::thread_bytes::onward_from` meets its contract: each way through the code is that of the definition.
 use borrow.Author.Tests.{eq-eqb, ne-eqb}
-use Rattle.table_bytes.specs.Reading.{onward-from}
-use Rattle.table_bytes.proofs.reading.onward_from.Statement.{statement}
-use Rattle.table_bytes.proofs.reading.onward_from.Tie as tie
+use Rattle.table_bytes.specs.ThreadBytes.{onward-from}
+use Rattle.table_bytes.proofs.thread_bytes.onward_from.Statement.{statement}
+use Rattle.table_bytes.proofs.thread_bytes.onward_from.Tie as tie
 
 pub onward-from-spec : {M : Type 1} → statement M
 unfolding onward-from

@@ -1,8 +1,8 @@
--- `table_bytes::reading::later_phase_from` meets its contract: each way through the code is that of the definition.
+-- `table_bytes::thread_bytes::later_phase_from` meets its contract: each way through the code is that of the definition.
 use borrow.Author.Tests.{eq-eqb, ne-eqb}
-use Rattle.table_bytes.specs.Reading.{later-phase-from}
-use Rattle.table_bytes.proofs.reading.later_phase_from.Statement.{statement}
-use Rattle.table_bytes.proofs.reading.later_phase_from.Tie as tie
+use Rattle.table_bytes.specs.ThreadBytes.{later-phase-from}
+use Rattle.table_bytes.proofs.thread_bytes.later_phase_from.Statement.{statement}
+use Rattle.table_bytes.proofs.thread_bytes.later_phase_from.Tie as tie
 
 pub later-phase-from-spec : {M : Type 1} → statement M
 unfolding later-phase-from

@@ -1,7 +1,7 @@
--- `table_bytes::writing::thread_bytes` meets its contract: each way through the code is that of the definition.
+-- `table_bytes::thread_bytes::thread_bytes` meets its contract: each way through the code is that of the definition.
 use borrow.Author.Needs.{needs}
-use Rattle.table_bytes.proofs.writing.thread_bytes.Statement.{statement}
-use Rattle.table_bytes.proofs.writing.thread_bytes.Tie as tie
+use Rattle.table_bytes.proofs.thread_bytes.thread_bytes.Statement.{statement}
+use Rattle.table_bytes.proofs.thread_bytes.thread_bytes.Tie as tie
 
 pub thread-bytes-spec : {M : Type 1} → statement M
 thread-bytes-spec =

@@ -1,7 +1,7 @@
--- `table_bytes::writing::object_bytes` meets its contract: each way through the code is that of the definition.
+-- `table_bytes::object_bytes::object_bytes` meets its contract: each way through the code is that of the definition.
 use borrow.Author.Needs.{needs}
-use Rattle.table_bytes.proofs.writing.object_bytes.Statement.{statement}
-use Rattle.table_bytes.proofs.writing.object_bytes.Tie as tie
+use Rattle.table_bytes.proofs.object_bytes.object_bytes.Statement.{statement}
+use Rattle.table_bytes.proofs.object_bytes.object_bytes.Tie as tie
 
 pub object-bytes-spec : {M : Type 1} → statement M
 object-bytes-spec =

@@ -1,7 +1,7 @@
--- `table_bytes::reading::object_of` meets its contract: each way through the code is that of the definition.
+-- `table_bytes::object_bytes::object_of` meets its contract: each way through the code is that of the definition.
 use borrow.Author.Needs.{needs}
-use Rattle.table_bytes.proofs.reading.object_of.Statement.{statement}
-use Rattle.table_bytes.proofs.reading.object_of.Tie as tie
+use Rattle.table_bytes.proofs.object_bytes.object_of.Statement.{statement}
+use Rattle.table_bytes.proofs.object_bytes.object_of.Tie as tie
 
 pub object-of-spec : {M : Type 1} → statement M
 object-of-spec =

@@ -1,7 +1,7 @@
--- `table_bytes::reading::thread_of` meets its contract: each way through the code is that of the definition.
+-- `table_bytes::thread_bytes::thread_of` meets its contract: each way through the code is that of the definition.
 use borrow.Author.Needs.{needs}
-use Rattle.table_bytes.proofs.reading.thread_of.Statement.{statement}
-use Rattle.table_bytes.proofs.reading.thread_of.Tie as tie
+use Rattle.table_bytes.proofs.thread_bytes.thread_of.Statement.{statement}
+use Rattle.table_bytes.proofs.thread_bytes.thread_of.Tie as tie
 
 pub thread-of-spec : {M : Type 1} → statement M
 thread-of-spec =

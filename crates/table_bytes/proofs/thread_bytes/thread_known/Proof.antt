@@ -1,14 +1,12 @@
--- `table_bytes::reading::thread_known` meets its contract: each way through the code is that of the definition.
+-- `table_bytes::thread_bytes::thread_known` meets its contract: each way through the code is that of the definition.
 use borrow.Author.Needs.{needs}
-use Rattle.table_bytes.proofs.reading.thread_known.Statement.{statement}
-use Rattle.table_bytes.proofs.reading.thread_known.Tie as tie
+use Rattle.table_bytes.proofs.thread_bytes.thread_known.Statement.{statement}
+use Rattle.table_bytes.proofs.thread_bytes.thread_known.Tie as tie
 
 pub thread-known-spec : {M : Type 1} → statement M
 thread-known-spec =
     tie.close
     (tie.spec
-    (λ c. search needs)
-    (λ c. search needs)
     (λ c. search needs)
     (λ c. search needs)
     (λ c. search needs)

@@ -1,0 +1,97 @@
+-- Case analysis once: what holds of each form that a doing, a state, an operation, a word in sight or the like has, holds of all. The cases come as
+-- one tuple, so that where all are plain one `search` finds them.
+use Prim.Native.Nat.{ℕ}
+use Rattle.chains.specs.declared.named.Chain.{Chain}
+use Rattle.lock_rules.specs.Operations.{Operation, Enter, Exit, Wait, Notify, NotifyAll}
+use Rattle.lock_rules.specs.declared.Suspension.{Suspension}
+use Rattle.lock_rules.specs.declared.Carried.{Carried}
+use Rattle.lock_rules.specs.declared.Carried.the-variants.{ToCheck, ToTell, ToInflate, ToResume}
+use Rattle.lock_rules.specs.declared.Doing.{Doing}
+use Rattle.lock_rules.specs.declared.Doing.the-variants.{EnterLook, EnterStore, EnterCancel, EnterGoIn, EnterCheck, EnterTry, ExitLook, ExitStore}
+use Rattle.lock_rules.specs.declared.Doing.the-variants.{ExitGoIn, ExitTest, ExitTell, ExitLeave, WaitLook, WaitCancel, WaitGoIn, WaitInflate}
+use Rattle.lock_rules.specs.declared.Doing.the-variants.{WaitGiveUp, WaitResume, NotifyLook, NotifyAllLook}
+use Rattle.lock_rules.specs.declared.ThreadState.{ThreadState}
+use Rattle.lock_rules.specs.declared.ThreadState.the-variants.{Idle, Running, Queued, Contending, Waiting}
+use Rattle.lock_word.specs.declared.meaning.WordSeen.{WordSeen}
+use Rattle.lock_word.specs.declared.meaning.WordSeen.the-variants.{Free, Anonymous, Fat, Flat, Reserved}
+
+abbrev Enters : (Doing → Type 0) → Type 0
+Enters P = P EnterLook × ((c : ℕ) → P (EnterStore c)) × P EnterCancel × P EnterGoIn × P EnterCheck × P EnterTry
+
+abbrev Exits : (Doing → Type 0) → Type 0
+Exits P = P ExitLook × ((c : ℕ) → P (ExitStore c)) × P ExitGoIn × P ExitTest × P ExitTell × P ExitLeave
+
+abbrev Waits : (Doing → Type 0) → Type 0
+Waits P = P WaitLook × P WaitCancel × P WaitGoIn × P WaitInflate × P WaitGiveUp × ((saved : Suspension) → P (WaitResume saved))
+
+abbrev Doings : (Doing → Type 0) → Type 0
+Doings P = Enters P × Exits P × Waits P × P NotifyLook × P NotifyAllLook
+
+pub each-doing : (P : Doing → Type 0) → Doings P → (doing : Doing) → P doing
+each-doing P all EnterLook = all .0 .0
+each-doing P all (EnterStore c) = all .0 .1 c
+each-doing P all EnterCancel = all .0 .2
+each-doing P all EnterGoIn = all .0 .3
+each-doing P all EnterCheck = all .0 .4
+each-doing P all EnterTry = all .0 .5
+each-doing P all ExitLook = all .1 .0
+each-doing P all (ExitStore c) = all .1 .1 c
+each-doing P all ExitGoIn = all .1 .2
+each-doing P all ExitTest = all .1 .3
+each-doing P all ExitTell = all .1 .4
+each-doing P all ExitLeave = all .1 .5
+each-doing P all WaitLook = all .2 .0
+each-doing P all WaitCancel = all .2 .1
+each-doing P all WaitGoIn = all .2 .2
+each-doing P all WaitInflate = all .2 .3
+each-doing P all WaitGiveUp = all .2 .4
+each-doing P all (WaitResume saved) = all .2 .5 saved
+each-doing P all NotifyLook = all .3
+each-doing P all NotifyAllLook = all .4
+
+abbrev States : (ThreadState → Type 0) → Type 0
+States P = P Idle × ((doing : Doing) → P (Running doing)) × ((carried : Carried) → P (Queued carried)) × P Contending × ((saved : Suspension) → P (Waiting saved))
+
+pub each-state : (P : ThreadState → Type 0) → States P → (state : ThreadState) → P state
+each-state P all Idle = all .0
+each-state P all (Running doing) = all .1 doing
+each-state P all (Queued carried) = all .2 carried
+each-state P all Contending = all .3
+each-state P all (Waiting saved) = all .4 saved
+
+abbrev Carrieds : (Carried → Type 0) → Type 0
+Carrieds P = P ToCheck × P ToTell × P ToInflate × ((saved : Suspension) → P (ToResume saved))
+
+pub each-carried : (P : Carried → Type 0) → Carrieds P → (carried : Carried) → P carried
+each-carried P all ToCheck = all .0
+each-carried P all ToTell = all .1
+each-carried P all ToInflate = all .2
+each-carried P all (ToResume saved) = all .3 saved
+
+abbrev pub Words : (WordSeen → Type 0) → Type 0
+Words P = P Free × P Anonymous × P Fat × ((owner c : ℕ) → P (Flat owner c)) × ((owner c : ℕ) → P (Reserved owner c))
+
+pub each-word : (P : WordSeen → Type 0) → Words P → (word : WordSeen) → P word
+each-word P all Free = all .0
+each-word P all Anonymous = all .1
+each-word P all Fat = all .2
+each-word P all (Flat owner c) = all .3 owner c
+each-word P all (Reserved owner c) = all .4 owner c
+
+abbrev Operations : (Operation → Type 0) → Type 0
+Operations P = P Enter × P Exit × P Wait × P Notify × P NotifyAll
+
+pub each-operation : (P : Operation → Type 0) → Operations P → (operation : Operation) → P operation
+each-operation P all Enter = all .0
+each-operation P all Exit = all .1
+each-operation P all Wait = all .2
+each-operation P all Notify = all .3
+each-operation P all NotifyAll = all .4
+
+abbrev Chains : (Chain → Type 0) → Type 0
+Chains P = P Chain.Entry × P Chain.Contention × P Chain.Waiting
+
+pub each-chain : (P : Chain → Type 0) → Chains P → (chain : Chain) → P chain
+each-chain P all Chain.Entry = all .0
+each-chain P all Chain.Contention = all .1
+each-chain P all Chain.Waiting = all .2
