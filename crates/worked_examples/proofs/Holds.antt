@@ -2,6 +2,8 @@
 use mathlib.Core.Path.{refl}
 use Rattle.lock_word.specs.Read.{read-word, read-flat, read-reserved, fat-of}
 use Rattle.lock_word.specs.Meaning.{owned-by}
+use Rattle.laws.specs.Sequence.{tabulate}
+use Rattle.lock_table.specs.Access.{object-at}
 use Rattle.lock_table.specs.Fresh.{first-word}
 use Rattle.lock_table.specs.Operation.{operation-number}
 use Rattle.lock_table.specs.Phase.{phase-number}
@@ -33,9 +35,9 @@ word-examples =
     }
 
 pub record-examples : RecordExamples
-unfolding first-word operation-number phase-number chain-named names-chain unused-fits saves-depth
+unfolding tabulate object-at first-word operation-number phase-number chain-named names-chain unused-fits saves-depth
 record-examples =
-    record { free = refl; reserved = refl; kept-used = refl; kept-unused = refl; own-chain = refl; other-object = refl; other-chain = refl }
+    record { free = refl; reserved = refl; kept-used = refl; kept-unused = refl; own-chain = refl; other-object = refl; other-chain = refl; handed-holder = refl; handed-entry = refl; flag-place = refl; holder-place = refl }
 
 pub rule-examples : RuleExamples
 unfolding exit-tell
