@@ -3,7 +3,7 @@
 
 - every `path/to/file:name` in PROMISES, ARCHITECTURE, DECISIONS, PROOFS and CHANGING names a file of the repository in which that name is declared;
 - every path in backquotes, must-fail edits among them, and every link names a file, and a link's heading is one of that file;
-- every must-fail edit, named or not, says in its first line which claim it shows;
+- every must-fail edit is named in PROMISES, and says in its first line which claim it shows;
 - PROMISES has a row for each of K1 to K9, with as many rows of the table of cases as that file has;
 - returned numbers and phases have in REFERENCE the numbers and names that the header gives them.
 
@@ -59,10 +59,13 @@ def linked(document, target):
 
 
 def edits():
-    """(what is wrong or None) for each must-fail edit."""
+    """(what is wrong or None) for each must-fail edit, twice: its first line, and its name in PROMISES."""
+    promises = (ROOT / 'docs' / 'PROMISES.md').read_text(encoding='utf-8')
     for edit in sorted(ROOT.glob('crates/*/must-fail/*.edit')):
+        shown = edit.relative_to(ROOT)
         first = edit.read_text(encoding='utf-8').split('\n')[0]
-        yield None if re.match(r'^# \w', first) else f'{edit.relative_to(ROOT)}: its first line names no claim'
+        yield None if re.match(r'^# \w', first) else f'{shown}: its first line names no claim'
+        yield None if f'`{shown}`' in promises else f'docs/PROMISES.md: no row names {shown}'
 
 
 def cases():

@@ -1,0 +1,48 @@
+-- Every example holds: both sides compute to the same.
+use mathlib.Core.Path.{refl}
+use Rattle.lock_word.specs.Read.{read-word, read-flat, read-reserved, fat-of}
+use Rattle.lock_word.specs.Meaning.{owned-by}
+use Rattle.laws.specs.Sequence.{tabulate}
+use Rattle.lock_table.specs.Access.{object-at}
+use Rattle.lock_table.specs.Fresh.{first-word}
+use Rattle.lock_table.specs.Operation.{operation-number}
+use Rattle.lock_table.specs.Phase.{phase-number}
+use Rattle.lock_table.specs.Parked.{chain-named}
+use Rattle.sound_records.specs.Records.{names-chain, unused-fits, saves-depth}
+use Rattle.lock_rules.specs.Rules.{exit-tell}
+use Rattle.replay_lines.specs.Number.{is-digit, read-digits, read-number, read-field}
+use Rattle.replay_lines.specs.Grammar.{end-line, read-step, read-line}
+use Rattle.replay_text.specs.Digits.{digit-byte, digits}
+use Rattle.replay_text.specs.Text.{word-text}
+use Rattle.worked_examples.specs.Words.{WordExamples}
+use Rattle.worked_examples.specs.Records.{RecordExamples}
+use Rattle.worked_examples.specs.Rules.{RuleExamples}
+use Rattle.worked_examples.specs.Lines.{LineExamples}
+
+pub word-examples : WordExamples
+unfolding read-word read-flat read-reserved fat-of owned-by
+word-examples =
+    record {
+      free = refl;
+      flat = refl;
+      fat = refl;
+      beyond = refl;
+      greatest = refl;
+      count-alone = refl;
+      owned = refl;
+      held-only = refl;
+      held-by-nobody = refl;
+    }
+
+pub record-examples : RecordExamples
+unfolding tabulate object-at first-word operation-number phase-number chain-named names-chain unused-fits saves-depth
+record-examples =
+    record { free = refl; reserved = refl; kept-used = refl; kept-unused = refl; own-chain = refl; other-object = refl; other-chain = refl; handed-holder = refl; handed-entry = refl; flag-place = refl; holder-place = refl }
+
+pub rule-examples : RuleExamples
+unfolding exit-tell
+rule-examples = record { deflated = refl; inflated = refl; told = refl }
+
+pub line-examples : LineExamples
+unfolding is-digit read-digits read-number read-field end-line read-step read-line digit-byte digits word-text
+line-examples = record { step = refl; unended = refl; leading-zero = refl; tab = refl; word = refl }

@@ -1,0 +1,5 @@
+-- Worked examples, each a fact with a name.
+pub mod Words
+pub mod Records
+pub mod Rules
+pub mod Lines

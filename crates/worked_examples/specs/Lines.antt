@@ -1,0 +1,17 @@
+-- Examples of lines that are read and of what is printed, byte by byte in ASCII.
+use mathlib.Core.Path.{_≡_}
+use mathlib.Core.List.{List, [], _∷_}
+use Prim.Native.Nat.{ℕ}
+use Rattle.replay_lines.specs.Grammar.{read-line}
+use Rattle.replay_lines.specs.declared.reading.Line.the-variants.{Step, Malformed}
+use Rattle.replay_text.specs.Text.{word-text}
+
+pub record LineExamples : Type 0 where
+  -- `S 1` and a newline
+  pub step : read-line (83 ∷ 32 ∷ 49 ∷ 10 ∷ []) ≡ Step 1
+  -- without the newline, with a leading zero, and with a tab in place of the space
+  pub unended : read-line (83 ∷ 32 ∷ 49 ∷ []) ≡ Malformed
+  pub leading-zero : read-line (83 ∷ 32 ∷ 48 ∷ 49 ∷ 10 ∷ []) ≡ Malformed
+  pub tab : read-line (83 ∷ 9 ∷ 49 ∷ 10 ∷ []) ≡ Malformed
+  -- the word 00010a: six digits, lower-case, and a newline
+  pub word : word-text 0x00010a ≡ 48 ∷ 48 ∷ 48 ∷ 49 ∷ 48 ∷ 97 ∷ 10 ∷ []

@@ -1,0 +1,47 @@
+-- Examples of records: the words of a fresh table, what soundness asks of a thread's record, a monitor that is handed on, and a field in bytes.
+use mathlib.Core.Path.{_≡_}
+use mathlib.Core.Bool.{true, false}
+use mathlib.Core.List.{[], _∷_, _++_}
+use Prim.Native.Nat.{ℕ}
+use lib.ListN.{replicate}
+use Rattle.lock_table.specs.Access.{object-at}
+use Rattle.lock_table.specs.Fresh.{first-word}
+use Rattle.lock_table.specs.Monitor.{hand-of}
+use Rattle.lock_table.specs.declared.operation.Operation.the-variants.{Enter}
+use Rattle.lock_table.specs.declared.phase.Phase.{Phase}
+use Rattle.lock_table.specs.declared.phase.Phase.the-variants.{Look, Queued}
+use Rattle.lock_table.specs.declared.phase.Onward.the-variants.{ToCheck}
+use Rattle.lock_table.specs.declared.record.ThreadRecord.{ThreadRecord}
+use Rattle.lock_table.specs.declared.record.Monitor.{Monitor}
+use Rattle.sound_records.specs.Records.{names-chain, unused-fits}
+use Rattle.table_bytes.specs.Reading.{table-of}
+
+-- an enter at object 1 with this kept word and in this phase
+abbrev pub entering : ℕ → Phase → ThreadRecord
+entering kept phase = record { kept = kept; saved = 0; object = 1; next = 0; operation = Enter; phase = phase }
+
+-- thread 1 holds the monitor, and thread 2 is the first in its entry chain
+abbrev pub held : Monitor
+held = record { depth = 1; holder = 1; entry = 2; contention = 0; waiting = 0 }
+
+-- who holds object 1, by bytes of which the one at this place is 3 and those before it 0
+abbrev pub holder-by : ℕ → ℕ
+holder-by place = object-at (table-of (replicate place 0 ++ (3 ∷ []))) 1 .monitor .holder
+
+pub record RecordExamples : Type 0 where
+  -- the words of a fresh table: free, and anonymously reserved
+  pub free : first-word false ≡ 0x000000
+  pub reserved : first-word true ≡ 0x000002
+  -- a kept word in phase 2 and in phase 1
+  pub kept-used : unused-fits 2 0 (entering 0x000106 Look) ≡ true
+  pub kept-unused : unused-fits 1 0 (entering 0x000106 Look) ≡ false
+  -- queued at object 1, in the entry chain of object 1, of object 2, and in the contention chain
+  pub own-chain : names-chain 1 1 (entering 0 (Queued ToCheck)) ≡ true
+  pub other-object : names-chain 2 1 (entering 0 (Queued ToCheck)) ≡ false
+  pub other-chain : names-chain 1 2 (entering 0 (Queued ToCheck)) ≡ false
+  -- the monitor is handed to thread 2, behind which thread 3 stands
+  pub handed-holder : hand-of held 3 .monitor .holder ≡ 2
+  pub handed-entry : hand-of held 3 .monitor .entry ≡ 3
+  -- object 1 in bytes, from 354 on: four of its word, one of its flag, one of its holder
+  pub flag-place : holder-by 358 ≡ 0
+  pub holder-place : holder-by 359 ≡ 3

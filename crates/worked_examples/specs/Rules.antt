@@ -1,0 +1,34 @@
+-- Examples of steps whose rules demand 3 alone would not tell from others.
+use mathlib.Core.Path.{_≡_}
+use mathlib.Core.Bool.{Bool, true, false}
+use Rattle.chains.specs.declared.named.Chain.{Chain}
+use Rattle.lock_rules.specs.Rules.{deflation, exit-tell}
+use Rattle.lock_rules.specs.Actions.{keep-object}
+use Rattle.lock_rules.specs.declared.Doing.the-variants.{ExitLeave}
+use Rattle.lock_rules.specs.declared.ThreadState.the-variants.{Running}
+use Rattle.lock_rules.specs.declared.WordChange.the-variants.{Unchanged, Freed}
+use Rattle.lock_rules.specs.declared.Sight.{Sight}
+use Rattle.lock_rules.specs.declared.Taken.the-variants.{First, All}
+use Rattle.lock_rules.specs.declared.ChainWork.the-variants.{Move}
+use Rattle.lock_rules.specs.declared.Answer.the-variants.{GoneOn}
+use Rattle.lock_word.specs.declared.meaning.WordSeen.the-variants.{Fat}
+
+-- a monitor that thread 1 holds at depth 1, its flag up, nobody queued or waiting, with contenders or without
+abbrev pub seen : Bool → Sight
+seen alone =
+    record {
+      word = Fat;
+      flag = true;
+      holder = 1;
+      depth = 1;
+      entryempty = true;
+      contentionempty = alone;
+      waiters = 0;
+    }
+
+pub record RuleExamples : Type 0 where
+  -- the last exit, with nobody else at the monitor and with a contender
+  pub deflated : deflation (seen true) ≡ Freed
+  pub inflated : deflation (seen false) ≡ Unchanged
+  -- an exit tells the first contender
+  pub told : exit-tell (seen false) ≡ keep-object (seen false) (Move Chain.Contention First) (Running ExitLeave) GoneOn false

@@ -1,0 +1,338 @@
+//! Cases on the proved engine, through its library: tables that are sound and tables that break one clause of document 01's "Sound means", and the cases
+//! K1 to K9. What is expected is written here, and not asked of the second engine.
+
+use duskclamp::{Answer, Operation as Wanted, Refusal, Table as Engine, Words};
+use reference::table::{Monitor, ObjectRecord, Onward, Operation, Phase, Table, ThreadRecord};
+use tables::layout::encode;
+
+const ENTER: Operation = Operation::Enter;
+const EXIT: Operation = Operation::Exit;
+const WAIT: Operation = Operation::Wait;
+
+/// The first object's fat word.
+const FAT: u32 = 0x000101;
+
+fn engine(table: &Table) -> Engine {
+    Engine::from_bytes(encode(table).try_into().expect("a table's size"))
+}
+
+/// A step of thread 0 is 11 on a table that is not sound, and 12 on one that is.
+fn is_sound(table: &Table) -> bool {
+    match engine(table).step(0).result {
+        Err(Refusal::NotSound) => false,
+        Err(Refusal::NoSuchThread) => true,
+        other => panic!("{other:?}"),
+    }
+}
+
+/// Three threads and two objects.
+fn fresh() -> Table {
+    Table::fresh(3, 2, false).expect("sizes in range")
+}
+
+fn with_thread(mut table: Table, number: usize, record: ThreadRecord) -> Table {
+    table.thread_records[number - 1] = record;
+    table
+}
+
+fn with_object(mut table: Table, number: usize, record: ObjectRecord) -> Table {
+    table.object_records[number - 1] = record;
+    table
+}
+
+fn with_word(word: u32) -> Table {
+    let record = ObjectRecord {
+        word,
+        ..ObjectRecord::default()
+    };
+    with_object(fresh(), 1, record)
+}
+
+/// At object 1 in a phase, with nothing else in use.
+fn at(operation: Operation, phase: Phase) -> ThreadRecord {
+    ThreadRecord {
+        operation: Some(operation),
+        object: 1,
+        phase,
+        ..ThreadRecord::default()
+    }
+}
+
+/// Thread 1 has this record.
+fn first(record: ThreadRecord) -> Table {
+    with_thread(fresh(), 1, record)
+}
+
+/// Thread 1 is about to store this word.
+fn storing(operation: Operation, kept_word: u32) -> Table {
+    first(ThreadRecord {
+        kept_word,
+        ..at(operation, Phase::Store)
+    })
+}
+
+/// Object 1 has a fat word and this monitor.
+fn monitored(table: Table, depth: u16, holder: u8, [entry, contention, waiting]: [u8; 3]) -> Table {
+    let monitor = Monitor {
+        holder,
+        depth,
+        entry,
+        contention,
+        waiting,
+    };
+    let record = ObjectRecord {
+        word: FAT,
+        contention_flag: false,
+        monitor,
+    };
+    with_object(table, 1, record)
+}
+
+/// Thread 1 holds object 1, thread 2 has this record, and the chains begin with these threads.
+fn parked(record: ThreadRecord, chains: [u8; 3]) -> Table {
+    monitored(with_thread(fresh(), 2, record), 1, 1, chains)
+}
+
+fn saving(saved_depth: u16, record: ThreadRecord) -> ThreadRecord {
+    ThreadRecord {
+        saved_depth,
+        ..record
+    }
+}
+
+fn queued(operation: Operation, onward: Onward, saved_depth: u16) -> Table {
+    let record = saving(saved_depth, at(operation, Phase::Queued(onward)));
+    parked(record, [2, 0, 0])
+}
+
+/// Threads 2 and 3 in the entry chain of object 1; thread 3 has this next index.
+fn queue(depth: u16, holder: u8, next: u8) -> Table {
+    let record = at(ENTER, Phase::Queued(Onward::Check));
+    let two = with_thread(fresh(), 2, ThreadRecord { next: 3, ..record });
+    let three = with_thread(two, 3, ThreadRecord { next, ..record });
+    monitored(three, depth, holder, [2, 0, 0])
+}
+
+fn sized(threads: u8, objects: u8) -> Table {
+    Table {
+        threads,
+        objects,
+        ..fresh()
+    }
+}
+
+#[test]
+fn sound_tables() {
+    let waiting = saving(1, at(WAIT, Phase::Waiting));
+    let cases = [
+        ("fresh, free words", fresh()),
+        ("fresh, reserved words", Table::fresh(3, 2, true).unwrap()),
+        ("fresh, 32 and 64", Table::fresh(32, 64, true).unwrap()),
+        ("two threads queued", queue(1, 1, 0)),
+        ("queued for 15", queued(WAIT, Onward::Resume, 65535)),
+        (
+            "contending",
+            parked(at(ENTER, Phase::Contending), [0, 2, 0]),
+        ),
+        ("waiting", parked(waiting, [0, 0, 2])),
+        ("enter, kept count 62", storing(ENTER, 0x0001fa)),
+        ("exit, kept count 63", storing(EXIT, 0x0001fe)),
+    ];
+    for (name, table) in cases {
+        assert!(is_sound(&table), "{name}");
+    }
+}
+
+#[test]
+fn sizes_and_words() {
+    let cases = [
+        ("no threads", sized(0, 2)),
+        ("33 threads", sized(33, 2)),
+        ("no objects", sized(3, 0)),
+        ("65 objects", sized(3, 65)),
+        ("no lock word", with_word(0x000003)),
+        ("flat word of thread 4", with_word(0x000400)),
+        ("reserved word of thread 4", with_word(0x000406)),
+        ("fat word of another object", with_word(0x000201)),
+    ];
+    for (name, table) in cases {
+        assert!(!is_sound(&table), "{name}");
+    }
+}
+
+#[test]
+fn operations_and_phases() {
+    let look = at(ENTER, Phase::Look);
+    let none = ThreadRecord {
+        operation: None,
+        ..look
+    };
+    let cases = [
+        (
+            "enter at no object",
+            first(ThreadRecord { object: 0, ..look }),
+        ),
+        (
+            "enter at object 3",
+            first(ThreadRecord { object: 3, ..look }),
+        ),
+        ("no operation in phase 1", first(none)),
+        ("enter in phase 9", first(at(ENTER, Phase::Test))),
+        ("exit in phase 3", first(at(EXIT, Phase::Cancel))),
+        ("wait in phase 11", first(at(WAIT, Phase::Leave))),
+        (
+            "notify in phase 4",
+            first(at(Operation::Notify, Phase::GoIn)),
+        ),
+        ("enter queued for 12", queued(ENTER, Onward::Inflate, 0)),
+        ("exit queued for 6", queued(EXIT, Onward::Check, 0)),
+        ("wait queued for 10", queued(WAIT, Onward::Tell, 0)),
+    ];
+    for (name, table) in cases {
+        assert!(!is_sound(&table), "{name}");
+    }
+}
+
+#[test]
+fn kept_words_and_saved_depths() {
+    let cases = [
+        ("kept word of another thread", storing(ENTER, 0x000206)),
+        ("kept word flat", storing(ENTER, 0x000104)),
+        ("enter, kept count 63", storing(ENTER, 0x0001fe)),
+        ("exit, kept count 0", storing(EXIT, 0x000102)),
+        (
+            "waiting with no saved depth",
+            parked(at(WAIT, Phase::Waiting), [0, 0, 2]),
+        ),
+        (
+            "phase 15 with no saved depth",
+            first(at(WAIT, Phase::Resume)),
+        ),
+        (
+            "queued for 15 with no saved depth",
+            queued(WAIT, Onward::Resume, 0),
+        ),
+    ];
+    for (name, table) in cases {
+        assert!(!is_sound(&table), "{name}");
+    }
+}
+
+#[test]
+fn holders_and_chains() {
+    let entry = at(ENTER, Phase::Queued(Onward::Check));
+    let elsewhere = ThreadRecord { object: 2, ..entry };
+    let cases = [
+        ("holder 4", monitored(fresh(), 1, 4, [0; 3])),
+        ("holder 0 with depth 1", monitored(fresh(), 1, 0, [0; 3])),
+        ("holder 0 with an entry chain", queue(0, 0, 0)),
+        ("chain that comes back", queue(1, 1, 2)),
+        ("chain to thread 4", queue(1, 1, 4)),
+        ("parked in no chain", parked(entry, [0; 3])),
+        ("queued in the contention chain", parked(entry, [0, 2, 0])),
+        ("queued at another object", parked(elsewhere, [2, 0, 0])),
+        (
+            "idle thread in a chain",
+            monitored(fresh(), 1, 1, [3, 0, 0]),
+        ),
+    ];
+    for (name, table) in cases {
+        assert!(!is_sound(&table), "{name}");
+    }
+}
+
+#[test]
+fn past_records_and_unused_fields() {
+    let idle = ThreadRecord::default();
+    let look = at(ENTER, Phase::Look);
+    let flagged = ObjectRecord {
+        contention_flag: true,
+        ..ObjectRecord::default()
+    };
+    let kept = ThreadRecord {
+        kept_word: 0x000106,
+        ..look
+    };
+    let cases = [
+        (
+            "thread record past the last",
+            with_thread(fresh(), 4, saving(1, idle)),
+        ),
+        (
+            "object record past the last",
+            with_object(fresh(), 3, flagged),
+        ),
+        (
+            "idle with an operation",
+            first(ThreadRecord {
+                operation: Some(ENTER),
+                ..idle
+            }),
+        ),
+        (
+            "idle at an object",
+            first(ThreadRecord { object: 1, ..idle }),
+        ),
+        ("kept word in phase 1", first(kept)),
+        ("saved depth in phase 1", first(saving(1, look))),
+        (
+            "next index outside a chain",
+            first(ThreadRecord { next: 2, ..look }),
+        ),
+    ];
+    for (name, table) in cases {
+        assert!(!is_sound(&table), "{name}");
+    }
+}
+
+/// Owner and depth of object 1 with this word.
+fn owned(word: u32) -> (u32, u32) {
+    let engine = engine(&with_word(word));
+    (engine.owner(1).unwrap(), engine.depth(1).unwrap())
+}
+
+/// What thread 1 makes of the word by cancelling it.
+fn cancelled(word: u32) -> u32 {
+    let table = with_thread(with_word(word), 1, at(ENTER, Phase::Cancel));
+    let mut engine = engine(&table);
+    assert_eq!(engine.step(1).result, Ok(Answer::GoneOn));
+    engine.word(1).unwrap()
+}
+
+/// What the first step of an operation on object 1 answers, and the phase and the word behind it.
+fn first_step(word: u32, operation: Wanted, thread: u32) -> (Result<Answer, Refusal>, u8, u32) {
+    let mut engine = engine(&with_word(word));
+    engine.begin(thread, operation, 1).unwrap();
+    let result = engine.step(thread).result;
+    let phase = engine.phase(thread).unwrap().number();
+    (result, phase, engine.word(1).unwrap())
+}
+
+/// What the holder of object 1 at this depth is answered when it goes in once more, and the depth behind it.
+fn going_in_at(depth: u16) -> (Result<Answer, Refusal>, u32) {
+    let table = first(at(ENTER, Phase::GoIn));
+    let mut engine = engine(&monitored(table, depth, 1, [0; 3]));
+    let result = engine.step(1).result;
+    (result, engine.depth(1).unwrap())
+}
+
+#[test]
+fn k1_to_k9() {
+    let finished = Ok(Answer::Finished { woken: 0 });
+    assert_eq!((owned(0x000304), owned(0x00030a)), ((3, 2), (3, 2)), "K1");
+    assert_eq!(cancelled(0x00030a), 0x000304, "K2");
+    assert_eq!(cancelled(0x000302), 0x000000, "K3");
+    assert_eq!(cancelled(0x0003fe), 0x0003f8, "K4");
+    let full = first_step(0x0003fc, Wanted::Enter, 3);
+    assert_eq!(full, (Ok(Answer::GoneOn), 4, 0x0003fc), "K5");
+    let nearly = first_step(0x0003f8, Wanted::Enter, 3);
+    assert_eq!(nearly, (finished, 0, 0x0003fc), "K5");
+    assert!(!is_sound(&with_word(0x000003)), "K6");
+    assert!(Engine::fresh(32, 1, Words::Free).is_ok(), "K7");
+    let refused = Engine::fresh(33, 1, Words::Free).err();
+    assert_eq!(refused, Some(Refusal::SizeOutOfRange), "K7");
+    let exit = first_step(0x000002, Wanted::Exit, 1);
+    assert_eq!(exit, (Err(Refusal::NotOwner), 0, 0x000002), "K8");
+    assert_eq!(going_in_at(65534), (finished, 65535), "K9");
+    assert_eq!(going_in_at(65535), (Err(Refusal::TooDeep), 65535), "K9");
+}
