@@ -2,8 +2,9 @@
 use mathlib.Core.Path.{_≡_}
 use mathlib.Core.Bool.{true, false}
 use mathlib.Core.List.{[], _∷_, _++_}
-use Prim.Native.Nat.{ℕ}
+use Prim.Native.Nat.{ℕ, _+_}
 use lib.ListN.{replicate}
+use Rattle.lock_table.specs.Record.{no-thread, with-activity}
 use Rattle.lock_table.specs.Access.{object-at}
 use Rattle.lock_table.specs.Fresh.{first-word}
 use Rattle.lock_table.specs.Monitor.{hand-of}
@@ -14,11 +15,12 @@ use Rattle.lock_table.specs.declared.phase.Onward.the-variants.{ToCheck}
 use Rattle.lock_table.specs.declared.record.ThreadRecord.{ThreadRecord}
 use Rattle.lock_table.specs.declared.record.Monitor.{Monitor}
 use Rattle.sound_records.specs.Records.{names-chain, unused-fits}
+use Rattle.table_bytes.specs.Layout.{objects-start}
 use Rattle.table_bytes.specs.Reading.{table-of}
 
 -- an enter at object 1 with this kept word and in this phase
 abbrev pub entering : ℕ → Phase → ThreadRecord
-entering kept phase = record { kept = kept; saved = 0; object = 1; next = 0; operation = Enter; phase = phase }
+entering kept phase = with-activity no-thread (record { kept = kept; saved = 0; object = 1; operation = Enter; phase = phase })
 
 -- thread 1 holds the monitor, and thread 2 is the first in its entry chain
 abbrev pub held : Monitor
@@ -42,6 +44,6 @@ pub record RecordExamples : Type 0 where
   -- the monitor is handed to thread 2, behind which thread 3 stands
   pub handed-holder : hand-of held 3 .monitor .holder ≡ 2
   pub handed-entry : hand-of held 3 .monitor .entry ≡ 3
-  -- object 1 in bytes, from 354 on: four of its word, one of its flag, one of its holder
-  pub flag-place : holder-by 358 ≡ 0
-  pub holder-place : holder-by 359 ≡ 3
+  -- object 1 in bytes: four of its word, one of its flag, one of its holder
+  pub flag-place : holder-by (objects-start + 4) ≡ 0
+  pub holder-place : holder-by (objects-start + 5) ≡ 3
