@@ -7,9 +7,8 @@ use Rattle.lock_table.specs.Access.{set-thread, set-object, next-of}
 use Rattle.lock_table.specs.declared.record.ObjectRecord.{ObjectRecord}
 use Rattle.lock_table.specs.declared.record.Table.{Table}
 use Rattle.lock_perform.specs.State.{write-thread}
-use Rattle.lock_perform.specs.Moving.{carry-out}
+use Rattle.lock_perform.specs.Moving.{CarriedOut, carry-out}
 use Rattle.lock_perform.specs.Perform.{word-after, begun-monitor}
-use Rattle.lock_perform.specs.declared.moving.CarriedOut.{CarriedOut}
 
 -- the thread in its new state, with the next index that the chains gave it, and the object
 abbrev pub write-back : CarriedOut → ℕ → ℕ → ThreadState → ℕ → Bool → Table
