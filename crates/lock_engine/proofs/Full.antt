@@ -15,9 +15,8 @@ use Rattle.lock_table.specs.declared.record.ObjectRecord.{ObjectRecord}
 use Rattle.lock_table.specs.declared.record.Monitor.{Monitor}
 use Rattle.lock_table.specs.declared.record.Table.{Table}
 use Rattle.lock_table.proofs.Records.{thread-beside, object-beside}
-use Rattle.lock_perform.specs.Moving.{relink, moved-whole, after-whole, carry-out}
+use Rattle.lock_perform.specs.Moving.{CarriedOut, relink, moved-whole, after-whole, carry-out}
 use Rattle.lock_perform.specs.Perform.{stays, settled}
-use Rattle.lock_perform.specs.declared.moving.CarriedOut.{CarriedOut}
 use Rattle.lock_engine.specs.Handle.{handle-trusting, handle}
 
 pub record Full (table : Table) : Type 0 where

@@ -31,15 +31,16 @@ use Rattle.lock_table.specs.Operation.{operation-from}
 use Rattle.lock_table.proofs.Records.{thread-in, object-in, set-thread-in, set-thread-out, set-object-in, set-object-out, object-unchanged}
 use Rattle.lock_perform.specs.Perform.{stays, work-done}
 use Rattle.lock_perform.proofs.Lengths.{length-none}
-use Rattle.lock_engine.specs.Turn.{begun, gate-turn, open-turn, step-turn, take-turn}
+use Rattle.lock_engine.specs.Turn.{begun, gate-turn, open-turn, step-turn}
 use Rattle.lock_gate.specs.Status.{thread-status}
 use Rattle.lock_table.specs.Place.{thread-place, object-place}
 use Rattle.lock_table.proofs.Places.{Has, Lacks, has?, place-has}
-use Rattle.lock_engine.specs.Handle.{event-object, waiters-of, trusted, turn-with, handle-with, handle-trusting}
+use Rattle.lock_engine.specs.Handle.{event-object, trusted, turn-with, work-done-of, handle-with, handle-trusting}
 use Rattle.lock_engine.specs.declared.outcome.Reply.{Reply}
 use Rattle.lock_engine.specs.declared.outcome.Reply.the-variants.{Begun, Refused}
 use Rattle.lock_engine.specs.declared.outcome.Outcome.{Outcome}
 use Rattle.lock_engine.specs.declared.turning.Turn.{Turn}
+use Rattle.lock_engine.specs.declared.settling.WorkDone.{WorkDone}
 
 lacks-within : (limit size number : ℕ) → size ≤ limit → Lacks limit number → within 1 size number ≡ false
 lacks-within limit size number small (inl none) = rw (none) refl
@@ -198,21 +199,19 @@ module _ (t : Table) (event : Event) (issound : Bool) where
       by-thread (inr lacks) = nobody lacks
 
 -- what the code's locals are when the turn has been taken
-pub record Taken (t : Table) (event : Event) (issound : Bool) (thread place number home waiters : ℕ) (turn : Turn) : Type 0 where
+pub record Taken (t : Table) (event : Event) (issound : Bool) (thread place number home : ℕ) (turn : Turn) : Type 0 where
   pub thread-is : thread ≡ event-thread event
   pub place-is : place ≡ thread-place thread
   pub number-is : number ≡ event-object event (getD (t .threads) place no-thread .object)
   pub home-is : home ≡ object-place number
-  pub waiters-are : waiters ≡ waiters-of t (getD (t .objects) home no-object)
-  pub turn-is : turn
-      ≡ take-turn (trusted t issound) (t .threadcount) (t .objectcount) event (getD (t .threads) place no-thread) (getD (t .objects) home no-object) waiters
+  pub turn-is : turn ≡ turn-with t event issound (getD (t .threads) place no-thread) (getD (t .objects) home no-object)
 
 -- nobody waits, and nobody was counted
 pub none-wait : (t : Table) {first : ℕ} → first ≡ 0 → 0 ≡ chain-length thread-limit (next-of t) first
 none-wait t none = sym (ap (chain-length thread-limit (next-of t)) none ∙ length-none thread-limit (next-of t))
 
-module _ {t : Table} {event : Event} {issound : Bool} {thread place number home waiters : ℕ} {turn : Turn}
-    (taken : Taken t event issound thread place number home waiters turn) where
+module _ {t : Table} {event : Event} {issound : Bool} {thread place number home : ℕ} {turn : Turn}
+    (taken : Taken t event issound thread place number home turn) where
   settled-so :
       record {
         table = pick (stays (turn .work)) (stored t place home (turn .own) (turn .object))
@@ -222,7 +221,7 @@ module _ {t : Table} {event : Event} {issound : Bool} {thread place number home 
       }
       ≡ handle-trusting t event issound
   settled-so =
-      rw (taken .turn-is, taken .waiters-are, taken .home-is, taken .number-is, taken .place-is, taken .thread-is) (sym (in-place t event issound))
+      rw (taken .turn-is, taken .home-is, taken .number-is, taken .place-is, taken .thread-is) (sym (in-place t event issound))
 
   -- both records were stored
   pub stored-so : stays (turn .work) ≡ true
@@ -230,6 +229,6 @@ module _ {t : Table} {event : Event} {issound : Bool} {thread place number home 
   stored-so stay = rw stay at settled-so
 
   -- work on the chains was done
-  pub worked-so : stays (turn .work) ≡ false → {after : Table} → after ≡ work-done t thread number (turn .own) (turn .object) (turn .work)
-      → record { table = after; reply = turn .reply; commits = turn .commits } ≡ handle-trusting t event issound
-  worked-so work done = rw done (rw work at settled-so)
+  pub worked-so : stays (turn .work) ≡ false → {done : WorkDone} → done ≡ work-done-of t thread number turn
+      → record { table = done .table; reply = turn .reply; commits = turn .commits } ≡ handle-trusting t event issound
+  worked-so work is = rw is (rw work at settled-so)

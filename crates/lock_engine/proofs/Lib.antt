@@ -1,5 +1,6 @@
 -- The laws of events.
 pub mod InPlace
+pub mod Worked
 pub mod Refused
 pub mod Narrow
 pub mod Full

@@ -12,11 +12,13 @@ use Rattle.lock_table.specs.Access.{thread-at, object-at, next-of}
 use Rattle.lock_table.specs.declared.record.ThreadRecord.{ThreadRecord}
 use Rattle.lock_table.specs.declared.record.ObjectRecord.{ObjectRecord}
 use Rattle.lock_table.specs.declared.record.Table.{Table}
-use Rattle.lock_perform.specs.Perform.{settled}
+use Rattle.lock_perform.specs.Moving.{carry-out}
+use Rattle.lock_perform.specs.Perform.{work-done, settled}
 use Rattle.lock_soundness.specs.Sound.{sound-of}
 use Rattle.lock_engine.specs.Turn.{take-turn}
 use Rattle.lock_engine.specs.declared.outcome.Outcome.{Outcome}
 use Rattle.lock_engine.specs.declared.turning.Turn.{Turn}
+use Rattle.lock_engine.specs.declared.settling.WorkDone.{WorkDone}
 
 -- the object that an event is about: a begin names it, a step's is the one that its thread's operation is on
 abbrev pub event-object : Event → ℕ → ℕ
@@ -34,6 +36,14 @@ trusted table issound = both issound (leb (table .threadcount) thread-limit)
 abbrev pub turn-with : Table → Event → Bool → ThreadRecord → ObjectRecord → Turn
 turn-with table event issound own object =
     take-turn (trusted table issound) (table .threadcount) (table .objectcount) event own object (waiters-of table object)
+
+-- the table with a turn's work on the chains done and its records written, and whom the work unparked
+abbrev pub work-done-of : Table → ℕ → ℕ → Turn → WorkDone
+work-done-of table thread number turn =
+    record {
+      table = work-done table thread number (turn .own) (turn .object) (turn .work);
+      unparked = carry-out table (turn .object .monitor) (turn .work) thread number .unparked;
+    }
 
 abbrev pub outcome-of : Table → ℕ → ℕ → Turn → Outcome
 outcome-of table thread number turn =

@@ -1,17 +1,20 @@
 // An event on a table: the two records that it touches are read in place, take their turn and are written back in place.
 use crate::outcome::Outcome;
+use crate::settling::work_done;
+use crate::turning::Turn;
 use crate::turning::take_turn;
 use lock_perform::length_from;
 use lock_perform::stays;
-use lock_perform::work_done;
 use lock_rules::Event;
+use lock_table::ObjectRecord;
 use lock_table::THREADS;
 use lock_table::Table;
+use lock_table::ThreadRecord;
 use lock_table::object_place;
 use lock_table::thread_place;
 ghost use mathlib.Core.Path.{_≡_};
 ghost use Rattle.lock_rules.specs.Gate.{event-thread};
-ghost use Rattle.lock_engine.specs.Handle.{event-object, handle-trusting, handle, begin, step};
+ghost use Rattle.lock_engine.specs.Handle.{event-object, turn-with, handle-trusting, handle, begin, step};
 
 pub fn event_thread(event: Event) -> u8
     ensures { λ r. ⌜ r ≡ event-thread event ⌝ }
@@ -40,6 +43,33 @@ pub fn event_object(event: Event, object: u8) -> u8
     }
 }
 
+// What an event makes of the two records, of a table that is taken to be sound or not. The waiters are counted here, and nowhere else; where nobody
+// waits there is nothing to walk.
+pub fn turn_with(
+    table: Table,
+    event: Event,
+    issound: bool,
+    own: ThreadRecord,
+    object: ObjectRecord,
+) -> Turn
+    ensures { λ r. ⌜ r ≡ turn-with table event issound own object ⌝ }
+{
+    let mut waiters: u8 = 0;
+    if object.monitor.waiting != 0 {
+        waiters = length_from(table, object.monitor.waiting);
+    }
+    let trusted = issound & (table.threadcount <= THREADS);
+    take_turn(
+        trusted,
+        table.threadcount,
+        table.objectcount,
+        event,
+        own,
+        object,
+        waiters,
+    )
+}
+
 // For a caller that knows whether the table is sound.
 pub fn handle_trusting(table: Table, event: Event, issound: bool) -> Outcome
     ensures { λ r. ⌜ r ≡ handle-trusting table event issound ⌝ }
@@ -51,20 +81,7 @@ pub fn handle_trusting(table: Table, event: Event, issound: bool) -> Outcome
     let number = event_object(event, own.object);
     let home = object_place(number);
     let object = changed.objects[home];
-    let mut waiters: u8 = 0;
-    if object.monitor.waiting != 0 {
-        waiters = length_from(changed, object.monitor.waiting);
-    }
-    let issound = issound & (changed.threadcount <= THREADS);
-    let turn = take_turn(
-        issound,
-        changed.threadcount,
-        changed.objectcount,
-        event,
-        own,
-        object,
-        waiters,
-    );
+    let turn = turn_with(changed, event, issound, own, object);
     let ownafter = turn.own;
     let objectafter = turn.object;
     let work = turn.work;
@@ -73,7 +90,7 @@ pub fn handle_trusting(table: Table, event: Event, issound: bool) -> Outcome
         changed.threads[place] = ownafter;
         changed.objects[home] = objectafter;
     } else {
-        changed = work_done(changed, thread, number, ownafter, objectafter, work);
+        changed = work_done(changed, thread, number, turn).table;
     }
     Outcome {
         table: changed,

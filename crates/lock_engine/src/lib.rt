@@ -2,6 +2,7 @@
 // Every table and every number is answered; what cannot be done is refused with the first refusal that applies.
 mod handling;
 mod outcome;
+mod settling;
 mod turning;
 
 pub use handling::begin;
@@ -10,10 +11,12 @@ pub use handling::event_thread;
 pub use handling::handle;
 pub use handling::handle_trusting;
 pub use handling::step;
+pub use handling::turn_with;
 pub use outcome::Outcome;
 pub use outcome::Reply;
 pub use outcome::refusal_number;
 pub use outcome::returned;
 pub use outcome::woken;
+pub use settling::WorkDone;
+pub use settling::work_done;
 pub use turning::Turn;
-pub use turning::take_turn;

@@ -23,13 +23,14 @@ use Rattle.event_bytes.proofs.Encoding.{events-next, events-end}
 use Rattle.lock_table.specs.Whole.{Whole}
 use Rattle.lock_table.specs.declared.record.Table.{Table}
 use Rattle.lock_soundness.specs.Sound.{sound-of}
-use Rattle.lock_engine.specs.Handle.{handle-trusting, handle}
+use Rattle.lock_engine.specs.Handle.{work-done-of, handle-trusting, handle}
 use Rattle.lock_engine.specs.Outcome.{reply-returned, reply-woken}
 use Rattle.lock_engine.specs.declared.outcome.Outcome.{Outcome}
 use Rattle.lock_engine.specs.declared.turning.Turn.{Turn}
+use Rattle.lock_engine.specs.declared.settling.WorkDone.{WorkDone}
 use Rattle.lock_engine.proofs.InPlace.{Taken, stored, stored-so, worked-so}
 use Rattle.lock_engine.proofs.Refused.{refusing, handle-shut}
-use Rattle.lock_perform.specs.Perform.{stays, work-done}
+use Rattle.lock_perform.specs.Perform.{stays}
 use Rattle.lock_schedule.proofs.Theorem.{sound-kept, whole-kept}
 use Rattle.table_bytes.specs.Rows.{overwritten}
 use Rattle.table_bytes.specs.Reading.{AreBytes, table-of, is-table}
@@ -61,14 +62,15 @@ answer-stored done answer rest answers room =
     sym (ap (overwritten (done + 1) rest) one ∙ overwritten-next done (answer ∷ []) rest answers (omega (arith, room)))
 
 -- what the loop makes of its table in place, both records stored or the work on the chains done
-pub came-so : {t : Table} {event : Event} {issound : Bool} {thread place number home waiters : ℕ} {turn : Turn}
-    → Taken t event issound thread place number home waiters turn → {stay : Bool} → stay ≡ stays (turn .work) → {after : Table}
+pub came-so : {t : Table} {event : Event} {issound : Bool} {thread place number home : ℕ} {turn : Turn}
+    → Taken t event issound thread place number home turn → {stay : Bool} → stay ≡ stays (turn .work) → {after : Table}
     → ((stay ≡ true) × (after ≡ stored t place home (turn .own) (turn .object)))
-    ⊎ ((stay ≡ false) × (after ≡ work-done t thread number (turn .own) (turn .object) (turn .work)))
+    ⊎ ((stay ≡ false) × (done : WorkDone) × (done ≡ work-done-of t thread number turn) × (after ≡ done .table))
     → record { table = after; reply = turn .reply; commits = turn .commits } ≡ handle-trusting t event issound
 came-so {turn = turn} taken told (inl (stay, is)) =
     ap (λ (table : Table). record { table = table; reply = turn .reply; commits = turn .commits }) is ∙ stored-so taken (sym told ∙ stay)
-came-so taken told (inr (work, is)) = worked-so taken (sym told ∙ work) is
+came-so {turn = turn} taken told (inr (work, done, worked, is)) =
+    ap (λ (table : Table). record { table = table; reply = turn .reply; commits = turn .commits }) is ∙ worked-so taken (sym told ∙ work) worked
 
 -- a table that is not sound refuses every event
 refuses : (table : Table) (event : Event) → handle-trusting table event false ≡ refusing table NotSound

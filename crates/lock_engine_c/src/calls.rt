@@ -5,21 +5,17 @@ use lock_engine::event_object;
 use lock_engine::event_thread;
 use lock_engine::refusal_number;
 use lock_engine::returned;
-use lock_engine::take_turn;
+use lock_engine::turn_with;
 use lock_engine::woken;
-use lock_perform::length_from;
+use lock_engine::work_done;
 use lock_perform::stays;
-use lock_perform::work_done;
 use lock_rules::Answer;
 use lock_rules::Event;
 use lock_rules::Refusal;
 use lock_soundness::sound;
 use lock_table::FreshAnswer;
 use lock_table::FreshTable;
-use lock_table::ObjectRecord;
-use lock_table::THREADS;
 use lock_table::Table;
-use lock_table::ThreadRecord;
 use lock_table::fresh;
 use lock_table::fresh_returned;
 use lock_table::narrow;
@@ -35,7 +31,7 @@ use table_bytes::write_thread;
 ghost use mathlib.Core.Path.{_≡_};
 ghost use Prim.Native.Nat.{_≤_};
 ghost use Rattle.lock_rules.specs.Numbers.{first-refusal};
-ghost use Rattle.lock_engine.specs.Handle.{turn-with, handle};
+ghost use Rattle.lock_engine.specs.Handle.{handle};
 ghost use Rattle.table_bytes.specs.Layout.{table-size};
 ghost use Rattle.table_bytes.specs.Reading.{is-table, table-of};
 ghost use Rattle.lock_engine_c.specs.Calls.{packed-of, returned-in, event-answer, event-bytes, RefusedLeaves};
@@ -100,34 +96,8 @@ fn store_turn(bytes: &mut [u8], table: Table, thread: u8, number: u8, turn: Turn
             write_object(bytes, number, object);
             return;
         }
-        write_table(bytes, work_done(table, thread, number, own, object, work));
+        write_table(bytes, work_done(table, thread, number, turn).table);
     }
-}
-
-// What an event makes of the two records, of a table that is sound or not.
-pub(crate) fn turn_with(
-    table: Table,
-    event: Event,
-    issound: bool,
-    own: ThreadRecord,
-    object: ObjectRecord,
-) -> Turn
-    ensures { λ r. ⌜ r ≡ turn-with table event issound own object ⌝ }
-{
-    let mut waiters: u8 = 0;
-    if object.monitor.waiting != 0 {
-        waiters = length_from(table, object.monitor.waiting);
-    }
-    let trusted = issound & (table.threadcount <= THREADS);
-    take_turn(
-        trusted,
-        table.threadcount,
-        table.objectcount,
-        event,
-        own,
-        object,
-        waiters,
-    )
 }
 
 // On bytes that are a table, the event on the table that they say.

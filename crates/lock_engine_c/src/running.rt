@@ -2,15 +2,15 @@
 use crate::calls::packed;
 use crate::calls::reply_changes;
 use crate::calls::store;
-use crate::calls::turn_with;
 use event_bytes::EVENT_SIZE;
 use event_bytes::event_from;
 use lock_engine::event_object;
 use lock_engine::event_thread;
 use lock_engine::returned;
+use lock_engine::turn_with;
 use lock_engine::woken;
+use lock_engine::work_done;
 use lock_perform::stays;
-use lock_perform::work_done;
 use lock_soundness::sound;
 use lock_table::object_place;
 use lock_table::thread_place;
@@ -64,7 +64,7 @@ pub extern "C" fn duskclamp_run(bytes: &mut [u8], events: &[u8], answers: &mut [
             table.threads[place] = ownafter;
             table.objects[home] = objectafter;
         } else {
-            table = work_done(table, thread, number, ownafter, objectafter, work);
+            table = work_done(table, thread, number, turn).table;
         }
         changed = changed | reply_changes(reply);
         answers[done] = packed(returned(reply), woken(reply), turn.commits) as u64;

@@ -7,9 +7,8 @@ use Rattle.lock_table.specs.declared.record.ThreadRecord.{ThreadRecord}
 use Rattle.lock_table.specs.declared.record.ObjectRecord.{ObjectRecord}
 use Rattle.lock_table.specs.declared.record.Table.{Table}
 use Rattle.lock_perform.specs.State.{write-thread}
-use Rattle.lock_perform.specs.Moving.{carry-out}
+use Rattle.lock_perform.specs.Moving.{CarriedOut, carry-out}
 use Rattle.lock_perform.specs.Perform.{object-after}
-use Rattle.lock_perform.specs.declared.moving.CarriedOut.{CarriedOut}
 
 -- the thread in its new state, with the next index that the chains gave it, and the object
 abbrev pub write-back : CarriedOut → ℕ → ℕ → ThreadRecord → ObjectRecord → Table

@@ -12,6 +12,6 @@ use Rattle.lock_table.proofs.Walks.{hang-none}
 use Rattle.lock_perform.specs.Moving.{after-whole, carry-out}
 
 pub carry-out-stay : (table : Table) (monitor : Monitor) (thread object : ℕ)
-    → carry-out table monitor Stay thread object ≡ record { table = table; monitor = monitor; handed = 0 }
+    → carry-out table monitor Stay thread object ≡ record { table = table; monitor = monitor; unparked = 0 }
 unfolding after-whole
 carry-out-stay table monitor thread object = rw (set-thread-out table 0 (thread-at table 0) (inl refl), hang-none thread-limit table 0)

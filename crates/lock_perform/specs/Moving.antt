@@ -1,14 +1,15 @@
 -- What the work of a rule on chains does to the table's threads and to the monitor of the step's object (document 01, "Steps").
-use Prim.Native.Nat.{ℕ}
+use Prim.Native.Nat.{ℕ, _-_, _^_}
+use mathlib.Core.Bool.{Bool}
 use lib.Dec.{eqb, ltb}
-use Rattle.laws.specs.Choice.{pick}
+use Rattle.laws.specs.Choice.{pick, both, within}
 use Rattle.chains.specs.declared.named.Chain.{Chain}
 use Rattle.lock_rules.specs.declared.Taken.{Taken}
 use Rattle.lock_rules.specs.declared.Taken.the-variants.{First, All}
 use Rattle.lock_rules.specs.declared.ChainWork.{ChainWork}
 use Rattle.lock_rules.specs.declared.ChainWork.the-variants.{Stay, Join, JoinAndHand, Hand, Move, SendBack}
 use Rattle.lock_table.specs.Limits.{thread-limit}
-use Rattle.lock_table.specs.Record.{with-next, with-activity}
+use Rattle.lock_table.specs.Record.{no-thread, with-next, with-activity}
 use Rattle.lock_table.specs.Access.{thread-at, set-thread}
 use Rattle.lock_table.specs.Monitor.{hand-of, first-in, with-first, join, move-to-entry}
 use Rattle.lock_table.specs.Chain.{hang, handed-of, moved, move-all}
@@ -20,7 +21,6 @@ use Rattle.lock_table.specs.declared.record.ThreadRecord.{ThreadRecord}
 use Rattle.lock_table.specs.declared.record.Monitor.{Monitor}
 use Rattle.lock_table.specs.declared.record.Table.{Table}
 use Rattle.lock_perform.specs.declared.moving.ChainPlan.{ChainPlan}
-use Rattle.lock_perform.specs.declared.moving.CarriedOut.{CarriedOut}
 
 -- cancel: the word's thread, if in phase 2 on this object, goes back to 1; its kept word falls out of use
 abbrev pub look-again : ThreadRecord → ThreadRecord
@@ -61,17 +61,21 @@ touched Hand monitor = monitor .entry
 touched (Move from which) monitor = touched-by-move monitor from which
 touched (SendBack owner) monitor = narrow-of owner
 
+-- a set of threads has bit n - 1 for thread n: the set of one, of nobody for a number that has no record
+unfoldable pub thread-set : ℕ → ℕ
+thread-set thread = pick (eqb thread 0) 0 (pick (ltb thread-limit thread) 0 (2 ^ (thread - 1)))
+
 -- the record changes, and nobody joins a chain
 abbrev pub unlinked : ThreadRecord → Monitor → ℕ → ChainPlan
-unlinked changed monitor handed = record { changed = changed; monitor = monitor; handed = handed; front = 0; back = 0 }
+unlinked changed monitor unparked = record { changed = changed; monitor = monitor; unparked = unparked; front = 0; back = 0 }
 
 -- `thread` joins a chain at the end
 abbrev pub joining : ThreadRecord → Monitor → ℕ → Chain → ℕ → ChainPlan
-joining changed monitor handed chain thread =
+joining changed monitor unparked chain thread =
     record {
       changed = changed;
       monitor = join monitor chain thread;
-      handed = handed;
+      unparked = unparked;
       front = first-in monitor chain;
       back = thread;
     }
@@ -82,7 +86,7 @@ moving changed monitor from left =
     record {
       changed = changed;
       monitor = move-to-entry monitor from left;
-      handed = 0;
+      unparked = 0;
       front = with-first monitor from left .entry;
       back = first-in monitor from;
     }
@@ -90,11 +94,11 @@ moving changed monitor from left =
 -- What each work does, by `thread` at `object`; `before` is the record that it changes.
 -- hand: the first of the entry chain leaves it, becomes holder at depth 0 and takes its carried phase
 abbrev pub plan-hand : Monitor → ThreadRecord → ChainPlan
-plan-hand monitor before = let handed = hand-of monitor (before .next) in unlinked (handed-of before) (handed .monitor) (handed .thread)
+plan-hand monitor before = let handed = hand-of monitor (before .next) in unlinked (handed-of before) (handed .monitor) (thread-set (handed .thread))
 
 abbrev pub plan-join-and-hand : Monitor → ThreadRecord → Chain → ℕ → ChainPlan
 plan-join-and-hand monitor before chain thread =
-    let handed = hand-of monitor (before .next) in joining (handed-of before) (handed .monitor) (handed .thread) chain thread
+    let handed = hand-of monitor (before .next) in joining (handed-of before) (handed .monitor) (thread-set (handed .thread)) chain thread
 
 abbrev pub plan-move : Monitor → ThreadRecord → Chain → Taken → ChainPlan
 plan-move monitor before from First = moving (with-next (moved before) 0) monitor from (before .next)
@@ -112,9 +116,15 @@ plan (SendBack owner) monitor thread object before = unlinked (sent-back-of obje
 unfoldable pub if-record : ℕ → ThreadRecord → ThreadRecord → ThreadRecord
 if-record number there other = pick (eqb number 0) other (pick (ltb thread-limit number) other there)
 
+-- the table and the monitor after a work, and the set of threads that it unparked
+pub record CarriedOut : Type 0 where
+  pub table : Table
+  pub monitor : Monitor
+  pub unparked : ℕ
+
 -- a table, and what of the plan goes with it
 abbrev pub carried-out : Table → ChainPlan → CarriedOut
-carried-out table planned = record { table = table; monitor = planned .monitor; handed = planned .handed }
+carried-out table planned = record { table = table; monitor = planned .monitor; unparked = planned .unparked }
 
 -- one record changed, and one chain hung behind another
 abbrev pub relink : Table → Monitor → ChainWork → ℕ → ℕ → CarriedOut
@@ -144,3 +154,25 @@ after-whole table whole monitor work thread object =
 -- the work of `thread` at `object` carried out
 abbrev pub carry-out : Table → Monitor → ChainWork → ℕ → ℕ → CarriedOut
 carry-out table monitor work thread object = after-whole table (moved-whole work monitor) monitor work thread object
+
+-- The same as the code does it, one record at a time.
+-- the plan by the record that is at the place of the changed one; where nobody's changes, that record stays
+abbrev pub plan-at : ChainWork → Monitor → ℕ → ℕ → ThreadRecord → ChainPlan
+plan-at work monitor thread object there =
+    let number = touched work monitor in
+    let planned = plan work monitor thread object (if-record number there no-thread) in
+    record {
+      changed = if-record number (planned .changed) there;
+      monitor = planned .monitor;
+      unparked = planned .unparked;
+      front = planned .front;
+      back = planned .back;
+    }
+
+-- a walk along a chain goes on with this thread: there is one, and no more were passed than there are
+abbrev pub goes-on : ℕ → ℕ → Bool
+goes-on at left = both (ltb 0 left) (within 1 thread-limit at)
+
+-- a thread of a chain behind which another is hung
+unfoldable pub hung : ThreadRecord → ℕ → ThreadRecord
+hung thread back = pick (eqb (thread .next) 0) (with-next thread back) thread

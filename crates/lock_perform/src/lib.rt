@@ -1,16 +1,20 @@
-// A step's action carried out on the table's records: threads read from and written to their records, what a rule sees of its object, and
-// what an effect does to words, monitors and chains (document 01, "Steps").
+// A step's action on records: threads read from and written to their records, what a rule sees of its object, and what an effect does to words,
+// monitors and the records of chains (document 01, "Steps").
 mod moving;
 mod performing;
 mod sighting;
 mod state;
 
-pub use moving::CarriedOut;
 pub use moving::ChainPlan;
-pub use moving::carry_out;
+pub use moving::goes_on;
+pub use moving::hung;
+pub use moving::moved_whole;
+pub use moving::plan_at;
+pub use moving::touched;
 pub use performing::object_after;
+pub use performing::object_written;
+pub use performing::own_written;
 pub use performing::stays;
-pub use performing::work_done;
 pub use sighting::length_from;
 pub use sighting::sight_with;
 pub use state::activity_of;

@@ -1,36 +1,28 @@
-// What the work of a rule on chains does to the table's threads and to the monitor of the step's object, which is written back at the step's end.
+// What the work of a rule on chains does to thread records and to the monitor of the step's object. No table is looked at: the engine, which has it
+// in one local, goes along the chains and asks here what becomes of each record.
 use chains::Chain;
 use lock_rules::ChainWork;
 use lock_rules::Taken;
 use lock_table::Monitor;
 use lock_table::Phase;
 use lock_table::THREADS;
-use lock_table::Table;
 use lock_table::ThreadRecord;
 use lock_table::handed;
-use lock_table::move_all;
 use lock_table::moved;
 use lock_table::narrow;
 use lock_table::no_thread;
-use lock_table::thread_place;
 ghost use mathlib.Core.Path.{_≡_};
-ghost use Rattle.lock_perform.specs.Moving.{look-again, back-from, sent-back-of, touched-by-move, touched, unlinked, joining, moving, plan-hand, plan-join-and-hand, plan-move, plan, if-record, carried-out, relink, whole-move, moved-whole, after-whole, carry-out};
+ghost use Rattle.lock_perform.specs.Moving.{look-again, back-from, sent-back-of, touched-by-move, touched, thread-set, unlinked, joining, moving};
+ghost use Rattle.lock_perform.specs.Moving.{plan-hand, plan-join-and-hand, plan-move, plan, if-record, plan-at, whole-move, moved-whole, goes-on, hung};
 
-// What a work does: the record that it changes as it is then, the monitor after it, who is handed the monitor, and which
-// chain is hung behind which; 0 for nobody.
+// What a work does: the record that it changes as it is then, the monitor after it, whom it unparks, and which chain is hung behind which; 0 for
+// nobody.
 pub struct ChainPlan {
     pub changed: ThreadRecord,
     pub monitor: Monitor,
-    pub handed: u8,
+    pub unparked: u32,
     pub front: u8,
     pub back: u8,
-}
-
-// The table and the monitor after a work, and the thread that was handed the monitor, 0 for nobody.
-pub struct CarriedOut {
-    pub table: Table,
-    pub monitor: Monitor,
-    pub handed: u8,
 }
 
 fn look_again(thread: ThreadRecord) -> ThreadRecord
@@ -87,7 +79,7 @@ fn touched_by_move(monitor: Monitor, from: Chain, taken: Taken) -> u8
 }
 
 // Whose record the work changes, 0 for nobody's. A number beyond the records is nobody's.
-fn touched(work: ChainWork, monitor: Monitor) -> u8
+pub fn touched(work: ChainWork, monitor: Monitor) -> u8
     ensures { λ r. ⌜ r ≡ touched work monitor ⌝ }
 {
     match work {
@@ -100,13 +92,26 @@ fn touched(work: ChainWork, monitor: Monitor) -> u8
     }
 }
 
-fn unlinked(changed: ThreadRecord, monitor: Monitor, handed: u8) -> ChainPlan
-    ensures { λ r. ⌜ r ≡ unlinked changed monitor handed ⌝ }
+// A set of threads has bit n - 1 for thread n. This one has the one thread, or nobody for a number that has no record.
+fn thread_set(thread: u8) -> u32
+    ensures { λ r. ⌜ r ≡ thread-set thread ⌝ }
+{
+    if thread == 0 {
+        return 0;
+    }
+    if THREADS < thread {
+        return 0;
+    }
+    1u32 << ((thread as u32) - 1)
+}
+
+fn unlinked(changed: ThreadRecord, monitor: Monitor, unparked: u32) -> ChainPlan
+    ensures { λ r. ⌜ r ≡ unlinked changed monitor unparked ⌝ }
 {
     ChainPlan {
         changed: changed,
         monitor: monitor,
-        handed: handed,
+        unparked: unparked,
         front: 0,
         back: 0,
     }
@@ -115,16 +120,16 @@ fn unlinked(changed: ThreadRecord, monitor: Monitor, handed: u8) -> ChainPlan
 fn joining(
     changed: ThreadRecord,
     monitor: Monitor,
-    handed: u8,
+    unparked: u32,
     chain: Chain,
     thread: u8,
 ) -> ChainPlan
-    ensures { λ r. ⌜ r ≡ joining changed monitor handed chain thread ⌝ }
+    ensures { λ r. ⌜ r ≡ joining changed monitor unparked chain thread ⌝ }
 {
     ChainPlan {
         changed: changed,
         monitor: monitor.join(chain, thread),
-        handed: handed,
+        unparked: unparked,
         front: monitor.first_in(chain),
         back: thread,
     }
@@ -137,7 +142,7 @@ fn moving(changed: ThreadRecord, monitor: Monitor, from: Chain, left: u8) -> Cha
     ChainPlan {
         changed: changed,
         monitor: monitor.move_to_entry(from, left),
-        handed: 0,
+        unparked: 0,
         front: rest.entry,
         back: monitor.first_in(from),
     }
@@ -147,14 +152,20 @@ fn plan_hand(monitor: Monitor, before: ThreadRecord) -> ChainPlan
     ensures { λ r. ⌜ r ≡ plan-hand monitor before ⌝ }
 {
     let after = monitor.hand(before.next);
-    unlinked(handed(before), after.monitor, after.thread)
+    unlinked(handed(before), after.monitor, thread_set(after.thread))
 }
 
 fn plan_join_and_hand(monitor: Monitor, before: ThreadRecord, chain: Chain, thread: u8) -> ChainPlan
     ensures { λ r. ⌜ r ≡ plan-join-and-hand monitor before chain thread ⌝ }
 {
     let after = monitor.hand(before.next);
-    joining(handed(before), after.monitor, after.thread, chain, thread)
+    joining(
+        handed(before),
+        after.monitor,
+        thread_set(after.thread),
+        chain,
+        thread,
+    )
 }
 
 fn plan_move(monitor: Monitor, before: ThreadRecord, from: Chain, taken: Taken) -> ChainPlan
@@ -187,7 +198,7 @@ fn plan(
 }
 
 // The record of a number that has one, else the other.
-fn if_record(number: u8, there: ThreadRecord, other: ThreadRecord) -> ThreadRecord
+pub fn if_record(number: u8, there: ThreadRecord, other: ThreadRecord) -> ThreadRecord
     ensures { λ r. ⌜ r ≡ if-record number there other ⌝ }
 {
     if number == 0 {
@@ -199,53 +210,22 @@ fn if_record(number: u8, there: ThreadRecord, other: ThreadRecord) -> ThreadReco
     there
 }
 
-fn carried_out(table: Table, planned: ChainPlan) -> CarriedOut
-    ensures { λ r. ⌜ r ≡ carried-out table planned ⌝ }
-{
-    let monitor = planned.monitor;
-    CarriedOut {
-        table: table,
-        monitor: monitor,
-        handed: planned.handed,
-    }
-}
-
-// One record changed, and one chain hung behind another, in place.
-fn relink(table: Table, monitor: Monitor, work: ChainWork, thread: u8, object: u8) -> CarriedOut
-    ensures { λ r. ⌜ r ≡ relink table monitor work thread object ⌝ }
+// The plan by the record that is at the place of the changed one. Where nobody's changes, that record stays as it is.
+pub fn plan_at(
+    work: ChainWork,
+    monitor: Monitor,
+    thread: u8,
+    object: u8,
+    there: ThreadRecord,
+) -> ChainPlan
+    ensures { λ r. ⌜ r ≡ plan-at work monitor thread object there ⌝ }
 {
     let number = touched(work, monitor);
-    let place = thread_place(number);
-    let mut changed = table;
-    let before = changed.threads[place];
-    let planned = plan(
-        work,
-        monitor,
-        thread,
-        object,
-        if_record(number, before, no_thread()),
-    );
-    let own = planned.changed;
-    changed.threads[place] = if_record(number, own, before);
-    let mut at = planned.front;
-    let mut left = THREADS;
-    while 0 < left {
-        if at == 0 {
-            return carried_out(changed, planned);
-        }
-        if THREADS < at {
-            return carried_out(changed, planned);
-        }
-        let spot = (at as usize) - 1;
-        let last = changed.threads[spot];
-        if last.next == 0 {
-            changed.threads[spot] = last.with_next(planned.back);
-            return carried_out(changed, planned);
-        }
-        at = last.next;
-        left = left - 1;
-    }
-    carried_out(changed, planned)
+    let before = if_record(number, there, no_thread());
+    let mut planned = plan(work, monitor, thread, object, before);
+    let after = if_record(number, planned.changed, there);
+    planned.changed = after;
+    planned
 }
 
 fn whole_move(monitor: Monitor, from: Chain, taken: Taken) -> u8
@@ -258,7 +238,7 @@ fn whole_move(monitor: Monitor, from: Chain, taken: Taken) -> u8
 }
 
 // The first of a chain that moves whole, 0 for none.
-fn moved_whole(work: ChainWork, monitor: Monitor) -> u8
+pub fn moved_whole(work: ChainWork, monitor: Monitor) -> u8
     ensures { λ r. ⌜ r ≡ moved-whole work monitor ⌝ }
 {
     match work {
@@ -271,38 +251,19 @@ fn moved_whole(work: ChainWork, monitor: Monitor) -> u8
     }
 }
 
-fn after_whole(
-    table: Table,
-    whole: u8,
-    monitor: Monitor,
-    work: ChainWork,
-    thread: u8,
-    object: u8,
-) -> CarriedOut
-    ensures { λ r. ⌜ r ≡ after-whole table whole monitor work thread object ⌝ }
+// Whether a walk along a chain goes on with this thread: there is one, and no more were passed than there are.
+pub fn goes_on(at: u8, left: u8) -> bool
+    ensures { λ r. ⌜ r ≡ goes-on at left ⌝ }
 {
-    if whole == 0 {
-        return relink(table, monitor, work, thread, object);
-    }
-    relink(move_all(table, whole), monitor, work, thread, object)
+    (0 < left) & ((1 <= at) & (at <= THREADS))
 }
 
-// The work of `thread` at `object` carried out on the table and on the object's monitor.
-pub fn carry_out(
-    table: Table,
-    monitor: Monitor,
-    work: ChainWork,
-    thread: u8,
-    object: u8,
-) -> CarriedOut
-    ensures { λ r. ⌜ r ≡ carry-out table monitor work thread object ⌝ }
+// A thread of a chain behind which another is hung: the last one's next index is the first of the other chain.
+pub fn hung(thread: ThreadRecord, back: u8) -> ThreadRecord
+    ensures { λ r. ⌜ r ≡ hung thread back ⌝ }
 {
-    after_whole(
-        table,
-        moved_whole(work, monitor),
-        monitor,
-        work,
-        thread,
-        object,
-    )
+    if thread.next == 0 {
+        return thread.with_next(back);
+    }
+    thread
 }

@@ -1,18 +1,15 @@
-// What an effect does to the two records that it is about, and how they and its work on the chains go into the table.
-use crate::moving::carry_out;
+// What an effect does to the two records that it is about, and what is written of them once its work on the chains is done.
+use crate::moving::if_record;
 use lock_rules::ChainWork;
 use lock_rules::Effect;
 use lock_rules::WordChange;
 use lock_table::Monitor;
+use lock_table::OBJECTS;
 use lock_table::ObjectRecord;
-use lock_table::Table;
 use lock_table::ThreadRecord;
-use lock_table::set_object;
-use lock_table::set_thread;
-use lock_table::thread_at;
 use lock_word::Depth;
 ghost use mathlib.Core.Path.{_≡_};
-ghost use Rattle.lock_perform.specs.Perform.{word-after, begun-monitor, object-after, stays, work-done};
+ghost use Rattle.lock_perform.specs.Perform.{word-after, begun-monitor, object-after, stays, own-written, if-object, object-written};
 
 fn word_after(thread: u8, object: u8, word: u32, change: WordChange) -> u32
     ensures { λ r. ⌜ r ≡ word-after thread object word change ⌝ }
@@ -60,22 +57,34 @@ pub fn stays(work: ChainWork) -> bool
     }
 }
 
-// The work on the chains done, then both records written: the thread's with the next index and the object's with the chains that the work gave.
-pub fn work_done(
-    table: Table,
-    thread: u8,
-    number: u8,
-    own: ThreadRecord,
-    object: ObjectRecord,
-    work: ChainWork,
-) -> Table
-    ensures { λ r. ⌜ r ≡ work-done table thread number own object work ⌝ }
+// What is written of the thread at its place: its record with the next index that the work on the chains gave it.
+pub fn own_written(thread: u8, own: ThreadRecord, there: ThreadRecord) -> ThreadRecord
+    ensures { λ r. ⌜ r ≡ own-written thread own there ⌝ }
 {
-    let start = object.monitor;
-    let carried = carry_out(table, start, work, thread, number);
-    let changed = carried.table;
-    let monitor = carried.monitor;
-    let before = thread_at(changed, thread);
-    let written = set_thread(changed, thread, own.with_next(before.next));
-    set_object(written, number, object.with_monitor(monitor))
+    if_record(thread, own.with_next(there.next), there)
+}
+
+// The record of a number that has one, else the other.
+fn if_object(number: u8, there: ObjectRecord, other: ObjectRecord) -> ObjectRecord
+    ensures { λ r. ⌜ r ≡ if-object number there other ⌝ }
+{
+    if number == 0 {
+        return other;
+    }
+    if OBJECTS < number {
+        return other;
+    }
+    there
+}
+
+// What is written of the object at its place: its record with the chains that the work gave.
+pub fn object_written(
+    number: u8,
+    object: ObjectRecord,
+    monitor: Monitor,
+    there: ObjectRecord,
+) -> ObjectRecord
+    ensures { λ r. ⌜ r ≡ object-written number object monitor there ⌝ }
+{
+    if_object(number, object.with_monitor(monitor), there)
 }

@@ -42,8 +42,7 @@ use Rattle.lock_table.proofs.Records.{set-thread-out}
 use Rattle.lock_table.proofs.Narrowed.{narrowed}
 use Rattle.lock_table.proofs.Walks.{move-none, hang-none}
 use Rattle.lock_perform.specs.State.{write-thread}
-use Rattle.lock_perform.specs.Moving.{sent-back-of, relink, after-whole, carry-out}
-use Rattle.lock_perform.specs.declared.moving.CarriedOut.{CarriedOut}
+use Rattle.lock_perform.specs.Moving.{CarriedOut, sent-back-of, relink, after-whole, carry-out}
 use Rattle.lock_records.proofs.Numbering.{number, place-of, lists-of, list-at, update-number, work-links, first-is-head}
 use Rattle.lock_records.proofs.Written.{handed-written, moved-written}
 use Rattle.lock_records.proofs.Represents.{monitor-record, Represents, next-is}

@@ -32,9 +32,8 @@ use Rattle.lock_table.specs.declared.record.ThreadRecord.{ThreadRecord}
 use Rattle.lock_table.specs.declared.record.ObjectRecord.{ObjectRecord}
 use Rattle.lock_table.specs.declared.record.Table.{Table}
 use Rattle.lock_perform.specs.State.{write-thread}
-use Rattle.lock_perform.specs.Moving.{carry-out}
+use Rattle.lock_perform.specs.Moving.{CarriedOut, carry-out}
 use Rattle.lock_perform.proofs.Performed.{perform-of}
-use Rattle.lock_perform.specs.declared.moving.CarriedOut.{CarriedOut}
 use Rattle.lock_records.proofs.Numbering.{number, lists-of, list-at, by-number, work-links, Room, stands-work, lists-work}
 use Rattle.lock_records.proofs.Written.{word-written, word-changed}
 use Rattle.lock_records.proofs.Represents.{thread-record, monitor-record, object-record, Represents, record-is, next-is}

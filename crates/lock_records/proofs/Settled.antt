@@ -10,10 +10,9 @@ use Rattle.lock_table.specs.declared.record.ThreadRecord.{ThreadRecord}
 use Rattle.lock_table.specs.declared.record.ObjectRecord.{ObjectRecord}
 use Rattle.lock_table.specs.declared.record.Table.{Table}
 use Rattle.lock_perform.specs.State.{write-thread}
-use Rattle.lock_perform.specs.Moving.{carry-out}
+use Rattle.lock_perform.specs.Moving.{CarriedOut, carry-out}
 use Rattle.lock_perform.specs.Perform.{object-after, stays, settled}
 use Rattle.lock_perform.proofs.Performed.{write-back, perform-of}
-use Rattle.lock_perform.specs.declared.moving.CarriedOut.{CarriedOut}
 use Rattle.lock_perform.proofs.Staying.{carry-out-stay}
 
 module _ (t : Table) (n o : ℕ) (object : ObjectRecord) (effect : Effect) where

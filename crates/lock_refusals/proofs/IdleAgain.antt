@@ -11,7 +11,7 @@ use Rattle.lock_perform.specs.State.{write-activity}
 use Rattle.lock_perform.specs.Sight.{sight-at}
 use Rattle.lock_perform.specs.Perform.{word-after}
 use Rattle.lock_perform.proofs.Performed.{write-back, perform-of}
-use Rattle.lock_perform.specs.declared.moving.CarriedOut.{CarriedOut}
+use Rattle.lock_perform.specs.Moving.{CarriedOut}
 use Rattle.lock_perform.proofs.Staying.{carry-out-stay}
 use Rattle.lock_refusals.proofs.RuleEnds.{idle-again}
 

@@ -1,13 +1,10 @@
-// What is done to the threads of a chain that are handed the monitor or move. A loop reads and writes the table's records in place, since a table
-// that is passed on is copied.
+// What is done to the record of a thread that is handed the monitor or moves to another chain.
 use crate::phase::Onward;
 use crate::phase::Phase;
 use crate::phase::onward_phase;
-use crate::record::THREADS;
-use crate::record::Table;
 use crate::record::ThreadRecord;
 ghost use mathlib.Core.Path.{_≡_};
-ghost use Rattle.lock_table.specs.Chain.{carried-of, handed-of, moved-phase, moved, move-all};
+ghost use Rattle.lock_table.specs.Chain.{carried-of, handed-of, moved-phase, moved};
 
 // The phase that a thread goes on with when it is handed the monitor.
 fn carried(phase: Phase) -> Phase
@@ -70,27 +67,4 @@ pub fn moved(thread: ThreadRecord) -> ThreadRecord
 {
     let phase = thread.phase;
     thread.with_phase(moved_phase(phase))
-}
-
-// All threads of the chain from `first` on move; their next indexes stay.
-pub fn move_all(table: Table, first: u8) -> Table
-    ensures { λ r. ⌜ r ≡ move-all 32 table first ⌝ }
-{
-    let mut changed = table;
-    let mut at = first;
-    let mut left = THREADS;
-    while 0 < left {
-        if at == 0 {
-            return changed;
-        }
-        if THREADS < at {
-            return changed;
-        }
-        let place = (at as usize) - 1;
-        let thread = changed.threads[place];
-        changed.threads[place] = moved(thread);
-        at = thread.next;
-        left = left - 1;
-    }
-    changed
 }

@@ -16,7 +16,6 @@ pub use access::set_thread;
 pub use access::thread_at;
 pub use access::thread_place;
 pub use chain::handed;
-pub use chain::move_all;
 pub use chain::moved;
 pub use fresh_table::FreshAnswer;
 pub use fresh_table::FreshRequest;

@@ -60,11 +60,11 @@ module _ (t : Table) (event : Event) (issound : Bool) (known : issound ≡ sound
       (reply-woken (turned .reply)) (object-at (outcome .table) (event-object event (x .object)) .word)) own
       ∙ (λ j. answer-with (reply-returned (turned .reply)) (phase-number (phase j)) (reply-woken (turned .reply)) (word j)))))
 
-module _ {t : Table} {event : Event} {issound : Bool} {thread place number home waiters : ℕ} {turn : Turn}
-    (taken : Taken t event issound thread place number home waiters turn) (known : issound ≡ sound-of t) (whole : Whole t) where
+module _ {t : Table} {event : Event} {issound : Bool} {thread place number home : ℕ} {turn : Turn}
+    (taken : Taken t event issound thread place number home turn) (known : issound ≡ sound-of t) (whole : Whole t) where
   prints-so : turn-answer (turn .reply) (turn .own .phase) (turn .object .word) ≡ event-known t event issound .answer
   prints-so =
-      rw (taken .turn-is, taken .waiters-are, taken .home-is, taken .number-is, taken .place-is, taken .thread-is) (prints-here t event issound known whole)
+      rw (taken .turn-is, taken .home-is, taken .number-is, taken .place-is, taken .thread-is) (prints-here t event issound known whole)
 
   -- so the event is what was to be known of it
   pub event-so : {after : Table} {answer : Answer} → record { table = after; reply = turn .reply; commits = turn .commits } ≡ handle-trusting t event issound
@@ -83,8 +83,8 @@ event-line table Malformed issound is = false≢true is
 
 -- A LINE IN PLACE
 pub line-in-place : (stage : Stage) {table : Table} {line said : Line} {event : Event} {issound : Bool}
-    {thread place number home waiters : ℕ} {turn : Turn} {after : Table} {answer : Answer}
-    → Taken table event issound thread place number home waiters turn → runs-event stage line ≡ true → line ≡ said → event ≡ line-event line
+    {thread place number home : ℕ} {turn : Turn} {after : Table} {answer : Answer}
+    → Taken table event issound thread place number home turn → runs-event stage line ≡ true → line ≡ said → event ≡ line-event line
     → issound ≡ sound-by stage table → WholeBy stage table
     → record { table = after; reply = turn .reply; commits = turn .commits } ≡ handle-trusting table event issound
     → answer ≡ turn-answer (turn .reply) (turn .own .phase) (turn .object .word)

@@ -2,13 +2,12 @@
 use crate::ending::END_ROOM;
 use crate::ending::take_end;
 use crate::turn::take_line;
+use lock_engine::Turn;
 use lock_engine::event_object;
 use lock_engine::event_thread;
-use lock_engine::take_turn;
-use lock_perform::length_from;
+use lock_engine::turn_with;
+use lock_engine::work_done;
 use lock_perform::stays;
-use lock_perform::work_done;
-use lock_table::THREADS;
 use lock_table::Table;
 use lock_table::object_place;
 use lock_table::thread_place;
@@ -19,14 +18,18 @@ ghost use lib.ListN.{length};
 ghost use Rattle.replay_lines.specs.Cutting.{line-end, line-limit};
 ghost use Rattle.replay_text.specs.Text.{line-room};
 ghost use Rattle.replay_parts.specs.Part.{HasLine};
+ghost use Rattle.replay_session.specs.Known.{turn-answer, react-trusting};
 ghost use Rattle.replay_stream.specs.Stream.{fresh-stream, progressed, FedFrom, FedLines};
 use replay_lines::LINE_LIMIT;
+use replay_lines::Line;
+use replay_session::Reaction;
 use replay_session::Session;
 use replay_session::Stage;
 use replay_session::line_event;
 use replay_session::react_trusting;
 use replay_session::runs_event;
 use replay_session::turn_answer;
+use replay_text::Answer;
 use replay_text::LINE_ROOM;
 use replay_text::put_answer;
 
@@ -67,6 +70,30 @@ fn progressed(stage: Stage, table: Table, used: usize, wrote: usize) -> Progress
     }
 }
 
+// A line that runs no event.
+fn react_otherwise(stage: Stage, table: Table, line: Line, issound: bool) -> Reaction
+    ensures { λ r. ⌜ r ≡ react-trusting (record { stage = stage; table = table }) line issound ⌝ }
+{
+    react_trusting(
+        Session {
+            stage: stage,
+            table: table,
+        },
+        line,
+        issound,
+    )
+}
+
+// What is printed of an event.
+fn event_answer(turn: Turn) -> Answer
+    ensures { λ r. ⌜ r ≡ turn-answer (turn .reply) (turn .own .phase) (turn .object .word) ⌝ }
+{
+    let reply = turn.reply;
+    let own = turn.own;
+    let phase = own.phase;
+    turn_answer(reply, phase, turn.object.word)
+}
+
 // The whole lines at the start of the part, while there is room for what they print. The rest of the part goes to the next line's reader.
 // The table is tested once for all of them, and stands in this function alone: events read and write their records in place.
 fn take_lines(start: Session, input: &[u8], out: &mut [u8]) -> Progress
@@ -86,14 +113,7 @@ fn take_lines(start: Session, input: &[u8], out: &mut [u8]) -> Progress
         let line = replay_lines::read_line(&rest[..end]);
         rest = &rest[end..];
         if !runs_event(stage, line) {
-            let reaction = react_trusting(
-                Session {
-                    stage: stage,
-                    table: table,
-                },
-                line,
-                issound,
-            );
+            let reaction = react_otherwise(stage, table, line, issound);
             let session = reaction.session;
             let answer = reaction.answer;
             stage = session.stage;
@@ -108,31 +128,17 @@ fn take_lines(start: Session, input: &[u8], out: &mut [u8]) -> Progress
         let number = event_object(event, own.object);
         let home = object_place(number);
         let object = table.objects[home];
-        let mut waiters: u8 = 0;
-        if object.monitor.waiting != 0 {
-            waiters = length_from(table, object.monitor.waiting);
-        }
-        let turn = take_turn(
-            issound & (table.threadcount <= THREADS),
-            table.threadcount,
-            table.objectcount,
-            event,
-            own,
-            object,
-            waiters,
-        );
-        let reply = turn.reply;
+        let turn = turn_with(table, event, issound, own, object);
         let after = turn.own;
         let objectafter = turn.object;
         let work = turn.work;
-        let phase = after.phase;
-        wrote = put_answer(out, wrote, turn_answer(reply, phase, objectafter.word));
+        wrote = put_answer(out, wrote, event_answer(turn));
         if stays(work) {
             table.threads[place] = after;
             table.objects[home] = objectafter;
             continue;
         }
-        table = work_done(table, thread, number, after, objectafter, work);
+        table = work_done(table, thread, number, turn).table;
     }
     progressed(stage, table, input.len() - rest.len(), wrote)
 }

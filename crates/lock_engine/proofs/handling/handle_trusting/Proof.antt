@@ -1,9 +1,8 @@
 -- `lock_engine::handling::handle_trusting` meets its contract: what it does in place is what the definition says of the records' numbers.
 use mathlib.Core.Path.{sym, _∙_}
 use native.Mathlib.Omega.{arith}
-use Rattle.laws.proofs.Choice.{either-way}
 use Rattle.lock_table.specs.Limits.{thread-limit, object-limit}
-use Rattle.lock_engine.proofs.InPlace.{none-wait, stored-so, worked-so}
+use Rattle.lock_engine.proofs.InPlace.{stored-so, worked-so}
 use Rattle.lock_table.proofs.Places.{place-inside}
 use Rattle.lock_engine.proofs.handling.handle_trusting.Statement.{statement}
 use Rattle.lock_engine.proofs.handling.handle_trusting.Tie as tie
@@ -17,8 +16,7 @@ home-in c = rw (c .object-place .ensures) (place-inside object-limit _ (omega ar
 returns : tie.Need-returns
 returns c =
     let turned = c .before .before .before .before in
-    let joined = turned .before in
-    let home = joined .before .before .before in
+    let home = turned .before .before in
     let number = home .before in
     let place = number .before .before in
     stored-so
@@ -27,16 +25,15 @@ returns c =
       place-is = place .thread-place .ensures;
       number-is = number .event-object .ensures;
       home-is = home .object-place .ensures;
-      waiters-are = either-way (joined .if1 .came) (λ some. some .2 ∙ some .1 .ensures) (λ none. none .1 ∙ none-wait _ (none .0 .left));
-      turn-is = turned .take-turn .ensures;
+      turn-is = turned .turn-with .ensures;
     })
-    (sym (c .before .stays .ensures) ∙ c .if2 .taken)
+    (sym (c .before .stays .ensures) ∙ c .if1 .taken)
 
 returns-2 : tie.Need-returns-2
 returns-2 c =
-    let turned = c .before .before .before .before .before in
-    let joined = turned .before in
-    let home = joined .before .before .before in
+    let done = c .before in
+    let turned = done .before .before .before .before .before in
+    let home = turned .before .before in
     let number = home .before in
     let place = number .before .before in
     worked-so
@@ -45,10 +42,9 @@ returns-2 c =
       place-is = place .thread-place .ensures;
       number-is = number .event-object .ensures;
       home-is = home .object-place .ensures;
-      waiters-are = either-way (joined .if1 .came) (λ some. some .2 ∙ some .1 .ensures) (λ none. none .1 ∙ none-wait _ (none .0 .left));
-      turn-is = turned .take-turn .ensures;
+      turn-is = turned .turn-with .ensures;
     })
-    (sym (c .before .before .stays .ensures) ∙ c .before .if2 .left) (c .work-done .ensures)
+    (sym (done .before .before .stays .ensures) ∙ done .before .if1 .left) (done .work-done .ensures)
 
 pub handle-trusting-spec : {M : Type 1} → statement M
 handle-trusting-spec =
@@ -64,11 +60,10 @@ handle-trusting-spec =
     home-in
     (λ c κs. tt)
     (λ c κs. tt)
-    (λ c κs. tt)
-    (λ c. let inside = place-in (c .before .before .before .before .before .before .before .before .before .before .before) in omega (arith, inside))
-    (λ c. place-in (c .before .before .before .before .before .before .before .before .before .before .before))
-    (λ c. let inside = home-in (c .before .before .before .before .before .before .before .before) in omega (arith, inside))
-    (λ c. home-in (c .before .before .before .before .before .before .before .before))
+    (λ c. let inside = place-in (c .before .before .before .before .before .before .before .before .before) in omega (arith, inside))
+    (λ c. place-in (c .before .before .before .before .before .before .before .before .before))
+    (λ c. let inside = home-in (c .before .before .before .before .before .before) in omega (arith, inside))
+    (λ c. home-in (c .before .before .before .before .before .before))
     (λ c κs. tt)
     returns
     returns-2)

@@ -83,11 +83,10 @@ loop-again c =
             place-is = place .thread-place .ensures;
             number-is = number .event-object .ensures;
             home-is = home .object-place .ensures;
-            waiters-are = refl;
             turn-is = turned .turn-with .ensures;
           })
           (stay .stays .ensures)
-          (either-way (joined .if1 .came) (λ some. inl (some .0 .taken, some .1)) (λ some. inr (some .0 .left, some .2 ∙ some .1 .ensures))))
+          (either-way (joined .if1 .came) (λ some. inl (some .0 .taken, some .1)) (λ some. inr (some .0 .left, some .1 .result, some .1 .ensures, some .3))))
           (simp (c .packed .ensures, c .before .woken .ensures, c .before .before .returned .ensures))
           (λ j. either (loop .loop .changed) (replied .reply-changes .ensures j)),
     )

@@ -9,4 +9,5 @@ plan-hand-spec =
     (λ c κs. tt)
     (λ c κs. tt)
     (λ c κs. tt)
-    (λ c. simp (c .unlinked .ensures, c .before .handed .ensures, c .before .before .hand .ensures)))
+    (λ c κs. tt)
+    (λ c. simp (c .unlinked .ensures, c .before .thread-set .ensures, c .before .before .handed .ensures, c .before .before .before .hand .ensures)))

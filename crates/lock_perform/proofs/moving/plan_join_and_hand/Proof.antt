@@ -9,4 +9,5 @@ plan-join-and-hand-spec =
     (λ c κs. tt)
     (λ c κs. tt)
     (λ c κs. tt)
-    (λ c. simp (c .joining .ensures, c .before .handed .ensures, c .before .before .hand .ensures)))
+    (λ c κs. tt)
+    (λ c. simp (c .joining .ensures, c .before .thread-set .ensures, c .before .before .handed .ensures, c .before .before .before .hand .ensures)))

@@ -5,9 +5,8 @@ use native.Mathlib.Omega.{arith}
 use lib.ListN.{length}
 use borrow.Author.Needs.{needs}
 use borrow.Author.Tests.{not-false}
-use Rattle.laws.proofs.Choice.{either-way}
 use Rattle.lock_table.specs.Limits.{thread-limit, object-limit}
-use Rattle.lock_engine.proofs.InPlace.{Taken, none-wait, stored-so, worked-so}
+use Rattle.lock_engine.proofs.InPlace.{Taken, stored-so, worked-so}
 use Rattle.lock_table.proofs.Places.{place-inside}
 use Rattle.replay_lines.proofs.Lines.{line-fits, line-length, rest-shorter}
 use Rattle.replay_session.proofs.OwnedSession.{session-whole}
@@ -67,7 +66,7 @@ loop-again c =
     let end = test .before in
     let loop = end .before .before in
     next-line (loop .loop .inv) (end .line-end .ensures) (test .if1 .left) (end .before .loop-test .taken)
-    (rw (read .read-line .ensures) at (react .react-trusting .ensures)) (put .put-answer .ensures) (put .put-answer .kept .0)
+    (rw (read .read-line .ensures) at (react .react-otherwise .ensures)) (put .put-answer .ensures) (put .put-answer .kept .0)
 
 place-in : tie.Need-element-copy-out-own Inv-loop μ-loop
 place-in c = rw (c .thread-place .ensures) (place-inside thread-limit _ (omega arith))
@@ -77,7 +76,7 @@ home-in c = rw (c .object-place .ensures) (place-inside object-limit _ (omega ar
 
 loop-less-2 : tie.Need-loop-less-2 Inv-loop μ-loop
 loop-less-2 c =
-    let test = c .before .before .before .before .before .before .before .before .before .before .before .before .before .before .before .before .before .before .before .before .before .before .before .before in
+    let test = c .before .before .before .before .before .before .before .before .before .before .before .before .before .before .before .before .before .before .before .before .before .before in
     let end = test .before in
     rest-shorter (end .line-end .result) (end .before .before .loop .rest .now) (end .line-end .ensures) (test .if1 .left)
 
@@ -86,8 +85,7 @@ loop-again-2 c =
     let stay = c .before in
     let put = stay .before .before .before in
     let turned = put .before .before .before .before .before in
-    let joined = turned .before in
-    let home = joined .before .before .before in
+    let home = turned .before .before in
     let number = home .before in
     let place = number .before .before in
     let asks = place .before .before in
@@ -96,34 +94,33 @@ loop-again-2 c =
     let test = read .before .before in
     let end = test .before in
     let loop = end .before .before in
-    let taken : Taken (loop .loop .table) (asks .line-event .result) _ (place .before .event-thread .result) (place .thread-place .result) (number .event-object .result) (home .object-place .result) (joined .if3 .waiters) (turned .take-turn .result) = record {
+    let taken : Taken (loop .loop .table) (asks .line-event .result) _ (place .before .event-thread .result) (place .thread-place .result) (number .event-object .result) (home .object-place .result) (turned .turn-with .result) = record {
       thread-is = place .before .event-thread .ensures;
       place-is = place .thread-place .ensures;
       number-is = number .event-object .ensures;
       home-is = home .object-place .ensures;
-      waiters-are = either-way (joined .if3 .came) (λ some. some .2 ∙ some .1 .ensures) (λ none. none .1 ∙ none-wait _ (none .0 .left));
-      turn-is = turned .take-turn .ensures;
+      turn-is = turned .turn-with .ensures;
     } in
     let (going, known, whole) = loop .loop .inv in
     next-line (loop .loop .inv) (end .line-end .ensures) (test .if1 .left) (end .before .loop-test .taken)
     (line-in-place (loop .loop .stage) taken (sym (runs .runs-event .ensures) ∙ not-false (runs .runs-event .result) (asks .before .if2 .left))
     (read .read-line .ensures) (asks .line-event .ensures) known whole
-    (stored-so taken (sym (stay .stays .ensures) ∙ c .if4 .taken)) (put .before .turn-answer .ensures))
+    (stored-so taken (sym (stay .stays .ensures) ∙ c .if3 .taken)) (put .before .event-answer .ensures))
     (put .put-answer2 .ensures) (put .put-answer2 .kept .0)
 
 loop-less-3 : tie.Need-loop-less-3 Inv-loop μ-loop
 loop-less-3 c =
-    let test = c .before .before .before .before .before .before .before .before .before .before .before .before .before .before .before .before .before .before .before .before .before .before .before .before .before in
+    let test = c .before .before .before .before .before .before .before .before .before .before .before .before .before .before .before .before .before .before .before .before .before .before .before .before in
     let end = test .before in
     rest-shorter (end .line-end .result) (end .before .before .loop .rest .now) (end .line-end .ensures) (test .if1 .left)
 
 loop-again-3 : tie.Need-loop-again-3 Inv-loop μ-loop
 loop-again-3 c =
-    let stay = c .before .before in
+    let done = c .before in
+    let stay = done .before .before in
     let put = stay .before .before .before in
     let turned = put .before .before .before .before .before in
-    let joined = turned .before in
-    let home = joined .before .before .before in
+    let home = turned .before .before in
     let number = home .before in
     let place = number .before .before in
     let asks = place .before .before in
@@ -132,19 +129,18 @@ loop-again-3 c =
     let test = read .before .before in
     let end = test .before in
     let loop = end .before .before in
-    let taken : Taken (loop .loop .table) (asks .line-event .result) _ (place .before .event-thread .result) (place .thread-place .result) (number .event-object .result) (home .object-place .result) (joined .if3 .waiters) (turned .take-turn .result) = record {
+    let taken : Taken (loop .loop .table) (asks .line-event .result) _ (place .before .event-thread .result) (place .thread-place .result) (number .event-object .result) (home .object-place .result) (turned .turn-with .result) = record {
       thread-is = place .before .event-thread .ensures;
       place-is = place .thread-place .ensures;
       number-is = number .event-object .ensures;
       home-is = home .object-place .ensures;
-      waiters-are = either-way (joined .if3 .came) (λ some. some .2 ∙ some .1 .ensures) (λ none. none .1 ∙ none-wait _ (none .0 .left));
-      turn-is = turned .take-turn .ensures;
+      turn-is = turned .turn-with .ensures;
     } in
     let (going, known, whole) = loop .loop .inv in
     next-line (loop .loop .inv) (end .line-end .ensures) (test .if1 .left) (end .before .loop-test .taken)
     (line-in-place (loop .loop .stage) taken (sym (runs .runs-event .ensures) ∙ not-false (runs .runs-event .result) (asks .before .if2 .left))
     (read .read-line .ensures) (asks .line-event .ensures) known whole
-    (worked-so taken (sym (stay .stays .ensures) ∙ c .before .if4 .left) (c .work-done .ensures)) (put .before .turn-answer .ensures))
+    (worked-so taken (sym (stay .stays .ensures) ∙ done .before .if3 .left) (done .work-done .ensures)) (put .before .event-answer .ensures))
     (put .put-answer2 .ensures) (put .put-answer2 .kept .0)
 
 returns-2 : tie.Need-returns-2 Inv-loop μ-loop
@@ -190,11 +186,10 @@ take-lines-spec =
     (λ c κs. tt)
     (λ c κs. tt)
     (λ c κs. tt)
-    (λ c κs. tt)
-    (λ c. let inside = place-in (c .before .before .before .before .before .before .before .before .before .before .before .before .before .before .before .before) in omega (arith, inside))
-    (λ c. place-in (c .before .before .before .before .before .before .before .before .before .before .before .before .before .before .before .before))
-    (λ c. let inside = home-in (c .before .before .before .before .before .before .before .before .before .before .before .before .before) in omega (arith, inside))
-    (λ c. home-in (c .before .before .before .before .before .before .before .before .before .before .before .before .before))
+    (λ c. let inside = place-in (c .before .before .before .before .before .before .before .before .before .before .before .before .before .before) in omega (arith, inside))
+    (λ c. place-in (c .before .before .before .before .before .before .before .before .before .before .before .before .before .before))
+    (λ c. let inside = home-in (c .before .before .before .before .before .before .before .before .before .before .before) in omega (arith, inside))
+    (λ c. home-in (c .before .before .before .before .before .before .before .before .before .before .before))
     loop-less-2
     loop-again-2
     (λ c κs. tt)

@@ -1,9 +1,9 @@
--- `lock_engine_c::calls::turn_with` meets its contract: each way through the code is that of the definition.
+-- `lock_engine::handling::turn_with` meets its contract: each way through the code is that of the definition.
 use mathlib.Core.Path.{_∙_}
 use Rattle.laws.proofs.Choice.{either-way}
 use Rattle.lock_engine.proofs.InPlace.{none-wait}
-use Rattle.lock_engine_c.proofs.calls.turn_with.Statement.{statement}
-use Rattle.lock_engine_c.proofs.calls.turn_with.Tie as tie
+use Rattle.lock_engine.proofs.handling.turn_with.Statement.{statement}
+use Rattle.lock_engine.proofs.handling.turn_with.Tie as tie
 
 pub turn-with-spec : {M : Type 1} → statement M
 turn-with-spec =

@@ -1,0 +1,64 @@
+// The work on the chains that a turn leaves to do. The table stands in one local: the chains are walked and the records written there, and functions of
+// records say what becomes of each.
+use crate::turning::Turn;
+use lock_perform::goes_on;
+use lock_perform::hung;
+use lock_perform::moved_whole;
+use lock_perform::object_written;
+use lock_perform::own_written;
+use lock_perform::plan_at;
+use lock_perform::touched;
+use lock_table::THREADS;
+use lock_table::Table;
+use lock_table::moved;
+use lock_table::object_place;
+use lock_table::thread_place;
+ghost use mathlib.Core.Path.{_≡_};
+ghost use Rattle.lock_engine.specs.Handle.{work-done-of};
+
+// The table with the work done, and the set of threads that the work unparked: bit n - 1 for thread n.
+pub struct WorkDone {
+    pub table: Table,
+    pub unparked: u32,
+}
+
+// The work done, and both records written: the thread's with the next index and the object's with the chains that the work gave. First the threads of a
+// chain that moves whole are changed, then one record is and the chain that joins another is hung behind its last thread.
+pub fn work_done(table: Table, thread: u8, number: u8, turn: Turn) -> WorkDone
+    ensures { λ r. ⌜ r ≡ work-done-of table thread number turn ⌝ }
+{
+    let mut changed = table;
+    let work = turn.work;
+    let start = turn.object.monitor;
+    let mut at = moved_whole(work, start);
+    let mut left = THREADS;
+    while goes_on(at, left) {
+        let spot = (at as usize) - 1;
+        let passed = changed.threads[spot];
+        changed.threads[spot] = moved(passed);
+        at = passed.next;
+        left = left - 1;
+    }
+    let place = thread_place(touched(work, start));
+    let planned = plan_at(work, start, thread, number, changed.threads[place]);
+    let touched = planned.changed;
+    changed.threads[place] = touched;
+    at = planned.front;
+    left = THREADS;
+    while goes_on(at, left) {
+        let spot = (at as usize) - 1;
+        let passed = changed.threads[spot];
+        changed.threads[spot] = hung(passed, planned.back);
+        at = passed.next;
+        left = left - 1;
+    }
+    let place = thread_place(thread);
+    changed.threads[place] = own_written(thread, turn.own, changed.threads[place]);
+    let home = object_place(number);
+    let object = changed.objects[home];
+    changed.objects[home] = object_written(number, turn.object, planned.monitor, object);
+    WorkDone {
+        table: changed,
+        unparked: planned.unparked,
+    }
+}
