@@ -1,0 +1,2 @@
+-- The examples hold of the definitions, by computing them.
+pub mod Holds

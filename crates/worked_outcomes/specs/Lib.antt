@@ -1,0 +1,2 @@
+-- Worked examples, each a fact with a name.
+pub mod Outcomes
