@@ -15,19 +15,19 @@ use Rattle.lock_rules.specs.declared.ThreadState.the-variants.{Idle, Run
 use Rattle.lock_word.specs.declared.meaning.WordSeen.{WordSeen}
 use Rattle.lock_word.specs.declared.meaning.WordSeen.the-variants.{Free, Anonymous, Fat, Flat, Reserved}
 
-abbrev Enters : (Doing → Type 0) → Type 0
+abbrev Enters {ℓ} : (Doing → Type ℓ) → Type ℓ
 Enters P = P EnterLook × ((c : ℕ) → P (EnterStore c)) × P EnterCancel × P EnterGoIn × P EnterCheck × P EnterTry
 
-abbrev Exits : (Doing → Type 0) → Type 0
+abbrev Exits {ℓ} : (Doing → Type ℓ) → Type ℓ
 Exits P = P ExitLook × ((c : ℕ) → P (ExitStore c)) × P ExitGoIn × P ExitTest × P ExitTell × P ExitLeave
 
-abbrev Waits : (Doing → Type 0) → Type 0
+abbrev Waits {ℓ} : (Doing → Type ℓ) → Type ℓ
 Waits P = P WaitLook × P WaitCancel × P WaitGoIn × P WaitInflate × P WaitGiveUp × ((saved : Suspension) → P (WaitResume saved))
 
-abbrev Doings : (Doing → Type 0) → Type 0
+abbrev Doings {ℓ} : (Doing → Type ℓ) → Type ℓ
 Doings P = Enters P × Exits P × Waits P × P NotifyLook × P NotifyAllLook
 
-pub each-doing : (P : Doing → Type 0) → Doings P → (doing : Doing) → P doing
+abbrev pub each-doing {ℓ} : (P : Doing → Type ℓ) → Doings P → (doing : Doing) → P doing
 each-doing P all EnterLook = all .0 .0
 each-doing P all (EnterStore c) = all .0 .1 c
 each-doing P all EnterCancel = all .0 .2
@@ -49,49 +49,49 @@ each-doing P all (WaitResume saved) = all .2 .5 saved
 each-doing P all NotifyLook = all .3
 each-doing P all NotifyAllLook = all .4
 
-abbrev States : (ThreadState → Type 0) → Type 0
+abbrev States {ℓ} : (ThreadState → Type ℓ) → Type ℓ
 States P = P Idle × ((doing : Doing) → P (Running doing)) × ((carried : Carried) → P (Queued carried)) × P Contending × ((saved : Suspension) → P (Waiting saved))
 
-pub each-state : (P : ThreadState → Type 0) → States P → (state : ThreadState) → P state
+abbrev pub each-state {ℓ} : (P : ThreadState → Type ℓ) → States P → (state : ThreadState) → P state
 each-state P all Idle = all .0
 each-state P all (Running doing) = all .1 doing
 each-state P all (Queued carried) = all .2 carried
 each-state P all Contending = all .3
 each-state P all (Waiting saved) = all .4 saved
 
-abbrev Carrieds : (Carried → Type 0) → Type 0
+abbrev Carrieds {ℓ} : (Carried → Type ℓ) → Type ℓ
 Carrieds P = P ToCheck × P ToTell × P ToInflate × ((saved : Suspension) → P (ToResume saved))
 
-pub each-carried : (P : Carried → Type 0) → Carrieds P → (carried : Carried) → P carried
+abbrev pub each-carried {ℓ} : (P : Carried → Type ℓ) → Carrieds P → (carried : Carried) → P carried
 each-carried P all ToCheck = all .0
 each-carried P all ToTell = all .1
 each-carried P all ToInflate = all .2
 each-carried P all (ToResume saved) = all .3 saved
 
-abbrev pub Words : (WordSeen → Type 0) → Type 0
+abbrev pub Words {ℓ} : (WordSeen → Type ℓ) → Type ℓ
 Words P = P Free × P Anonymous × P Fat × ((owner c : ℕ) → P (Flat owner c)) × ((owner c : ℕ) → P (Reserved owner c))
 
-pub each-word : (P : WordSeen → Type 0) → Words P → (word : WordSeen) → P word
+abbrev pub each-word {ℓ} : (P : WordSeen → Type ℓ) → Words P → (word : WordSeen) → P word
 each-word P all Free = all .0
 each-word P all Anonymous = all .1
 each-word P all Fat = all .2
 each-word P all (Flat owner c) = all .3 owner c
 each-word P all (Reserved owner c) = all .4 owner c
 
-abbrev Operations : (Operation → Type 0) → Type 0
+abbrev Operations {ℓ} : (Operation → Type ℓ) → Type ℓ
 Operations P = P Enter × P Exit × P Wait × P Notify × P NotifyAll
 
-pub each-operation : (P : Operation → Type 0) → Operations P → (operation : Operation) → P operation
+abbrev pub each-operation {ℓ} : (P : Operation → Type ℓ) → Operations P → (operation : Operation) → P operation
 each-operation P all Enter = all .0
 each-operation P all Exit = all .1
 each-operation P all Wait = all .2
 each-operation P all Notify = all .3
 each-operation P all NotifyAll = all .4
 
-abbrev Chains : (Chain → Type 0) → Type 0
+abbrev Chains {ℓ} : (Chain → Type ℓ) → Type ℓ
 Chains P = P Chain.Entry × P Chain.Contention × P Chain.Waiting
 
-pub each-chain : (P : Chain → Type 0) → Chains P → (chain : Chain) → P chain
+abbrev pub each-chain {ℓ} : (P : Chain → Type ℓ) → Chains P → (chain : Chain) → P chain
 each-chain P all Chain.Entry = all .0
 each-chain P all Chain.Contention = all .1
 each-chain P all Chain.Waiting = all .2

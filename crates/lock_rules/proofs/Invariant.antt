@@ -27,6 +27,7 @@ use Rattle.lock_word.specs.declared.meaning.WordSeen.the-variants.{Free, Anonym
 use Rattle.lock_rules.specs.declared.Answer.the-variants.{Finished}
 use Rattle.lock_rules.specs.PlainMonitor.{PlainMonitor, Committed, commit}
 use Rattle.lock_rules.specs.Feed.{OperationLog, log-after, EndsRight}
+use Rattle.lock_rules.proofs.Each.{each-state, each-word}
 use Rattle.lock_rules.proofs.Objects.{ListObject, object-owner, owned-depth}
 use Rattle.lock_rules.proofs.Perform.{Performed}
 
@@ -85,11 +86,7 @@ phase-row NotifyLook = row-of Notify outside anything uncommitted
 phase-row NotifyAllLook = row-of NotifyAll outside anything uncommitted
 
 abbrev pub seat : ThreadState → Seat
-seat Idle = outside
-seat (Running doing) = phase-row doing .seat
-seat (Queued carried) = parked
-seat Contending = parked
-seat (Waiting suspension) = parked
+seat = each-state _ (outside, λ doing. phase-row doing .seat, λ carried. parked, parked, λ suspension. parked)
 
 abbrev pub telling? : Seat → Bool
 telling? outside = false
@@ -107,27 +104,15 @@ leaving? holding = false
 leaving? leaving = true
 leaving? owning = false
 
--- how often a thread is in each chain
+-- how often a thread is in each chain: idle, running, queued, contending, waiting
 abbrev pub in-entry : ThreadState → ℕ
-in-entry Idle = 0
-in-entry (Running doing) = 0
-in-entry (Queued carried) = 1
-in-entry Contending = 0
-in-entry (Waiting suspension) = 0
+in-entry = each-state _ (0, λ doing. 0, λ carried. 1, 0, λ suspension. 0)
 
 abbrev pub in-contention : ThreadState → ℕ
-in-contention Idle = 0
-in-contention (Running doing) = 0
-in-contention (Queued carried) = 0
-in-contention Contending = 1
-in-contention (Waiting suspension) = 0
+in-contention = each-state _ (0, λ doing. 0, λ carried. 0, 1, λ suspension. 0)
 
 abbrev pub in-waiting : ThreadState → ℕ
-in-waiting Idle = 0
-in-waiting (Running doing) = 0
-in-waiting (Queued carried) = 0
-in-waiting Contending = 0
-in-waiting (Waiting suspension) = 1
+in-waiting = each-state _ (0, λ doing. 0, λ carried. 0, 0, λ suspension. 1)
 
 -- By holder and depth. HOLDS: in 6, 7, 10 to 13 and 15 the holder is the thread. OWNER: its depth is 0, but above 0 in 13.
 -- HOLD0: any other holder is at a depth above 0, and is no exit in 4 or 9 and not parked.
@@ -148,43 +133,23 @@ pub record InChains (entries contentions waits t : ℕ) (queue contenders waiter
 abbrev pub Placed : ThreadState → ℕ → List ℕ → List ℕ → List ℕ → Type 0
 Placed state t entry contention waiting = InChains (in-entry state) (in-contention state) (in-waiting state) t entry contention waiting
 
--- what can be asked of a word
+-- what can be asked of a word: free, anonymous, fat, flat, reserved
 abbrev pub Unreserved : WordSeen → Type 0
-Unreserved Free = Unit {0}
-Unreserved Anonymous = ⊥
-Unreserved Fat = Unit {0}
-Unreserved (Flat owner c) = Unit {0}
-Unreserved (Reserved owner c) = ⊥
+Unreserved = each-word _ (Unit {0}, ⊥, Unit {0}, λ owner c. Unit {0}, λ owner c. ⊥)
 
 abbrev pub FlatOf : ℕ → WordSeen → Type 0
-FlatOf t Free = ⊥
-FlatOf t Anonymous = ⊥
-FlatOf t Fat = ⊥
-FlatOf t (Flat owner c) = owner ≡ t
-FlatOf t (Reserved owner c) = ⊥
+FlatOf t = each-word _ (⊥, ⊥, ⊥, λ owner c. owner ≡ t, λ owner c. ⊥)
 
 abbrev pub IsFat : WordSeen → Type 0
-IsFat Free = ⊥
-IsFat Anonymous = ⊥
-IsFat Fat = Unit {0}
-IsFat (Flat owner c) = ⊥
-IsFat (Reserved owner c) = ⊥
+IsFat = each-word _ (⊥, ⊥, Unit {0}, λ owner c. ⊥, λ owner c. ⊥)
 
 -- free, or flat of another
 abbrev pub NotOwn : ℕ → WordSeen → Type 0
-NotOwn t Free = Unit {0}
-NotOwn t Anonymous = ⊥
-NotOwn t Fat = ⊥
-NotOwn t (Flat owner c) = owner ≢ t
-NotOwn t (Reserved owner c) = ⊥
+NotOwn t = each-word _ (Unit {0}, ⊥, ⊥, λ owner c. owner ≢ t, λ owner c. ⊥)
 
 -- reserved for the thread, with count c
 abbrev pub KeptWord : ℕ → ℕ → WordSeen → Type 0
-KeptWord t c Free = ⊥
-KeptWord t c Anonymous = ⊥
-KeptWord t c Fat = ⊥
-KeptWord t c (Flat owner d) = ⊥
-KeptWord t c (Reserved owner d) = (owner ≡ t) × (d ≡ c)
+KeptWord t c = each-word _ (⊥, ⊥, ⊥, λ owner d. ⊥, λ owner d. (owner ≡ t) × (d ≡ c))
 
 -- By the word. KEPT: in 2 the kept word is still the word. RES-PH, RES-HOLD: in 4, 6, 9 and 10 the word is not reserved.
 -- WFLAT: a wait in 4 or 12 has its own flat word. WOKENFAT: in 13 and 15 the word is fat. NOTOWN, TRYFLAG: in 7 it is not the thread's own, and the flag is 1.
@@ -227,22 +192,16 @@ woken? nothing-saved = false
 woken? (saves suspension) = true
 
 abbrev pub state-woken? : ThreadState → Bool
-state-woken? Idle = false
-state-woken? (Running doing) = woken? (phase-row doing .saved)
-state-woken? (Queued carried) = woken? (phase-row (onward carried) .saved)
-state-woken? Contending = false
-state-woken? (Waiting suspension) = false
+state-woken? =
+    each-state _ (false, λ doing. woken? (phase-row doing .saved), λ carried. woken? (phase-row (onward carried) .saved), false, λ suspension. false)
 
 abbrev pub SavedIs : Saved → Suspension → Type 0
 SavedIs nothing-saved plain = Unit {0}
 SavedIs (saves suspension) plain = (plain ≡ suspension) × (0 < suspension .depth) × (suspension .depth ≤ depth-limit)
 
 abbrev pub SavedRight : ThreadState → Suspension → Type 0
-SavedRight Idle plain = Unit {0}
-SavedRight (Running doing) plain = SavedIs (phase-row doing .saved) plain
-SavedRight (Queued carried) plain = SavedIs (phase-row (onward carried) .saved) plain
-SavedRight Contending plain = Unit {0}
-SavedRight (Waiting suspension) plain = SavedIs (saves suspension) plain
+SavedRight =
+    each-state _ (λ plain. Unit {0}, λ doing. SavedIs (phase-row doing .saved), λ carried. SavedIs (phase-row (onward carried) .saved), λ plain. Unit {0}, λ suspension. SavedIs (saves suspension))
 
 -- what the plain monitors know of the threads: their logs, and at this object who is woken and what is saved
 pub record Ghost : Type 0 where

@@ -8,13 +8,11 @@ use Rattle.lock_word.specs.Layout.{count-limit}
 use Rattle.lock_rules.specs.Rules.{onward}
 use Rattle.lock_rules.specs.declared.Suspension.{Suspension}
 use Rattle.lock_rules.specs.declared.Doing.{Doing}
-use Rattle.lock_rules.specs.declared.Doing.the-variants.{EnterLook, EnterStore, EnterCancel, EnterGoIn, EnterCheck, EnterTry, ExitLook, ExitStore}
-use Rattle.lock_rules.specs.declared.Doing.the-variants.{ExitGoIn, ExitTest, ExitTell, ExitLeave, WaitLook, WaitCancel, WaitGoIn, WaitInflate}
-use Rattle.lock_rules.specs.declared.Doing.the-variants.{WaitGiveUp, WaitResume, NotifyLook, NotifyAllLook}
 use Rattle.lock_rules.specs.declared.ThreadState.{ThreadState}
-use Rattle.lock_rules.specs.declared.ThreadState.the-variants.{Idle, Running, Queued, Contending, Waiting}
+use Rattle.lock_rules.specs.declared.ThreadState.the-variants.{Idle}
 use Rattle.lock_word.specs.declared.meaning.WordSeen.{WordSeen}
 use Rattle.lock_word.specs.declared.meaning.WordSeen.the-variants.{Free, Anonymous, Fat, Flat, Reserved}
+use Rattle.lock_rules.proofs.Each.{each-doing, each-state}
 use Rattle.lock_rules.proofs.Objects.{ListObject, empty}
 use Rattle.lock_rules.proofs.Tables.{ListThread, ListTable, states-at}
 use Rattle.lock_rules.proofs.Invariant.{Placed}
@@ -25,33 +23,18 @@ SuspensionFine suspension = (0 < suspension .depth) × (suspension .depth ≤ de
 
 -- a kept word in phase 2 has count 0 to 62 for enter, 1 to 63 for exit
 abbrev pub DoingFine : Doing → Type 0
-DoingFine EnterLook = Unit {0}
-DoingFine (EnterStore c) = c < count-limit
-DoingFine EnterCancel = Unit {0}
-DoingFine EnterGoIn = Unit {0}
-DoingFine EnterCheck = Unit {0}
-DoingFine EnterTry = Unit {0}
-DoingFine ExitLook = Unit {0}
-DoingFine (ExitStore c) = (0 < c) × (c ≤ count-limit)
-DoingFine ExitGoIn = Unit {0}
-DoingFine ExitTest = Unit {0}
-DoingFine ExitTell = Unit {0}
-DoingFine ExitLeave = Unit {0}
-DoingFine WaitLook = Unit {0}
-DoingFine WaitCancel = Unit {0}
-DoingFine WaitGoIn = Unit {0}
-DoingFine WaitInflate = Unit {0}
-DoingFine WaitGiveUp = Unit {0}
-DoingFine (WaitResume suspension) = SuspensionFine suspension
-DoingFine NotifyLook = Unit {0}
-DoingFine NotifyAllLook = Unit {0}
+DoingFine =
+    let fine = Unit {0} in
+    each-doing _ (
+      (fine, λ c. c < count-limit, fine, fine, fine, fine),
+      (fine, λ c. (0 < c) × (c ≤ count-limit), fine, fine, fine, fine),
+      (fine, fine, fine, fine, fine, SuspensionFine),
+      fine,
+      fine,
+    )
 
 abbrev pub StateFine : ThreadState → Type 0
-StateFine Idle = Unit {0}
-StateFine (Running doing) = DoingFine doing
-StateFine (Queued carried) = DoingFine (onward carried)
-StateFine Contending = Unit {0}
-StateFine (Waiting suspension) = SuspensionFine suspension
+StateFine = each-state _ (Unit {0}, DoingFine, λ carried. DoingFine (onward carried), Unit {0}, SuspensionFine)
 
 -- a word is valid, with its thread at most `threads`
 abbrev pub WordFine : ℕ → WordSeen → Type 0

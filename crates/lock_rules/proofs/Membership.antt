@@ -1,11 +1,11 @@
 -- Who is in which chain after the work on chains: every thread but the one that steps is in the chain that its state names, before and after.
 use Prim.Native.Nat.{ℕ, zero, suc, _+_}
 use mathlib.Core.Path.{_≡_, refl, sym, ap, _∙_}
-use mathlib.Core.Logic.{_≢_, _⊎_, inl, inr}
+use mathlib.Core.Logic.{_≢_}
 use mathlib.Core.List.{List, [], _∷_}
 use native.Mathlib.Omega.{arith}
 use Rattle.laws.specs.Count.{count}
-use Rattle.laws.proofs.Choice.{equal?}
+use Rattle.laws.proofs.Choice.{equal?, either-way}
 use Rattle.laws.proofs.Count.{count-none, count-same, count-other}
 use Rattle.chains.specs.declared.named.Chain.{Chain}
 use Rattle.lock_rules.proofs.Changes.{sent-back}
@@ -29,11 +29,9 @@ Members thread states o = (t : ℕ) → t ≢ thread → Placed (states t) t (o 
 
 -- a thread that is not in a list is neither its first nor in the rest
 pub not-first : (t first : ℕ) (rest : List ℕ) → count t (first ∷ rest) ≡ 0 → (t ≢ first) × (count t rest ≡ 0)
-not-first t first rest out = at (equal? t first)
-  where
-    at : (t ≡ first) ⊎ (t ≢ first) → (t ≢ first) × (count t rest ≡ 0)
-    at (inl q) = absurd (omega (arith, out, ap (λ (x : ℕ). count t (x ∷ rest)) (sym q), count-same t rest))
-    at (inr n) = (n, sym (count-other t first rest n) ∙ out)
+not-first t first rest out =
+    either-way (equal? t first) (λ q. absurd (omega (arith, out, ap (λ (x : ℕ). count t (x ∷ rest)) (sym q), count-same t rest)))
+    (λ n. (n, sym (count-other t first rest n) ∙ out))
 
 -- going back from a store moves nobody
 pub placed-sent-back : {t : ℕ} {entry contention waiting : List ℕ} (state : ThreadState) → Placed state t entry contention waiting
@@ -53,11 +51,7 @@ ParkedIn Chain.Waiting state = (suspension : Suspension) × (state ≡ Waiting s
 -- the first of a list is who is taken from it first, if there is one
 pub first-taken : (queue : List ℕ) (t k : ℕ) → count t (taken First queue) ≡ suc k → first-of queue ≡ t
 first-taken [] t k e = absurd (omega (arith, count-none t, e))
-first-taken (first ∷ rest) t k e = at (equal? t first)
-  where
-    at : (t ≡ first) ⊎ (t ≢ first) → first ≡ t
-    at (inl q) = sym q
-    at (inr n) = absurd (omega (arith, count-other t first [] n, count-none t, e))
+first-taken (first ∷ rest) t k e = either-way (equal? t first) (λ q. sym q) (λ n. absurd (omega (arith, count-other t first [] n, count-none t, e)))
 
 pub not-taken : (queue : List ℕ) (t : ℕ) → count t (taken First queue) ≡ 0 → first-of queue ≡ t → t ≢ 0 → ⊥
 not-taken [] t out e real = real (sym e)

@@ -7,7 +7,7 @@ use mathlib.Core.List.{[], _∷_}
 use Rattle.laws.specs.Choice.{both, either}
 use Rattle.laws.specs.Update.{update}
 use Rattle.laws.specs.Count.{count}
-use Rattle.laws.proofs.Choice.{equal?}
+use Rattle.laws.proofs.Choice.{equal?, either-way}
 use Rattle.laws.proofs.Update.{update-same, update-other}
 use Rattle.laws.proofs.Count.{count-none, count-same, count-other}
 use Rattle.chains.specs.declared.named.Chain.{Chain}
@@ -41,11 +41,9 @@ pub with-own : (thread : ℕ) (states : ℕ → ThreadState) (o : ListObject) (g
     → Others thread states o ghost
     → ThreadOk thread state o log (ghost .woken thread) (ghost .saved thread)
     → (t : ℕ) → ThreadOk t (update states thread state t) o (update (ghost .logs) thread log t) (ghost .woken t) (ghost .saved t)
-with-own thread states o ghost state log others self t = at (equal? t thread)
-  where
-    at : (t ≡ thread) ⊎ (t ≢ thread) → ThreadOk t (update states thread state t) o (update (ghost .logs) thread log t) (ghost .woken t) (ghost .saved t)
-    at (inl e) = rw (e, update-same states thread state, update-same (ghost .logs) thread log) self
-    at (inr n) = rw (update-other states thread state t n, update-other (ghost .logs) thread log t n) (others t n)
+with-own thread states o ghost state log others self t =
+    either-way (equal? t thread) (λ e. rw (e, update-same states thread state, update-same (ghost .logs) thread log) self)
+    (λ n. rw (update-other states thread state t n, update-other (ghost .logs) thread log t n) (others t n))
 
 -- the same thread beside another object
 pub beside : {t : ℕ} {state : ThreadState} {o o′ : ListObject} {log : OperationLog} {woken : Bool} {suspension : Suspension}

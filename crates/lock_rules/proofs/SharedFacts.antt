@@ -1,7 +1,7 @@
 -- Facts that the rules share: what a new word owes to the others, when contenders are not stranded, who owns, and who stays idle.
 use Prim.Native.Nat.{ℕ, zero, suc, _+_, _<_}
 use mathlib.Core.Path.{_≡_, refl, sym, ap, _∙_}
-use mathlib.Core.Logic.{_≢_, _⊎_, inl, inr}
+use mathlib.Core.Logic.{_≢_, inl, inr}
 use mathlib.Core.Bool.{Bool, true, false}
 use mathlib.Core.List.{List, [], _∷_}
 use native.Mathlib.Omega.{arith}
@@ -11,7 +11,7 @@ use borrow.Author.Tests.{eq-eqb, ne-eqb}
 use Rattle.laws.specs.Choice.{pick}
 use Rattle.laws.specs.Update.{update}
 use Rattle.laws.specs.Count.{count}
-use Rattle.laws.proofs.Choice.{equal?, Equal, equal}
+use Rattle.laws.proofs.Choice.{equal?, Equal, equal, either-way}
 use Rattle.laws.proofs.Update.{update-same, update-other}
 use Rattle.laws.proofs.Count.{count-same}
 use Rattle.lock_word.specs.Meaning.{owner-of}
@@ -58,16 +58,10 @@ module _ (state : ThreadState) (thread t holder : ℕ) (n : t ≢ thread) where
 told-moved : (states : ℕ → ThreadState) (thread : ℕ) (old new : ThreadState) (holder : ℕ) (entry : List ℕ) → states thread ≡ old
     → (T (telling? (seat old)) → T (telling? (seat new))) → (T (leaving? (seat new)) → holder ≡ thread → entry ≢ [])
     → Told states holder entry → Told (update states thread new) holder entry
-told-moved states thread old new holder entry e keep last (inl (t, k)) = inl (t, by (equal? t thread))
-  where
-    by : (t ≡ thread) ⊎ (t ≢ thread) → T (telling? (seat (update states thread new t)))
-    by (inl q) = rw (q, update-same states thread new) (keep (rw (q, e) at k))
-    by (inr n) = rw (update-other states thread new t n) k
-told-moved states thread old new holder entry e keep last (inr (z, l)) = inr (z, by (equal? holder thread))
-  where
-    by : (holder ≡ thread) ⊎ (holder ≢ thread) → T (leaving? (seat (update states thread new holder))) → entry ≢ []
-    by (inl q) = rw (q, update-same states thread new) (λ k. last k q)
-    by (inr n) = rw (update-other states thread new holder n) l
+told-moved states thread old new holder entry e keep last (inl (t, k)) =
+    inl (t, either-way (equal? t thread) (λ q. rw (q, update-same states thread new) (keep (rw (q, e) at k))) (λ n. rw (update-other states thread new t n) k))
+told-moved states thread old new holder entry e keep last (inr (z, l)) =
+    inr (z, either-way (equal? holder thread) (λ q. rw (q, update-same states thread new) (λ k. last k q)) (λ n. rw (update-other states thread new holder n) l))
 
 pub unstranded-moved : (word : WordSeen) (states : ℕ → ThreadState) (thread : ℕ) (old new : ThreadState) (holder : ℕ) (entry contention : List ℕ)
     → states thread ≡ old

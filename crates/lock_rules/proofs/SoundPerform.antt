@@ -9,7 +9,7 @@ use lib.Dec.{eqb}
 use Rattle.laws.specs.Choice.{pick}
 use Rattle.laws.specs.Update.{update}
 use Rattle.laws.specs.Count.{count}
-use Rattle.laws.proofs.Choice.{equal?}
+use Rattle.laws.proofs.Choice.{equal?, either-way as by-case}
 use Rattle.laws.proofs.Update.{update-same, update-other}
 use Rattle.laws.proofs.Count.{count-none, count-same}
 use Rattle.chains.specs.declared.named.Chain.{Chain}
@@ -72,11 +72,7 @@ moved-fine = each-state _ (search)
 
 module _ (states : ℕ → ThreadState) (fine : (t : ℕ) → StateFine (states t)) where
   update-fine : (u : ℕ) (state : ThreadState) → StateFine state → (t : ℕ) → StateFine (update states u state t)
-  update-fine u state f t = at (equal? t u)
-    where
-      at : (t ≡ u) ⊎ (t ≢ u) → StateFine (update states u state t)
-      at (inl q) = rw (q, update-same states u state) f
-      at (inr n) = rw (update-other states u state t n) (fine t)
+  update-fine u state f t = by-case (equal? t u) (λ q. rw (q, update-same states u state) f) (λ n. rw (update-other states u state t n) (fine t))
 
   changed-fine : (change : ThreadState → ThreadState) → ((state : ThreadState) → StateFine state → StateFine (change state)) → (list : List ℕ) (t : ℕ)
       → StateFine (changed-states change states list t)

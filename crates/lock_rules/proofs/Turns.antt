@@ -22,15 +22,12 @@ use Rattle.lock_rules.specs.declared.event.Gate.{Gate}
 use Rattle.lock_rules.specs.declared.event.Gate.the-variants.{Open, Shut}
 use Rattle.lock_rules.specs.Gate.{is-idle, gate, event-thread}
 use Rattle.lock_rules.specs.Events.{Reply, Begun, Refused, Shown}
+use Rattle.lock_rules.proofs.Each.{each-state}
 use Rattle.lock_rules.proofs.Gate.{Passed, by-gate}
 
 -- what the gate looks at
 abbrev pub status-of : ThreadState → ThreadStatus
-status-of Idle = IdleThread
-status-of (Running doing) = Ready
-status-of (Queued carried) = Parked
-status-of Contending = Parked
-status-of (Waiting suspension) = Parked
+status-of = each-state _ (IdleThread, λ doing. Ready, λ carried. Parked, Parked, λ suspension. Parked)
 
 -- the table after an event, and what the event returned
 pub record TurnOf (Table : Type 0) : Type 0 where
