@@ -11,7 +11,8 @@ use Rattle.lock_rules.specs.Gate.{event-thread}
 use Rattle.lock_rules.specs.declared.event.Event.{Event}
 use Rattle.lock_rules.specs.declared.event.Event.the-variants.{Begin, Step}
 use Rattle.lock_rules.specs.declared.event.Refusal.{Refusal}
-use Rattle.lock_rules.specs.declared.event.Refusal.the-variants.{NotSound, NoSuchThread, NoSuchObject, NotIdle, ThreadIdle, ThreadParked, NoSuchOperation}
+use Rattle.lock_rules.specs.declared.event.Refusal.the-variants.{NotSound, NoSuchThread, NoSuchObject, NotIdle, ThreadIdle, ThreadParked}
+use Rattle.lock_rules.specs.declared.event.Refusal.the-variants.{NoSuchOperation}
 use Rattle.lock_rules.specs.declared.event.Gate.{Gate}
 use Rattle.lock_rules.specs.declared.event.Gate.the-variants.{Open}
 use Rattle.lock_rules.specs.declared.ChainWork.{ChainWork}

@@ -16,24 +16,8 @@ use Rattle.lock_table.specs.Parked.{chain-named, first-in}
 use Rattle.lock_perform.specs.State.{state-by, look-of, go-in-of, write-activity, doing-activity}
 use Rattle.lock_word.specs.Meaning.{seen-word}
 use Rattle.lock_perform.specs.Perform.{word-after, stays}
-use Rattle.lock_soundness.specs.Sound.{
-  sizes-fit,
-  word-fits,
-  uses-phase,
-  carries-phase,
-  operation-fits,
-  kept-fits,
-  saves-depth,
-  saved-fits,
-  unheld-fits,
-  found-in,
-  names-chain,
-  unused-fits,
-  empty-thread,
-  empty-monitor,
-  empty-object,
-  sound-of,
-}
+use Rattle.lock_soundness.specs.Sound.{sizes-fit, word-fits, uses-phase, carries-phase, operation-fits, kept-fits, saves-depth, saved-fits}
+use Rattle.lock_soundness.specs.Sound.{unheld-fits, found-in, names-chain, unused-fits, empty-thread, empty-monitor, empty-object, sound-of}
 use Rattle.lock_engine.specs.Outcome.{reply-returned}
 use Rattle.lock_engine.specs.Turn.{action-turn, word-turn, state-turn, step-turn, open-turn, gate-turn}
 use Rattle.lock_gate.specs.Status.{thread-status}

@@ -34,7 +34,8 @@ use Rattle.lock_engine.proofs.Full.{full-thread}
 use Rattle.lock_engine.proofs.Narrow.{narrow-begin, narrow-step}
 use Rattle.lock_perform.specs.Perform.{stays, work-done}
 use Rattle.lock_rules.specs.declared.event.Refusal.{Refusal}
-use Rattle.lock_rules.specs.declared.event.Refusal.the-variants.{NotSound, NoSuchThread, NoSuchObject, NotIdle, ThreadIdle, ThreadParked, NoSuchOperation}
+use Rattle.lock_rules.specs.declared.event.Refusal.the-variants.{NotSound, NoSuchThread, NoSuchObject, NotIdle, ThreadIdle, ThreadParked}
+use Rattle.lock_rules.specs.declared.event.Refusal.the-variants.{NoSuchOperation}
 use Rattle.lock_engine.specs.declared.outcome.Reply.{Reply}
 use Rattle.lock_engine.specs.declared.outcome.Reply.the-variants.{Begun, Refused, Answered}
 use Rattle.lock_engine.specs.declared.outcome.Outcome.{Outcome}
@@ -47,7 +48,8 @@ use Rattle.table_bytes.proofs.Written.{kept-is, table-long}
 use Rattle.table_bytes.proofs.SameBytes.{bytes-back}
 use Rattle.table_bytes.proofs.SetRecords.{thread-written, object-written}
 use Rattle.lock_engine_c.proofs.FullTables.{read-full}
-use Rattle.lock_engine_c.specs.Calls.{packed-of, returned-in, outcome-answer, event-answer, event-bytes, left-bytes, RefusedLeaves, begun-on, stepped-on}
+use Rattle.lock_engine_c.specs.Calls.{packed-of, returned-in, outcome-answer, event-answer, event-bytes, left-bytes, RefusedLeaves, begun-on}
+use Rattle.lock_engine_c.specs.Calls.{stepped-on}
 use Rattle.lock_engine_c.specs.Calls.{answer-changes, reply-changes, event-number, event-turn, store-turn, event-over}
 
 -- a begin that is refused leaves the table

@@ -15,7 +15,8 @@ use Rattle.lock_table.specs.Monitor.{hand-of, first-in, with-first, join, move-
 use Rattle.lock_table.specs.Chain.{hang, handed-of, moved, move-all}
 use Rattle.lock_table.specs.Narrow.{narrow-of}
 use Rattle.lock_table.specs.declared.phase.Phase.{Phase}
-use Rattle.lock_table.specs.declared.phase.Phase.the-variants.{Idle, Look, Store, Cancel, GoIn, Queued, Check, Try, Contending, Test, Tell, Leave, Inflate}
+use Rattle.lock_table.specs.declared.phase.Phase.the-variants.{Idle, Look, Store, Cancel, GoIn, Queued, Check, Try, Contending, Test, Tell, Leave}
+use Rattle.lock_table.specs.declared.phase.Phase.the-variants.{Inflate}
 use Rattle.lock_table.specs.declared.phase.Phase.the-variants.{GiveUp, Waiting, Resume}
 use Rattle.lock_table.specs.declared.record.ThreadRecord.{ThreadRecord}
 use Rattle.lock_table.specs.declared.record.Monitor.{Monitor}

@@ -33,7 +33,8 @@ use Rattle.lock_table.specs.Parked.{chain-named}
 use Rattle.lock_table.specs.declared.record.ThreadRecord.{ThreadRecord}
 use Rattle.lock_table.specs.Record.{with-activity, with-next}
 use Rattle.lock_perform.specs.State.{doing-activity, carried-activity, write-activity, write-thread}
-use Rattle.sound_records.specs.Records.{uses-phase, carries-phase, operation-fits, kept-count-fits, reserved-for, kept-fits, saves-depth, saved-fits, unused-fits, used-thread-fits}
+use Rattle.sound_records.specs.Records.{uses-phase, carries-phase, operation-fits, kept-count-fits, reserved-for, kept-fits, saves-depth}
+use Rattle.sound_records.specs.Records.{saved-fits, unused-fits, used-thread-fits}
 use Rattle.sound_records.proofs.Reading.{Within, ThreadFits}
 use Rattle.laws.proofs.Facts.{reads-within}
 use Rattle.sound_records.proofs.Reading.{reads-thread}

@@ -29,7 +29,8 @@ use Rattle.lock_table.specs.Phase.{onward-number, phase-number, carried-number}
 use Rattle.lock_table.specs.Record.{no-thread, with-activity}
 use Rattle.lock_table.specs.declared.operation.Operation.{Operation}
 use Rattle.lock_table.specs.declared.operation.Operation.the-variants.{Idle as NoOperation, Enter, Exit, Wait, Notify, NotifyAll}
-use Rattle.lock_table.specs.declared.phase.Onward.the-variants.{ToCheck as OnToCheck, ToTell as OnToTell, ToInflate as OnToInflate, ToResume as OnToResume}
+use Rattle.lock_table.specs.declared.phase.Onward.the-variants.{ToCheck as OnToCheck, ToTell as OnToTell, ToInflate as OnToInflate}
+use Rattle.lock_table.specs.declared.phase.Onward.the-variants.{ToResume as OnToResume}
 use Rattle.lock_table.specs.declared.phase.Phase.{Phase}
 use Rattle.lock_table.specs.declared.phase.Phase.the-variants.{Idle as IdlePhase, Look, Store, Cancel, GoIn, Queued as QueuedPhase, Check, Try}
 use Rattle.lock_table.specs.declared.phase.Phase.the-variants.{Contending as ContendingPhase, Test, Tell, Leave, Inflate, GiveUp}

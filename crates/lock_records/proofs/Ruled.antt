@@ -8,7 +8,8 @@ use borrow.Author.Tests.{le-leb}
 use Rattle.lock_rules.specs.declared.event.Event.{Event}
 use Rattle.lock_rules.specs.declared.event.Event.the-variants.{Step}
 use Rattle.lock_rules.specs.declared.event.Refusal.{Refusal}
-use Rattle.lock_rules.specs.declared.event.Refusal.the-variants.{NotSound, NoSuchThread, NoSuchObject, NotIdle, ThreadIdle, ThreadParked, NoSuchOperation}
+use Rattle.lock_rules.specs.declared.event.Refusal.the-variants.{NotSound, NoSuchThread, NoSuchObject, NotIdle, ThreadIdle, ThreadParked}
+use Rattle.lock_rules.specs.declared.event.Refusal.the-variants.{NoSuchOperation}
 use Rattle.lock_rules.specs.Events.{Refused, Answered}
 use Rattle.lock_rules.specs.Feed.{Plain, OperationLog, feed, blank, EndsRight}
 use Rattle.lock_rules.specs.Numbers.{first-refusal, refusal-number}

@@ -39,7 +39,8 @@ use Rattle.lock_records.proofs.Naming.{chain-number, by-chain, one-chai
 use Rattle.lock_records.proofs.ReadBack.{state-back}
 use Rattle.lock_records.proofs.Words.{seen-in, word-back, no-word-fine}
 use Rattle.lock_records.proofs.Depths.{DepthsFit}
-use Rattle.lock_records.proofs.EveryNumber.{thread-read, thread-where, object-where, written-at, no-next-at, chain-at, members-at, parked-at, counted-at}
+use Rattle.lock_records.proofs.EveryNumber.{thread-read, thread-where, object-where, written-at, no-next-at, chain-at, members-at, parked-at}
+use Rattle.lock_records.proofs.EveryNumber.{counted-at}
 
 -- the table with lists that a table is read as
 abbrev pub object-read : Table → ℕ → ListObject

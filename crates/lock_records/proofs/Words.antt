@@ -9,7 +9,8 @@ use Rattle.lock_word.specs.declared.reading.Decoded.{Decoded}
 use Rattle.lock_word.specs.declared.reading.Decoded.the-variants.{Valid, Invalid}
 use Rattle.lock_word.proofs.RoundTrip.{word-of-meaning, meaning-in-range}
 use Rattle.lock_word.specs.declared.meaning.WordSeen.{WordSeen}
-use Rattle.lock_word.specs.declared.meaning.WordSeen.the-variants.{Free as SeenFree, Flat as SeenFlat, Anonymous as SeenAnonymous, Reserved as SeenReserved, Fat as SeenFat}
+use Rattle.lock_word.specs.declared.meaning.WordSeen.the-variants.{Free as SeenFree, Flat as SeenFlat, Anonymous as SeenAnonymous}
+use Rattle.lock_word.specs.declared.meaning.WordSeen.the-variants.{Reserved as SeenReserved, Fat as SeenFat}
 use Rattle.lock_rules.proofs.ListSound.{WordFine}
 use Rattle.lock_word.specs.Meaning.{seen-word}
 use Rattle.lock_records.proofs.Written.{lock-word, word-written}

@@ -28,7 +28,8 @@ use Rattle.lock_rules.specs.declared.Doing.the-variants.{WaitInflate, WaitGiveU
 use Rattle.lock_rules.specs.declared.ThreadState.{ThreadState}
 use Rattle.lock_rules.specs.declared.ThreadState.the-variants.{Idle, Running, Queued, Contending, Waiting}
 use Rattle.lock_word.specs.declared.meaning.WordSeen.{WordSeen}
-use Rattle.lock_word.specs.declared.meaning.WordSeen.the-variants.{Free as SeenFree, Flat as SeenFlat, Anonymous as SeenAnonymous, Reserved as SeenReserved, Fat as SeenFat}
+use Rattle.lock_word.specs.declared.meaning.WordSeen.the-variants.{Free as SeenFree, Flat as SeenFlat, Anonymous as SeenAnonymous}
+use Rattle.lock_word.specs.declared.meaning.WordSeen.the-variants.{Reserved as SeenReserved, Fat as SeenFat}
 use Rattle.lock_rules.specs.declared.WordChange.{WordChange}
 use Rattle.lock_rules.specs.declared.WordChange.the-variants.{Unchanged, Freed, OwnFlat, OwnReserved, Cancelled, Inflated}
 use Rattle.lock_rules.proofs.ListSound.{WordFine, DoingFine, StateFine}
@@ -37,7 +38,8 @@ use Rattle.lock_table.specs.Phase.{onward-number, onward-phase, phase-number, c
 use Rattle.lock_table.specs.Record.{no-thread, with-activity, with-next}
 use Rattle.lock_table.specs.Chain.{carried-of, handed-of, moved-phase, moved as moved-record}
 use Rattle.lock_table.specs.declared.record.ThreadRecord.{ThreadRecord}
-use Rattle.lock_perform.specs.State.{look-of, store-of, cancel-of as cancel-state-of, go-in-of, carried-of as carried-state-of, state-by, read-activity}
+use Rattle.lock_perform.specs.State.{look-of, store-of, cancel-of as cancel-state-of, go-in-of, carried-of as carried-state-of, state-by}
+use Rattle.lock_perform.specs.State.{read-activity}
 use Rattle.lock_perform.specs.State.{doing-activity, carried-activity, write-activity, write-thread}
 use Rattle.lock_perform.specs.Moving.{back-from, sent-back-of}
 use Rattle.lock_perform.specs.Perform.{word-after}

@@ -8,7 +8,8 @@ use Rattle.lock_rules.specs.declared.Answer.{Answer}
 use Rattle.lock_rules.specs.declared.Answer.the-variants.{GoneOn, Finished, Parked, NotOwner, TooDeep, NoRule}
 use Rattle.lock_rules.specs.Numbers.{refusal-number}
 use Rattle.lock_rules.specs.declared.event.Refusal.{Refusal}
-use Rattle.lock_rules.specs.declared.event.Refusal.the-variants.{NotSound, NoSuchThread, NoSuchObject, NotIdle, ThreadIdle, ThreadParked, NoSuchOperation}
+use Rattle.lock_rules.specs.declared.event.Refusal.the-variants.{NotSound, NoSuchThread, NoSuchObject, NotIdle, ThreadIdle, ThreadParked}
+use Rattle.lock_rules.specs.declared.event.Refusal.the-variants.{NoSuchOperation}
 use Rattle.lock_rules.specs.declared.Effect.{Effect}
 use Rattle.lock_rules.specs.declared.Action.{Action}
 use Rattle.lock_rules.specs.declared.Action.the-variants.{Unruled, Do}

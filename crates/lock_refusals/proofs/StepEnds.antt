@@ -11,7 +11,8 @@ use Rattle.lock_word.proofs.Ownership.{owner-owned}
 use Rattle.lock_word.specs.declared.reading.LockWord.{LockWord}
 use Rattle.lock_word.specs.declared.reading.Decoded.the-variants.{Valid}
 use Rattle.lock_word.specs.Depth.{depth-limit}
-use Rattle.lock_rules.specs.Rules.{owner-seen, owner-only, holder-only, decide, enter-look, enter-store, cancel, enter-check, enter-try, go-in-again, go-in}
+use Rattle.lock_rules.specs.Rules.{owner-seen, owner-only, holder-only, decide, enter-look, enter-store, cancel, enter-check, enter-try}
+use Rattle.lock_rules.specs.Rules.{go-in-again, go-in}
 use Rattle.lock_rules.specs.Rules.{exit-owned, exit-store, exit-test, exit-tell, exit-leave, wait-owned, wait-inflate, wait-give-up, wait-resume}
 use Rattle.lock_rules.specs.Rules.{notify-owned, notify-all-owned}
 use Rattle.lock_rules.proofs.Each.{Words, each-word}

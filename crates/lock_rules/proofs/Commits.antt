@@ -14,7 +14,8 @@ use Rattle.lock_word.specs.Depth.{depth-limit}
 use Rattle.lock_rules.specs.Operations.{Operation}
 use Rattle.lock_rules.specs.Operations.{Enter, Exit, Wait, Notify, NotifyAll}
 use Rattle.lock_rules.specs.declared.Answer.the-variants.{Finished, NotOwner, TooDeep}
-use Rattle.lock_rules.specs.PlainMonitor.{PlainMonitor, owned-by, unaltered, finished, give-up, resume, wake-first, above-zero, wake-all, commit}
+use Rattle.lock_rules.specs.PlainMonitor.{PlainMonitor, owned-by, unaltered, finished, give-up, resume, wake-first, above-zero, wake-all}
+use Rattle.lock_rules.specs.PlainMonitor.{commit}
 
 -- the operations that only the owner may do
 abbrev pub owner-operation : Operation → Bool

@@ -14,7 +14,8 @@ use Rattle.lock_rules.specs.declared.event.Event.the-variants.{Begin, St
 use Rattle.lock_rules.specs.declared.event.ThreadStatus.{ThreadStatus}
 use Rattle.lock_rules.specs.declared.event.ThreadStatus.the-variants.{Idle, Ready, Parked}
 use Rattle.lock_rules.specs.declared.event.Refusal.{Refusal}
-use Rattle.lock_rules.specs.declared.event.Refusal.the-variants.{NotSound, NoSuchThread, NoSuchObject, NotIdle, ThreadIdle, ThreadParked, NoSuchOperation}
+use Rattle.lock_rules.specs.declared.event.Refusal.the-variants.{NotSound, NoSuchThread, NoSuchObject, NotIdle, ThreadIdle, ThreadParked}
+use Rattle.lock_rules.specs.declared.event.Refusal.the-variants.{NoSuchOperation}
 use Rattle.lock_rules.specs.declared.event.Gate.{Gate}
 use Rattle.lock_rules.specs.declared.event.Gate.the-variants.{Open, Shut}
 

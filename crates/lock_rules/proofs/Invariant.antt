@@ -17,7 +17,8 @@ use Rattle.lock_rules.specs.Operations.{Enter, Exit, Wait, Notify, Notif
 use Rattle.lock_rules.specs.declared.Suspension.{Suspension}
 use Rattle.lock_rules.specs.declared.Carried.the-variants.{ToCheck, ToTell, ToInflate, ToResume}
 use Rattle.lock_rules.specs.declared.Doing.{Doing}
-use Rattle.lock_rules.specs.declared.Doing.the-variants.{EnterLook, EnterStore, EnterCancel, EnterGoIn, EnterCheck, EnterTry, ExitLook, ExitStore}
+use Rattle.lock_rules.specs.declared.Doing.the-variants.{EnterLook, EnterStore, EnterCancel, EnterGoIn, EnterCheck, EnterTry, ExitLook}
+use Rattle.lock_rules.specs.declared.Doing.the-variants.{ExitStore}
 use Rattle.lock_rules.specs.declared.Doing.the-variants.{ExitGoIn, ExitTest, ExitTell, ExitLeave, WaitLook, WaitCancel, WaitGoIn, WaitInflate}
 use Rattle.lock_rules.specs.declared.Doing.the-variants.{WaitGiveUp, WaitResume, NotifyLook, NotifyAllLook}
 use Rattle.lock_rules.specs.declared.ThreadState.{ThreadState}

@@ -20,7 +20,8 @@ use Rattle.lock_rules.specs.Rules.{owner-seen, enter-look, exit-owned, w
 use Rattle.lock_rules.proofs.Changes.{seen-after}
 use Rattle.lock_rules.specs.Operations.{Enter, Exit, Wait}
 use Rattle.lock_rules.specs.declared.Doing.{Doing}
-use Rattle.lock_rules.specs.declared.Doing.the-variants.{EnterLook, EnterStore, EnterCancel, EnterGoIn, ExitLook, ExitStore, ExitTest, ExitLeave}
+use Rattle.lock_rules.specs.declared.Doing.the-variants.{EnterLook, EnterStore, EnterCancel, EnterGoIn, ExitLook, ExitStore, ExitTest}
+use Rattle.lock_rules.specs.declared.Doing.the-variants.{ExitLeave}
 use Rattle.lock_rules.specs.declared.Doing.the-variants.{WaitLook, WaitCancel, WaitGoIn, WaitGiveUp}
 use Rattle.lock_rules.specs.declared.ThreadState.the-variants.{Running}
 use Rattle.lock_word.specs.declared.meaning.WordSeen.{WordSeen}

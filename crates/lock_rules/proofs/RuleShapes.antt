@@ -33,9 +33,11 @@ use Rattle.lock_rules.specs.Feed.{OperationLog, log-after, EndsRight}
 use Rattle.lock_rules.proofs.Commits.{commit-not-owner, owner-operation}
 use Rattle.lock_rules.proofs.Objects.{with-word, with-depth, with-contention, with-waiting, ListObject, empty, sight-of}
 use Rattle.lock_rules.proofs.Objects.{object-owner}
-use Rattle.lock_rules.proofs.Perform.{first-of, taken, left, enter-queue-all, count-entered-all, handed-to, handed-object, handed-states, moved-states}
+use Rattle.lock_rules.proofs.Perform.{first-of, taken, left, enter-queue-all, count-entered-all, handed-to, handed-object, handed-states}
+use Rattle.lock_rules.proofs.Perform.{moved-states}
 use Rattle.lock_rules.proofs.Tables.{fresh}
-use Rattle.lock_rules.proofs.Invariant.{Ghost, outside, nothing-saved, phase-row, telling?, leaving?, Seated, InChains, Unreserved, FlatOf, ReliesOn}
+use Rattle.lock_rules.proofs.Invariant.{Ghost, outside, nothing-saved, phase-row, telling?, leaving?, Seated, InChains, Unreserved, FlatOf}
+use Rattle.lock_rules.proofs.Invariant.{ReliesOn}
 use Rattle.lock_rules.proofs.Invariant.{ThreadOk, MonitorOk, FlagOk, Unstranded, Invariant, monitor-of, Refines}
 use Rattle.lock_rules.proofs.Reliances.{KeepsReliance}
 use Rattle.lock_rules.proofs.Membership.{not-first}

@@ -14,12 +14,14 @@ use Rattle.lock_word.specs.Meaning.{owner-of}
 use Rattle.lock_rules.proofs.Each.{each-carried, Words, each-word}
 use Rattle.lock_rules.specs.Actions.{not-owner, finish-word, inflate}
 use Rattle.lock_rules.specs.Rules.{onward, owner-seen, enter-look, exit-owned, wait-owned, notify-owned, notify-all-owned, owner-only}
-use Rattle.lock_rules.specs.Rules.{enter-store, exit-store, cancel, go-in-again, go-in, holder-only, enter-check, enter-try, exit-test, exit-tell}
+use Rattle.lock_rules.specs.Rules.{enter-store, exit-store, cancel, go-in-again, go-in, holder-only, enter-check, enter-try, exit-test}
+use Rattle.lock_rules.specs.Rules.{exit-tell}
 use Rattle.lock_rules.specs.Rules.{exit-leave, wait-inflate, wait-give-up, wait-resume, decide}
 use Rattle.lock_rules.specs.declared.Carried.{Carried}
 use Rattle.lock_rules.specs.declared.Carried.the-variants.{ToCheck, ToTell, ToInflate}
 use Rattle.lock_rules.specs.declared.Doing.{Doing}
-use Rattle.lock_rules.specs.declared.Doing.the-variants.{EnterLook, EnterStore, EnterCancel, EnterGoIn, EnterCheck, EnterTry, ExitLook, ExitStore}
+use Rattle.lock_rules.specs.declared.Doing.the-variants.{EnterLook, EnterStore, EnterCancel, EnterGoIn, EnterCheck, EnterTry, ExitLook}
+use Rattle.lock_rules.specs.declared.Doing.the-variants.{ExitStore}
 use Rattle.lock_rules.specs.declared.Doing.the-variants.{ExitGoIn, ExitTest, ExitTell, ExitLeave, WaitLook, WaitCancel, WaitGoIn, WaitInflate}
 use Rattle.lock_rules.specs.declared.Doing.the-variants.{WaitGiveUp, WaitResume, NotifyLook, NotifyAllLook}
 use Rattle.lock_rules.specs.declared.ThreadState.{ThreadState}

@@ -31,7 +31,8 @@ use Rattle.lock_rules.specs.declared.Action.the-variants.{Unruled, Do}
 use Rattle.lock_rules.specs.PlainMonitor.{above-zero}
 use Rattle.lock_rules.proofs.Each.{each-doing, each-state, each-chain}
 use Rattle.lock_rules.proofs.Objects.{ListObject, chain-of, empty}
-use Rattle.lock_rules.proofs.Perform.{count-join, taken, left, count-taken, first-of, changed-states, joined-object, handed-object, moved-object, states-after}
+use Rattle.lock_rules.proofs.Perform.{count-join, taken, left, count-taken, first-of, changed-states, joined-object, handed-object}
+use Rattle.lock_rules.proofs.Perform.{moved-object, states-after}
 use Rattle.lock_rules.proofs.Perform.{object-after, effected, perform}
 use Rattle.lock_rules.proofs.Invariant.{InChains, Placed}
 use Rattle.lock_rules.proofs.Membership.{PlacedAt, placed-left, placed-unmoved, members-after}

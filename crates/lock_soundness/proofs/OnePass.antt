@@ -30,8 +30,10 @@ use Rattle.sound_records.specs.OnePass.{thread-passes}
 use Rattle.sound_records.proofs.Reading.{Within, ObjectFits, ThreadFits, chain-kinds, parked-busy, no-object-fits, no-thread-fits}
 use Rattle.sound_records.proofs.Reading.{reads-object, reads-thread, reads-names, reads-empty-thread, reads-empty-object}
 use Rattle.lock_soundness.specs.Sound.{sound-of}
-use Rattle.lock_soundness.specs.OnePass.{thread-in, next-in, member-fits, chain-passes, chains-pass, chain-marks, chains-marks, object-passes, object-turn, objects-marks, thread-turn, one-pass}
-use Rattle.laws.proofs.Facts.{Reads, reads-map, reads-as, reads-eqb, reads-then, reads-first, reads-both, reads-unless, reads-guard, reads-used-and-past, reads-same}
+use Rattle.lock_soundness.specs.OnePass.{thread-in, next-in, member-fits, chain-passes, chains-pass, chain-marks, chains-marks, object-passes}
+use Rattle.lock_soundness.specs.OnePass.{object-turn, objects-marks, thread-turn, one-pass}
+use Rattle.laws.proofs.Facts.{Reads, reads-map, reads-as, reads-eqb, reads-then, reads-first, reads-both, reads-unless, reads-guard}
+use Rattle.laws.proofs.Facts.{reads-used-and-past, reads-same}
 use Rattle.lock_soundness.proofs.Chained.{follow, reads-chain, members-real}
 use Rattle.lock_soundness.proofs.Reading.{Each, threads-in-chain, Sound, reads-sizes, sound-is}
 use Rattle.lock_soundness.proofs.Turns.{empty-passes}

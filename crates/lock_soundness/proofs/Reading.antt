@@ -16,7 +16,8 @@ use Rattle.lock_table.specs.Parked.{thread-chain, first-in, home-at, chain-firs
 use Rattle.lock_table.specs.declared.record.Monitor.{Monitor}
 use Rattle.lock_table.specs.declared.record.Table.{Table}
 use Rattle.lock_table.proofs.Walks.{next-none}
-use Rattle.sound_records.proofs.Reading.{Within, ObjectFits, ThreadFits, reads-names, reads-empty-thread, reads-empty-object, reads-object, reads-thread}
+use Rattle.sound_records.proofs.Reading.{Within, ObjectFits, ThreadFits, reads-names, reads-empty-thread, reads-empty-object, reads-object}
+use Rattle.sound_records.proofs.Reading.{reads-thread}
 use Rattle.lock_soundness.specs.Sound.{sizes-fit, found-in, every-chain, sound-of}
 use Rattle.lock_soundness.proofs.Chained.{follow, reads-chain}
 

@@ -7,7 +7,8 @@ use Rattle.lock_table.specs.Record.{with-phase, with-next}
 use Rattle.lock_table.specs.Access.{thread-at, set-thread, next-of}
 use Rattle.lock_table.specs.declared.phase.Onward.the-variants.{ToCheck, ToResume}
 use Rattle.lock_table.specs.declared.phase.Phase.{Phase}
-use Rattle.lock_table.specs.declared.phase.Phase.the-variants.{Idle, Look, Store, Cancel, GoIn, Queued, Check, Try, Contending, Test, Tell, Leave, Inflate, GiveUp, Waiting, Resume}
+use Rattle.lock_table.specs.declared.phase.Phase.the-variants.{Idle, Look, Store, Cancel, GoIn, Queued, Check, Try, Contending, Test, Tell}
+use Rattle.lock_table.specs.declared.phase.Phase.the-variants.{Leave, Inflate, GiveUp, Waiting, Resume}
 use Rattle.lock_table.specs.declared.record.ThreadRecord.{ThreadRecord}
 use Rattle.lock_table.specs.declared.record.Table.{Table}
 

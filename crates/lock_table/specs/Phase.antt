@@ -3,7 +3,8 @@ use Prim.Native.Nat.{ℕ}
 use Rattle.lock_table.specs.declared.phase.Onward.{Onward}
 use Rattle.lock_table.specs.declared.phase.Onward.the-variants.{ToCheck, ToTell, ToInflate, ToResume}
 use Rattle.lock_table.specs.declared.phase.Phase.{Phase}
-use Rattle.lock_table.specs.declared.phase.Phase.the-variants.{Idle, Look, Store, Cancel, GoIn, Queued, Check, Try, Contending, Test, Tell, Leave, Inflate, GiveUp, Waiting, Resume}
+use Rattle.lock_table.specs.declared.phase.Phase.the-variants.{Idle, Look, Store, Cancel, GoIn, Queued, Check, Try, Contending, Test, Tell}
+use Rattle.lock_table.specs.declared.phase.Phase.the-variants.{Leave, Inflate, GiveUp, Waiting, Resume}
 
 unfoldable pub onward-number : Onward → ℕ
 onward-number ToCheck = 6

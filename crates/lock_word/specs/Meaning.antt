@@ -5,7 +5,8 @@ use Rattle.laws.specs.Choice.{pick}
 use Rattle.lock_word.specs.Read.{read-word}
 use Rattle.lock_word.specs.Write.{free-word, anonymous-word, flat-word, reserved-word}
 use Rattle.lock_word.specs.declared.reading.LockWord.{LockWord}
-use Rattle.lock_word.specs.declared.reading.LockWord.the-variants.{Free as FreeWord, Flat as FlatWord, Anonymous as AnonymousWord, Reserved as ReservedWord, Fat as FatWord}
+use Rattle.lock_word.specs.declared.reading.LockWord.the-variants.{Free as FreeWord, Flat as FlatWord, Anonymous as AnonymousWord}
+use Rattle.lock_word.specs.declared.reading.LockWord.the-variants.{Reserved as ReservedWord, Fat as FatWord}
 use Rattle.lock_word.specs.declared.reading.Decoded.{Decoded}
 use Rattle.lock_word.specs.declared.reading.Decoded.the-variants.{Valid, Invalid}
 use Rattle.lock_word.specs.declared.meaning.WordSeen.{WordSeen}

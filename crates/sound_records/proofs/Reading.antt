@@ -21,43 +21,16 @@ use Rattle.lock_table.specs.Parked.{chain-named, thread-chain}
 use Rattle.lock_table.specs.declared.operation.Operation.{Operation}
 use Rattle.lock_table.specs.declared.operation.Operation.the-variants.{Idle, Enter, Exit, Wait, Notify, NotifyAll}
 use Rattle.lock_table.specs.declared.phase.Phase.{Phase}
-use Rattle.lock_table.specs.declared.phase.Phase.the-variants.{Idle as idle-phase, Look, Store, Cancel, GoIn, Queued, Check, Try, Contending, Test, Tell, Leave, Inflate, GiveUp, Waiting, Resume}
+use Rattle.lock_table.specs.declared.phase.Phase.the-variants.{Idle as idle-phase, Look, Store, Cancel, GoIn, Queued, Check, Try, Contending, Test}
+use Rattle.lock_table.specs.declared.phase.Phase.the-variants.{Tell, Leave, Inflate, GiveUp, Waiting, Resume}
 use Rattle.lock_table.specs.declared.record.ThreadRecord.{ThreadRecord}
 use Rattle.lock_table.specs.declared.record.Monitor.{Monitor}
 use Rattle.lock_table.specs.declared.record.ObjectRecord.{ObjectRecord}
-use Rattle.sound_records.specs.Records.{
-  word-fits,
-  uses-phase,
-  carries-phase,
-  operation-fits,
-  kept-count-fits,
-  reserved-for,
-  kept-fits,
-  saves-depth,
-  saved-fits,
-  unheld-fits,
-  names-chain,
-  unused-fits,
-  used-object-fits,
-  used-thread-fits,
-  empty-thread,
-  empty-monitor,
-  empty-object,
-}
-use Rattle.laws.proofs.Facts.{
-  Reads,
-  reads-map,
-  reads-never,
-  reads-always,
-  reads-not,
-  reads-eqb,
-  reads-leb,
-  reads-both,
-  reads-within,
-  reads-either,
-  reads-unless,
-  reads-implies,
-}
+use Rattle.sound_records.specs.Records.{word-fits, uses-phase, carries-phase, operation-fits, kept-count-fits, reserved-for, kept-fits}
+use Rattle.sound_records.specs.Records.{saves-depth, saved-fits, unheld-fits, names-chain, unused-fits, used-object-fits, used-thread-fits}
+use Rattle.sound_records.specs.Records.{empty-thread, empty-monitor, empty-object}
+use Rattle.laws.proofs.Facts.{Reads, reads-map, reads-never, reads-always, reads-not, reads-eqb, reads-leb, reads-both, reads-within, reads-either}
+use Rattle.laws.proofs.Facts.{reads-unless, reads-implies}
 
 abbrev pub Within : ℕ → ℕ → ℕ → Type 0
 Within low high n = (low ≤ n) × (n ≤ high)

@@ -1,6 +1,6 @@
 -- One record stored over the bytes of a table gives the bytes of the table with that record set.
 use Prim.Native.Nat.{ℕ, _-_, _≤_}
-use mathlib.Core.Path.{_≡_, refl, ap, _∙_}
+use mathlib.Core.Path.{_≡_, ap, _∙_}
 use mathlib.Core.Logic.{_≢_}
 use mathlib.Core.List.{List, append-nil}
 use native.Mathlib.Omega.{arith}
@@ -10,15 +10,12 @@ use borrow.Author.Tests.{eq-eqb, eqb-false, ltb-false}
 use Rattle.laws.specs.Choice.{pick}
 use Rattle.laws.proofs.Choice.{split}
 use Rattle.lock_table.specs.Limits.{thread-limit, object-limit}
-use Rattle.lock_table.specs.Operation.{operation-number}
-use Rattle.lock_table.specs.Phase.{phase-number, carried-number}
-use Rattle.lock_table.specs.Record.{no-thread}
 use Rattle.lock_table.specs.Access.{set-thread, set-object}
 use Rattle.lock_table.specs.declared.record.ThreadRecord.{ThreadRecord}
 use Rattle.lock_table.specs.declared.record.ObjectRecord.{ObjectRecord}
 use Rattle.lock_table.specs.declared.record.Table.{Table}
 use Rattle.table_bytes.specs.Rows.{overwritten}
-use Rattle.table_bytes.specs.Layout.{thread-size, table-size, thread-bytes, object-bytes, thread-start, object-start}
+use Rattle.table_bytes.specs.Layout.{table-size, thread-bytes, object-bytes, thread-start, object-start}
 use Rattle.table_bytes.specs.Writing.{bytes-of, write-thread, write-object}
 use Rattle.table_bytes.proofs.Parts.{area-write}
 use Rattle.table_bytes.proofs.Written.{bytes-long, threads-area, objects-area}

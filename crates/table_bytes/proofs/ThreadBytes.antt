@@ -16,24 +16,8 @@ use Rattle.lock_table.specs.declared.operation.Operation.{Operation}
 use Rattle.lock_table.specs.declared.operation.Operation.the-variants.{Idle as no-operation, Enter, Exit, Wait, Notify, NotifyAll}
 use Rattle.lock_table.specs.declared.phase.Onward.the-variants.{ToCheck, ToTell, ToInflate, ToResume}
 use Rattle.lock_table.specs.declared.phase.Phase.{Phase}
-use Rattle.lock_table.specs.declared.phase.Phase.the-variants.{
-  Idle,
-  Look,
-  Store,
-  Cancel,
-  GoIn,
-  Queued,
-  Check,
-  Try,
-  Contending,
-  Test,
-  Tell,
-  Leave,
-  Inflate,
-  GiveUp,
-  Waiting,
-  Resume,
-}
+use Rattle.lock_table.specs.declared.phase.Phase.the-variants.{Idle, Look, Store, Cancel, GoIn, Queued, Check, Try, Contending, Test, Tell, Leave}
+use Rattle.lock_table.specs.declared.phase.Phase.the-variants.{Inflate, GiveUp, Waiting, Resume}
 use Rattle.lock_table.specs.declared.record.ThreadRecord.{ThreadRecord}
 use Rattle.table_bytes.specs.Rows.{Numbers}
 use Rattle.table_bytes.specs.ThreadBytes.{thread-layout, onward-from, later-phase-from, phase-from, thread-of, carried-known, thread-known}

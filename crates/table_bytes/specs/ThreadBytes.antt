@@ -10,24 +10,8 @@ use Rattle.lock_table.specs.Phase.{phase-number, carried-number}
 use Rattle.lock_table.specs.declared.phase.Onward.{Onward}
 use Rattle.lock_table.specs.declared.phase.Onward.the-variants.{ToCheck, ToTell, ToInflate, ToResume}
 use Rattle.lock_table.specs.declared.phase.Phase.{Phase}
-use Rattle.lock_table.specs.declared.phase.Phase.the-variants.{
-  Idle,
-  Look,
-  Store,
-  Cancel,
-  GoIn,
-  Queued,
-  Check,
-  Try,
-  Contending,
-  Test,
-  Tell,
-  Leave,
-  Inflate,
-  GiveUp,
-  Waiting,
-  Resume,
-}
+use Rattle.lock_table.specs.declared.phase.Phase.the-variants.{Idle, Look, Store, Cancel, GoIn, Queued, Check, Try, Contending, Test, Tell, Leave}
+use Rattle.lock_table.specs.declared.phase.Phase.the-variants.{Inflate, GiveUp, Waiting, Resume}
 use Rattle.lock_table.specs.declared.record.ThreadRecord.{ThreadRecord}
 use Rattle.table_bytes.specs.Rows.{Field, field, Numbers}
 

@@ -19,9 +19,11 @@ use Rattle.lock_rules.specs.declared.event.Refusal.the-variants.{NotSound, NoSu
 use Rattle.table_bytes.specs.Reading.{is-table, table-of}
 use Rattle.table_bytes.specs.ObjectBytes.{flag-byte}
 use Rattle.table_questions.specs.declared.asking.ThreadQuestion.{ThreadQuestion}
-use Rattle.table_questions.specs.declared.asking.ThreadQuestion.the-variants.{OperationOf, ObjectOf, PhaseOf, OnwardOf, KeptOf, SavedOf, NextOf, BlockerOf}
+use Rattle.table_questions.specs.declared.asking.ThreadQuestion.the-variants.{OperationOf, ObjectOf, PhaseOf, OnwardOf, KeptOf, SavedOf}
+use Rattle.table_questions.specs.declared.asking.ThreadQuestion.the-variants.{NextOf, BlockerOf}
 use Rattle.table_questions.specs.declared.asking.ObjectQuestion.{ObjectQuestion}
-use Rattle.table_questions.specs.declared.asking.ObjectQuestion.the-variants.{WordOf, OwnerOf, DepthOf, FlagOf, HolderOf, MonitorDepthOf, EntryOf, ContentionOf, WaitingOf}
+use Rattle.table_questions.specs.declared.asking.ObjectQuestion.the-variants.{WordOf, OwnerOf, DepthOf, FlagOf, HolderOf, MonitorDepthOf}
+use Rattle.table_questions.specs.declared.asking.ObjectQuestion.the-variants.{EntryOf, ContentionOf, WaitingOf}
 
 -- the answer to a question: 0 and the value, packed as bits 0 to 7 and the rest; else a refusal's number
 abbrev pub saying : ℕ → ℕ

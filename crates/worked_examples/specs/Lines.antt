@@ -1,7 +1,6 @@
 -- Examples of lines that are read and of what is printed, byte by byte in ASCII.
 use mathlib.Core.Path.{_≡_}
-use mathlib.Core.List.{List, [], _∷_}
-use Prim.Native.Nat.{ℕ}
+use mathlib.Core.List.{[], _∷_}
 use Rattle.replay_lines.specs.Grammar.{read-line}
 use Rattle.replay_lines.specs.declared.reading.Line.the-variants.{Step, Malformed}
 use Rattle.replay_text.specs.Text.{word-text}

@@ -8,7 +8,7 @@ use Rattle.lock_rules.specs.declared.Doing.the-variants.{ExitLeave}
 use Rattle.lock_rules.specs.declared.ThreadState.the-variants.{Running}
 use Rattle.lock_rules.specs.declared.WordChange.the-variants.{Unchanged, Freed}
 use Rattle.lock_rules.specs.declared.Sight.{Sight}
-use Rattle.lock_rules.specs.declared.Taken.the-variants.{First, All}
+use Rattle.lock_rules.specs.declared.Taken.the-variants.{First}
 use Rattle.lock_rules.specs.declared.ChainWork.the-variants.{Move}
 use Rattle.lock_rules.specs.declared.Answer.the-variants.{GoneOn}
 use Rattle.lock_word.specs.declared.meaning.WordSeen.the-variants.{Fat}

@@ -1,7 +1,7 @@
 -- `lock_engine::settling::work_done` meets its contract: what is left to walk of each chain gives what the whole walk gives.
 use Prim.Native.Nat.{_≤_, _<_}
 use mathlib.Core.Path.{_≡_, refl, sym, _∙_}
-use mathlib.Core.Bool.{true, false}
+use mathlib.Core.Bool.{true}
 use native.Mathlib.Omega.{arith}
 use borrow.Author.Needs.{needs}
 use Rattle.lock_table.specs.Limits.{thread-limit, object-limit}
