@@ -8,21 +8,17 @@ use Rattle.laws.proofs.Choice.{by-test, both-first}
 use Rattle.laws.proofs.Update.{update-same}
 use Rattle.lock_rules.specs.Numbers.{first-refusal, refusal-number}
 use Rattle.lock_rules.specs.Gate.{event-thread}
-use Rattle.lock_rules.specs.declared.event.Event.{Event}
+use Rattle.lock_rules.specs.declared.event.{Event.Event, Refusal.Refusal, Gate.Gate}
 use Rattle.lock_rules.specs.declared.event.Event.the-variants.{Begin, Step}
-use Rattle.lock_rules.specs.declared.event.Refusal.{Refusal}
 use Rattle.lock_rules.specs.declared.event.Refusal.the-variants.{NotSound, NoSuchThread, NoSuchObject, NotIdle, ThreadIdle, ThreadParked}
 use Rattle.lock_rules.specs.declared.event.Refusal.the-variants.{NoSuchOperation}
-use Rattle.lock_rules.specs.declared.event.Gate.{Gate}
 use Rattle.lock_rules.specs.declared.event.Gate.the-variants.{Open}
 use Rattle.lock_rules.specs.declared.ChainWork.{ChainWork}
 use Rattle.lock_rules.proofs.Gate.{Passed, by-gate}
 use Rattle.lock_table.specs.Limits.{thread-limit, object-limit}
 use Rattle.lock_table.specs.Record.{with-next, with-monitor}
 use Rattle.lock_table.specs.Access.{thread-at, set-thread, object-at, set-object, next-of}
-use Rattle.lock_table.specs.declared.record.ThreadRecord.{ThreadRecord}
-use Rattle.lock_table.specs.declared.record.ObjectRecord.{ObjectRecord}
-use Rattle.lock_table.specs.declared.record.Table.{Table}
+use Rattle.lock_table.specs.declared.record.{ThreadRecord.ThreadRecord, ObjectRecord.ObjectRecord, Table.Table}
 use Rattle.lock_table.proofs.Records.{thread-set, object-set, thread-beside-object}
 use Rattle.lock_table.proofs.Places.{Has, Lacks, has?}
 use Rattle.lock_perform.specs.Moving.{carry-out}

@@ -13,20 +13,15 @@ use Rattle.laws.specs.Choice.{pick, both, within}
 use Rattle.laws.proofs.Choice.{split, both-second}
 use Rattle.chains.specs.Chain.{chain-length}
 use Rattle.lock_rules.specs.Gate.{gate, event-thread}
-use Rattle.lock_rules.specs.declared.event.Event.{Event}
+use Rattle.lock_rules.specs.declared.event.{Event.Event, ThreadStatus.ThreadStatus, Refusal.Refusal, Gate.Gate}
 use Rattle.lock_rules.specs.declared.event.Event.the-variants.{Begin, Step}
-use Rattle.lock_rules.specs.declared.event.ThreadStatus.{ThreadStatus}
-use Rattle.lock_rules.specs.declared.event.Refusal.{Refusal}
 use Rattle.lock_rules.specs.declared.event.Refusal.the-variants.{NotSound, NoSuchThread}
-use Rattle.lock_rules.specs.declared.event.Gate.{Gate}
 use Rattle.lock_rules.specs.declared.event.Gate.the-variants.{Open, Shut}
 use Rattle.lock_rules.specs.declared.ChainWork.the-variants.{Stay}
 use Rattle.lock_table.specs.Limits.{thread-limit, object-limit}
 use Rattle.lock_table.specs.Record.{no-thread, no-object}
 use Rattle.lock_table.specs.Access.{thread-at, set-thread, object-at, set-object, next-of}
-use Rattle.lock_table.specs.declared.record.ThreadRecord.{ThreadRecord}
-use Rattle.lock_table.specs.declared.record.ObjectRecord.{ObjectRecord}
-use Rattle.lock_table.specs.declared.record.Table.{Table}
+use Rattle.lock_table.specs.declared.record.{ThreadRecord.ThreadRecord, ObjectRecord.ObjectRecord, Table.Table}
 use Rattle.lock_table.specs.Operation.{operation-from}
 use Rattle.lock_table.proofs.Records.{thread-in, object-in, set-thread-in, set-thread-out, set-object-in, set-object-out, object-unchanged}
 use Rattle.lock_perform.specs.Perform.{stays, work-done}
@@ -36,9 +31,8 @@ use Rattle.lock_gate.specs.Status.{thread-status}
 use Rattle.lock_table.specs.Place.{thread-place, object-place}
 use Rattle.lock_table.proofs.Places.{Has, Lacks, has?, place-has}
 use Rattle.lock_engine.specs.Handle.{event-object, trusted, turn-with, work-done-of, handle-with, handle-trusting}
-use Rattle.lock_engine.specs.declared.outcome.Reply.{Reply}
+use Rattle.lock_engine.specs.declared.outcome.{Reply.Reply, Outcome.Outcome}
 use Rattle.lock_engine.specs.declared.outcome.Reply.the-variants.{Begun, Refused}
-use Rattle.lock_engine.specs.declared.outcome.Outcome.{Outcome}
 use Rattle.lock_engine.specs.declared.turning.Turn.{Turn}
 use Rattle.lock_engine.specs.declared.settling.WorkDone.{WorkDone}
 

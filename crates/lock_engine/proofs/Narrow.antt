@@ -10,10 +10,8 @@ use Rattle.laws.specs.Choice.{pick, within}
 use Rattle.laws.proofs.Choice.{split, both-first, both-no}
 use Rattle.lock_rules.specs.Gate.{begin-rows, step-rows, first-refusing, gate}
 use Rattle.lock_rules.specs.Operations.{operation-limit}
-use Rattle.lock_rules.specs.declared.event.Event.{Event}
+use Rattle.lock_rules.specs.declared.event.{Event.Event, ThreadStatus.ThreadStatus, Refusal.Refusal}
 use Rattle.lock_rules.specs.declared.event.Event.the-variants.{Begin, Step}
-use Rattle.lock_rules.specs.declared.event.ThreadStatus.{ThreadStatus}
-use Rattle.lock_rules.specs.declared.event.Refusal.{Refusal}
 use Rattle.lock_rules.specs.declared.event.Refusal.the-variants.{NotSound, NoSuchThread, NoSuchOperation, NoSuchObject}
 use Rattle.lock_rules.specs.declared.event.Gate.the-variants.{Shut}
 use Rattle.lock_table.specs.Limits.{thread-limit, object-limit}

@@ -3,8 +3,7 @@ use Prim.Native.Nat.{ℕ}
 use mathlib.Core.Path.{_≡_, refl}
 use mathlib.Core.Bool.{Bool, false}
 use Rattle.lock_rules.specs.Gate.{gate, event-thread}
-use Rattle.lock_rules.specs.declared.event.Event.{Event}
-use Rattle.lock_rules.specs.declared.event.Refusal.{Refusal}
+use Rattle.lock_rules.specs.declared.event.{Event.Event, Refusal.Refusal}
 use Rattle.lock_rules.specs.declared.event.Gate.the-variants.{Shut}
 use Rattle.lock_table.specs.Access.{thread-at, object-at}
 use Rattle.lock_table.specs.declared.record.Table.{Table}

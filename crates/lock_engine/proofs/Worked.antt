@@ -7,9 +7,7 @@ use Rattle.lock_table.specs.Record.{no-thread, no-object, with-next, with-monit
 use Rattle.lock_table.specs.Access.{set-thread, set-object, next-of}
 use Rattle.lock_table.specs.Chain.{hang, move-all}
 use Rattle.lock_table.specs.Place.{thread-place, object-place}
-use Rattle.lock_table.specs.declared.record.ThreadRecord.{ThreadRecord}
-use Rattle.lock_table.specs.declared.record.ObjectRecord.{ObjectRecord}
-use Rattle.lock_table.specs.declared.record.Table.{Table}
+use Rattle.lock_table.specs.declared.record.{ThreadRecord.ThreadRecord, ObjectRecord.ObjectRecord, Table.Table}
 use Rattle.lock_perform.specs.Moving.{CarriedOut, touched, plan-at, moved-whole, carried-out, carry-out}
 use Rattle.lock_perform.specs.Perform.{own-written, object-written}
 use Rattle.lock_perform.specs.declared.moving.ChainPlan.{ChainPlan}

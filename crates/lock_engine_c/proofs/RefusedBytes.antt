@@ -11,9 +11,8 @@ use Rattle.laws.proofs.Choice.{split, by-test, false≢true}
 use Rattle.laws.proofs.Sequence.{tabulate-length, tabulate-every}
 use Rattle.lock_rules.specs.Numbers.{refusal-number}
 use Rattle.lock_rules.specs.Gate.{gate, event-thread}
-use Rattle.lock_rules.specs.declared.event.Event.{Event}
+use Rattle.lock_rules.specs.declared.event.{Event.Event, Gate.Gate, Refusal.Refusal}
 use Rattle.lock_rules.specs.declared.event.Event.the-variants.{Begin, Step}
-use Rattle.lock_rules.specs.declared.event.Gate.{Gate}
 use Rattle.lock_rules.specs.declared.event.Gate.the-variants.{Open, Shut}
 use Rattle.lock_rules.specs.declared.Answer.the-variants.{GoneOn, Finished, Parked, NotOwner, TooDeep, NoRule}
 use Rattle.lock_table.specs.Limits.{thread-limit, object-limit}
@@ -22,8 +21,7 @@ use Rattle.lock_table.specs.Record.{no-object, idle}
 use Rattle.lock_table.specs.Access.{thread-at, object-at, set-thread}
 use Rattle.lock_table.specs.Narrow.{narrow-of}
 use Rattle.lock_table.specs.Whole.{Whole}
-use Rattle.lock_table.specs.declared.record.ObjectRecord.{ObjectRecord}
-use Rattle.lock_table.specs.declared.record.Table.{Table}
+use Rattle.lock_table.specs.declared.record.{ObjectRecord.ObjectRecord, Table.Table}
 use Rattle.lock_soundness.specs.Sound.{sound-of}
 use Rattle.lock_engine.specs.Outcome.{reply-returned, reply-woken}
 use Rattle.lock_engine.specs.Turn.{gate-turn, open-turn}
@@ -33,12 +31,10 @@ use Rattle.lock_engine.proofs.Refused.{refused-stays}
 use Rattle.lock_engine.proofs.Full.{full-thread}
 use Rattle.lock_engine.proofs.Narrow.{narrow-begin, narrow-step}
 use Rattle.lock_perform.specs.Perform.{stays, work-done}
-use Rattle.lock_rules.specs.declared.event.Refusal.{Refusal}
 use Rattle.lock_rules.specs.declared.event.Refusal.the-variants.{NotSound, NoSuchThread, NoSuchObject, NotIdle, ThreadIdle, ThreadParked}
 use Rattle.lock_rules.specs.declared.event.Refusal.the-variants.{NoSuchOperation}
-use Rattle.lock_engine.specs.declared.outcome.Reply.{Reply}
+use Rattle.lock_engine.specs.declared.outcome.{Reply.Reply, Outcome.Outcome}
 use Rattle.lock_engine.specs.declared.outcome.Reply.the-variants.{Begun, Refused, Answered}
-use Rattle.lock_engine.specs.declared.outcome.Outcome.{Outcome}
 use Rattle.lock_refusals.specs.Demand.{returned, left-by}
 use Rattle.lock_refusals.proofs.Theorem.{demand-one}
 use Rattle.table_bytes.specs.Layout.{object-start}

@@ -13,9 +13,8 @@ use Rattle.laws.specs.Choice.{pick, both, either}
 use Rattle.laws.proofs.Choice.{split, both-first, both-second, false≢true, Below, below}
 use Rattle.lock_rules.specs.Numbers.{refusal-number}
 use Rattle.lock_rules.specs.Gate.{gate}
-use Rattle.lock_rules.specs.declared.event.Event.{Event}
+use Rattle.lock_rules.specs.declared.event.{Event.Event, ThreadStatus.ThreadStatus}
 use Rattle.lock_rules.specs.declared.event.Event.the-variants.{Begin, Step}
-use Rattle.lock_rules.specs.declared.event.ThreadStatus.{ThreadStatus}
 use Rattle.lock_rules.specs.declared.event.Refusal.the-variants.{NotSound}
 use Rattle.lock_rules.specs.declared.event.Gate.the-variants.{Shut}
 use Rattle.event_bytes.specs.Encoding.{event-size, event-at, events-from}

@@ -17,10 +17,7 @@ use Rattle.lock_table.specs.Record.{no-thread, no-object, with-next, with-monit
 use Rattle.lock_table.specs.Access.{thread-at, set-thread, set-object, next-of}
 use Rattle.lock_table.specs.Chain.{hang, moved, move-all}
 use Rattle.lock_table.specs.Place.{place-within, thread-place, object-place}
-use Rattle.lock_table.specs.declared.record.ThreadRecord.{ThreadRecord}
-use Rattle.lock_table.specs.declared.record.ObjectRecord.{ObjectRecord}
-use Rattle.lock_table.specs.declared.record.Monitor.{Monitor}
-use Rattle.lock_table.specs.declared.record.Table.{Table}
+use Rattle.lock_table.specs.declared.record.{ThreadRecord.ThreadRecord, ObjectRecord.ObjectRecord, Monitor.Monitor, Table.Table}
 use Rattle.lock_table.proofs.Walks.{move-all-turn, move-all-end, move-all-past, move-none, hang-turn, hang-last, hang-end, hang-past, hang-none}
 use Rattle.lock_perform.specs.Moving.{CarriedOut, touched, plan, if-record, carried-out, relink, after-whole, plan-at, goes-on, hung}
 use Rattle.lock_perform.specs.Perform.{own-written, if-object, object-written}

@@ -3,9 +3,7 @@ use Prim.Native.Nat.{ℕ}
 use Rattle.lock_rules.specs.declared.Effect.{Effect}
 use Rattle.lock_table.specs.Access.{thread-at, set-thread, set-object, next-of}
 use Rattle.lock_table.specs.Record.{with-next, with-monitor}
-use Rattle.lock_table.specs.declared.record.ThreadRecord.{ThreadRecord}
-use Rattle.lock_table.specs.declared.record.ObjectRecord.{ObjectRecord}
-use Rattle.lock_table.specs.declared.record.Table.{Table}
+use Rattle.lock_table.specs.declared.record.{ThreadRecord.ThreadRecord, ObjectRecord.ObjectRecord, Table.Table}
 use Rattle.lock_perform.specs.State.{write-thread}
 use Rattle.lock_perform.specs.Moving.{CarriedOut, carry-out}
 use Rattle.lock_perform.specs.Perform.{object-after}

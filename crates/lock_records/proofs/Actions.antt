@@ -18,12 +18,10 @@ use Rattle.chains.proofs.Chain.{Chain as ChainOf, head}
 use Rattle.chains.proofs.Walk.{walk}
 use Rattle.chains.proofs.Links.{Links, leave-links, leave-lists, leave-within, leave-short, stands-leave}
 use Rattle.lock_rules.proofs.Changes.{handed, moved}
-use Rattle.lock_rules.specs.declared.ThreadState.{ThreadState}
+use Rattle.lock_rules.specs.declared.{ThreadState.ThreadState, ChainWork.ChainWork, Effect.Effect}
 use Rattle.lock_rules.specs.declared.ThreadState.the-variants.{Idle}
 use Rattle.lock_rules.specs.declared.Taken.the-variants.{First, All}
-use Rattle.lock_rules.specs.declared.ChainWork.{ChainWork}
 use Rattle.lock_rules.specs.declared.ChainWork.the-variants.{Stay, Join, JoinAndHand, Hand, Move, SendBack}
-use Rattle.lock_rules.specs.declared.Effect.{Effect}
 use Rattle.lock_rules.proofs.Objects.{ListObject, chain-of, with-chain}
 use Rattle.lock_rules.proofs.Perform.{taken, left as left-list, first-of, changed-states, handed-object, states-after, object-after, effected}
 use Rattle.lock_rules.proofs.Tables.{ListThread, ListTable}
@@ -35,9 +33,7 @@ use Rattle.lock_table.specs.Access.{thread-at, set-thread}
 use Rattle.lock_table.specs.Monitor.{hand-of, first-in, with-first, join}
 use Rattle.lock_table.specs.Chain.{hang, handed-of, moved as moved-record, move-all}
 use Rattle.lock_table.specs.Narrow.{narrow-of}
-use Rattle.lock_table.specs.declared.record.ThreadRecord.{ThreadRecord}
-use Rattle.lock_table.specs.declared.record.Monitor.{Monitor}
-use Rattle.lock_table.specs.declared.record.Table.{Table}
+use Rattle.lock_table.specs.declared.record.{ThreadRecord.ThreadRecord, Monitor.Monitor, Table.Table}
 use Rattle.lock_table.proofs.Records.{set-thread-out}
 use Rattle.lock_table.proofs.Narrowed.{narrowed}
 use Rattle.lock_table.proofs.Walks.{move-none, hang-none}

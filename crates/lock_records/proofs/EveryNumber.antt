@@ -20,8 +20,7 @@ use Rattle.lock_table.specs.Phase.{phase-number}
 use Rattle.lock_table.specs.Record.{no-thread, no-monitor, no-object}
 use Rattle.lock_table.specs.Access.{thread-at, object-at, next-of, phase-number-at}
 use Rattle.lock_table.specs.Parked.{chain-named, thread-chain, first-in, chain-first}
-use Rattle.lock_table.specs.declared.record.ThreadRecord.{ThreadRecord}
-use Rattle.lock_table.specs.declared.record.Table.{Table}
+use Rattle.lock_table.specs.declared.record.{ThreadRecord.ThreadRecord, Table.Table}
 use Rattle.lock_table.proofs.Records.{thread-none, thread-past, object-beyond}
 use Rattle.lock_perform.specs.State.{read-thread}
 use Rattle.lock_soundness.specs.Sound.{sound-of}

@@ -15,14 +15,11 @@ use Rattle.lock_word.proofs.RoundTrip.{meaning-of-word}
 use Rattle.lock_rules.specs.Numbers.{phase-of}
 use Rattle.lock_rules.specs.Rules.{onward}
 use Rattle.lock_rules.proofs.Status.{unfinished}
-use Rattle.lock_rules.specs.declared.Suspension.{Suspension}
-use Rattle.lock_rules.specs.declared.Carried.{Carried}
+use Rattle.lock_rules.specs.declared.{Suspension.Suspension, Carried.Carried, Doing.Doing, ThreadState.ThreadState}
 use Rattle.lock_rules.specs.declared.Carried.the-variants.{ToCheck, ToTell, ToInflate, ToResume}
-use Rattle.lock_rules.specs.declared.Doing.{Doing}
 use Rattle.lock_rules.specs.declared.Doing.the-variants.{EnterLook, EnterStore, EnterCancel, EnterGoIn, EnterCheck, EnterTry, ExitLook}
 use Rattle.lock_rules.specs.declared.Doing.the-variants.{ExitStore, ExitGoIn, ExitTest, ExitTell, ExitLeave, WaitLook, WaitCancel, WaitGoIn}
 use Rattle.lock_rules.specs.declared.Doing.the-variants.{WaitInflate, WaitGiveUp, WaitResume, NotifyLook, NotifyAllLook}
-use Rattle.lock_rules.specs.declared.ThreadState.{ThreadState}
 use Rattle.lock_rules.specs.declared.ThreadState.the-variants.{Idle, Running, Queued, Contending, Waiting}
 use Rattle.lock_rules.proofs.ListSound.{SuspensionFine, DoingFine, StateFine}
 use Rattle.lock_table.specs.Limits.{thread-limit}

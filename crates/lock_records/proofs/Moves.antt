@@ -27,8 +27,7 @@ use Rattle.lock_table.specs.Access.{thread-at, set-thread, next-of}
 use Rattle.lock_table.specs.Chain.{hang, moved as moved-record, move-all}
 use Rattle.lock_table.proofs.Records.{BesideThreads, thread-set, thread-beside, set-thread-out}
 use Rattle.lock_table.proofs.Walks.{next-none, hang-none}
-use Rattle.lock_table.specs.declared.record.ThreadRecord.{ThreadRecord}
-use Rattle.lock_table.specs.declared.record.Table.{Table}
+use Rattle.lock_table.specs.declared.record.{ThreadRecord.ThreadRecord, Table.Table}
 use Rattle.lock_perform.specs.Moving.{sent-back-of}
 use Rattle.lock_records.proofs.Written.{moved-written, sent-back-written}
 use Rattle.lock_records.proofs.Represents.{thread-record, ThreadsWritten, record-is, next-is}

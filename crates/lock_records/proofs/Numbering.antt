@@ -17,11 +17,9 @@ use Rattle.chains.proofs.Chain.{head}
 use Rattle.chains.proofs.Links.{Links, Stands, leave-links, leave-lists, join-links, join-lists, move-links, move-lists, shift-links, shift-lists}
 use Rattle.chains.proofs.Links.{leave-within, leave-short, stands-leave, stands-join, stands-move, stands-shift}
 use Rattle.chains.specs.declared.named.Chain.{Chain}
-use Rattle.lock_rules.specs.declared.Taken.{Taken}
+use Rattle.lock_rules.specs.declared.{Taken.Taken, ChainWork.ChainWork, Effect.Effect}
 use Rattle.lock_rules.specs.declared.Taken.the-variants.{First, All}
-use Rattle.lock_rules.specs.declared.ChainWork.{ChainWork}
 use Rattle.lock_rules.specs.declared.ChainWork.the-variants.{Stay, Join, JoinAndHand, Hand, Move, SendBack}
-use Rattle.lock_rules.specs.declared.Effect.{Effect}
 use Rattle.lock_rules.proofs.Objects.{ListObject, chain-of, with-chain}
 use Rattle.lock_rules.proofs.Perform.{enter-queue-all, join, taken, left, first-of, handed-object, moved-object, object-after, effected}
 use Rattle.lock_table.specs.Limits.{thread-limit}

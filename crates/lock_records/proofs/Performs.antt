@@ -12,10 +12,8 @@ use Rattle.laws.proofs.Update.{update-same, update-other, update-id}
 use Rattle.chains.proofs.Chain.{head}
 use Rattle.chains.proofs.Links.{Links, Stands, first-head}
 use Rattle.lock_rules.proofs.Changes.{seen-after}
-use Rattle.lock_rules.specs.declared.Doing.{Doing}
-use Rattle.lock_rules.specs.declared.ThreadState.{ThreadState}
+use Rattle.lock_rules.specs.declared.{Doing.Doing, ThreadState.ThreadState, Effect.Effect}
 use Rattle.lock_rules.specs.declared.ThreadState.the-variants.{Idle, Running}
-use Rattle.lock_rules.specs.declared.Effect.{Effect}
 use Rattle.lock_rules.specs.declared.Action.the-variants.{Unruled, Do}
 use Rattle.lock_rules.proofs.Objects.{ListObject}
 use Rattle.lock_rules.proofs.Perform.{perform, states-after, object-after, effected}
@@ -28,9 +26,7 @@ use Rattle.lock_table.specs.Limits.{thread-limit, object-limit}
 use Rattle.lock_table.specs.Record.{no-thread, no-object, with-next, with-word, with-flag, with-monitor}
 use Rattle.lock_table.specs.Access.{thread-at, set-thread, object-at, set-object, next-of}
 use Rattle.lock_table.proofs.Records.{read-at, BesideObjects, object-set, object-beside}
-use Rattle.lock_table.specs.declared.record.ThreadRecord.{ThreadRecord}
-use Rattle.lock_table.specs.declared.record.ObjectRecord.{ObjectRecord}
-use Rattle.lock_table.specs.declared.record.Table.{Table}
+use Rattle.lock_table.specs.declared.record.{ThreadRecord.ThreadRecord, ObjectRecord.ObjectRecord, Table.Table}
 use Rattle.lock_perform.specs.State.{write-thread}
 use Rattle.lock_perform.specs.Moving.{CarriedOut, carry-out}
 use Rattle.lock_perform.proofs.Performed.{perform-of}

@@ -24,9 +24,7 @@ use Rattle.lock_rules.proofs.Objects.{chain-of}
 use Rattle.lock_rules.proofs.ListChains.{short}
 use Rattle.lock_table.specs.Limits.{thread-limit}
 use Rattle.lock_table.specs.Access.{thread-at, object-at, next-of}
-use Rattle.lock_table.specs.declared.record.ThreadRecord.{ThreadRecord}
-use Rattle.lock_table.specs.declared.record.ObjectRecord.{ObjectRecord}
-use Rattle.lock_table.specs.declared.record.Table.{Table}
+use Rattle.lock_table.specs.declared.record.{ThreadRecord.ThreadRecord, ObjectRecord.ObjectRecord, Table.Table}
 use Rattle.lock_perform.specs.State.{read-thread}
 use Rattle.lock_perform.specs.Sight.{sight-at}
 use Rattle.lock_records.proofs.Numbering.{number, lists-of, list-at}

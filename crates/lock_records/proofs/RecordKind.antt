@@ -11,10 +11,9 @@ use Rattle.lock_rules.proofs.Status.{unfinished}
 use Rattle.lock_rules.specs.declared.event.Event.{Event}
 use Rattle.lock_rules.specs.Events.{Refused, Answered}
 use Rattle.lock_rules.specs.Operations.{Operation}
-use Rattle.lock_rules.specs.declared.Doing.{Doing}
+use Rattle.lock_rules.specs.declared.{Doing.Doing, Action.Action}
 use Rattle.lock_rules.specs.declared.ThreadState.the-variants.{Idle, Running}
 use Rattle.lock_rules.specs.declared.Answer.the-variants.{NoRule}
-use Rattle.lock_rules.specs.declared.Action.{Action}
 use Rattle.lock_rules.specs.declared.Action.the-variants.{Unruled, Do}
 use Rattle.lock_rules.proofs.Objects.{sight-of}
 use Rattle.lock_rules.proofs.Perform.{perform}
@@ -26,9 +25,7 @@ use Rattle.lock_rules.proofs.Standing.{Standing, stands-turn}
 use Rattle.lock_table.specs.Access.{thread-at, set-thread, object-at}
 use Rattle.lock_table.specs.Record.{with-activity}
 use Rattle.lock_table.specs.declared.phase.Phase.the-variants.{Look}
-use Rattle.lock_table.specs.declared.record.Activity.{Activity}
-use Rattle.lock_table.specs.declared.record.ObjectRecord.{ObjectRecord}
-use Rattle.lock_table.specs.declared.record.Table.{Table}
+use Rattle.lock_table.specs.declared.record.{Activity.Activity, ObjectRecord.ObjectRecord, Table.Table}
 use Rattle.lock_perform.specs.State.{read-thread, activity-of}
 use Rattle.lock_perform.specs.Sight.{sight-at}
 use Rattle.lock_perform.proofs.Performed.{perform-of}

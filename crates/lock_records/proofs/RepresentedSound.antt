@@ -12,16 +12,14 @@ use Rattle.lock_rules.proofs.Status.{unfinished}
 use Rattle.lock_rules.specs.declared.ThreadState.{ThreadState}
 use Rattle.lock_rules.proofs.Tables.{ListTable, states-at, seen-here}
 use Rattle.lock_rules.proofs.ListSound.{InTable, SoundTable}
-use Rattle.chains.specs.declared.named.Chain.{Chain}
+use Rattle.chains.specs.declared.named.{Chain.Chain, Chain.Chain}
 use Rattle.lock_rules.proofs.Objects.{chain-of}
 use Rattle.lock_rules.proofs.ListChains.{times-in, placed-in, member-at, member-in, short}
-use Rattle.chains.specs.declared.named.Chain.{Chain}
 use Rattle.lock_rules.proofs.ListChains.{out-of-chain}
 use Rattle.lock_table.specs.Record.{no-thread, with-next}
 use Rattle.lock_table.specs.Access.{thread-at, object-at, next-of, phase-number-at}
 use Rattle.lock_table.specs.Parked.{chain-named, thread-chain, first-in, chain-first}
-use Rattle.lock_table.specs.declared.record.ObjectRecord.{ObjectRecord}
-use Rattle.lock_table.specs.declared.record.Table.{Table}
+use Rattle.lock_table.specs.declared.record.{ObjectRecord.ObjectRecord, Table.Table}
 use Rattle.lock_table.proofs.Walks.{next-none}
 use Rattle.lock_perform.specs.State.{write-activity, write-thread}
 use Rattle.lock_records.proofs.Numbering.{number, lists-of, list-at, by-number}

@@ -10,10 +10,7 @@ use Rattle.chains.specs.declared.named.Chain.{Chain}
 use Rattle.lock_table.specs.Limits.{thread-limit, object-limit}
 use Rattle.lock_table.specs.Record.{no-thread, no-object, with-next, with-word, with-flag, with-monitor}
 use Rattle.lock_table.specs.Access.{thread-at, object-at, next-of}
-use Rattle.lock_table.specs.declared.record.ThreadRecord.{ThreadRecord}
-use Rattle.lock_table.specs.declared.record.Monitor.{Monitor}
-use Rattle.lock_table.specs.declared.record.ObjectRecord.{ObjectRecord}
-use Rattle.lock_table.specs.declared.record.Table.{Table}
+use Rattle.lock_table.specs.declared.record.{ThreadRecord.ThreadRecord, Monitor.Monitor, ObjectRecord.ObjectRecord, Table.Table}
 use Rattle.lock_perform.specs.State.{write-thread}
 use Rattle.lock_records.proofs.Numbering.{number, lists-of}
 use Rattle.sound_records.proofs.Reading.{ThreadFits, ObjectFits}

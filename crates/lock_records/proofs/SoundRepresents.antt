@@ -25,8 +25,7 @@ use Rattle.lock_word.specs.Depth.{depth-limit}
 use Rattle.lock_table.specs.Record.{no-thread, no-object, with-word, with-monitor}
 use Rattle.lock_table.specs.Access.{thread-at, object-at, next-of, phase-number-at}
 use Rattle.lock_table.specs.Parked.{thread-chain, first-in, chain-first}
-use Rattle.lock_table.specs.declared.record.ObjectRecord.{ObjectRecord}
-use Rattle.lock_table.specs.declared.record.Table.{Table}
+use Rattle.lock_table.specs.declared.record.{ObjectRecord.ObjectRecord, Table.Table}
 use Rattle.lock_table.proofs.Records.{thread-none}
 use Rattle.lock_perform.specs.State.{write-thread, state-by, read-thread}
 use Rattle.lock_records.proofs.Numbering.{number, lists-of, list-at, by-number}

@@ -19,18 +19,15 @@ use Rattle.lock_rules.specs.Numbers.{phase-of-doing, phase-of}
 use Rattle.lock_rules.specs.Rules.{onward}
 use Rattle.lock_rules.proofs.Changes.{seen-after, handed, moved, look-again, sent-back}
 use Rattle.lock_rules.proofs.Status.{unfinished}
-use Rattle.lock_rules.specs.declared.Carried.{Carried}
+use Rattle.lock_rules.specs.declared.{Carried.Carried, Doing.Doing, ThreadState.ThreadState, WordChange.WordChange}
 use Rattle.lock_rules.specs.declared.Carried.the-variants.{ToCheck, ToTell, ToInflate, ToResume}
-use Rattle.lock_rules.specs.declared.Doing.{Doing}
 use Rattle.lock_rules.specs.declared.Doing.the-variants.{EnterLook, EnterStore, EnterCancel, EnterGoIn, EnterCheck, EnterTry, ExitLook}
 use Rattle.lock_rules.specs.declared.Doing.the-variants.{ExitStore, ExitGoIn, ExitTest, ExitTell, ExitLeave, WaitLook, WaitCancel, WaitGoIn}
 use Rattle.lock_rules.specs.declared.Doing.the-variants.{WaitInflate, WaitGiveUp, WaitResume, NotifyLook, NotifyAllLook}
-use Rattle.lock_rules.specs.declared.ThreadState.{ThreadState}
 use Rattle.lock_rules.specs.declared.ThreadState.the-variants.{Idle, Running, Queued, Contending, Waiting}
 use Rattle.lock_word.specs.declared.meaning.WordSeen.{WordSeen}
 use Rattle.lock_word.specs.declared.meaning.WordSeen.the-variants.{Free as SeenFree, Flat as SeenFlat, Anonymous as SeenAnonymous}
 use Rattle.lock_word.specs.declared.meaning.WordSeen.the-variants.{Reserved as SeenReserved, Fat as SeenFat}
-use Rattle.lock_rules.specs.declared.WordChange.{WordChange}
 use Rattle.lock_rules.specs.declared.WordChange.the-variants.{Unchanged, Freed, OwnFlat, OwnReserved, Cancelled, Inflated}
 use Rattle.lock_rules.proofs.ListSound.{WordFine, DoingFine, StateFine}
 use Rattle.lock_table.specs.Limits.{thread-limit, object-limit}

@@ -4,18 +4,15 @@ use mathlib.Core.Path.{_≡_, refl, sym, ap, _∙_, subst}
 use native.Mathlib.Omega.{arith}
 use borrow.Author.Tests.{ne-eqb}
 use Rattle.lock_word.specs.declared.reading.LockWord.{LockWord}
-use Rattle.lock_rules.specs.declared.Answer.{Answer}
+use Rattle.lock_rules.specs.declared.{Answer.Answer, Effect.Effect, Action.Action}
 use Rattle.lock_rules.specs.declared.Answer.the-variants.{GoneOn, Finished, Parked, NotOwner, TooDeep, NoRule}
 use Rattle.lock_rules.specs.Numbers.{refusal-number}
 use Rattle.lock_rules.specs.declared.event.Refusal.{Refusal}
 use Rattle.lock_rules.specs.declared.event.Refusal.the-variants.{NotSound, NoSuchThread, NoSuchObject, NotIdle, ThreadIdle, ThreadParked}
 use Rattle.lock_rules.specs.declared.event.Refusal.the-variants.{NoSuchOperation}
-use Rattle.lock_rules.specs.declared.Effect.{Effect}
-use Rattle.lock_rules.specs.declared.Action.{Action}
 use Rattle.lock_rules.specs.declared.Action.the-variants.{Unruled, Do}
 use Rattle.lock_table.specs.Access.{thread-at, object-at}
-use Rattle.lock_table.specs.declared.record.ThreadRecord.{ThreadRecord}
-use Rattle.lock_table.specs.declared.record.Table.{Table}
+use Rattle.lock_table.specs.declared.record.{ThreadRecord.ThreadRecord, Table.Table}
 use Rattle.lock_perform.specs.Sight.{sight-at}
 use Rattle.lock_table.proofs.Records.{object-unchanged}
 use Rattle.lock_perform.specs.Perform.{stays}

@@ -16,13 +16,10 @@ use Rattle.lock_rules.specs.declared.Carried.the-variants.{ToCheck}
 use Rattle.lock_rules.specs.declared.Doing.the-variants.{EnterCheck}
 use Rattle.lock_rules.specs.declared.ThreadState.the-variants.{Idle, Queued}
 use Rattle.lock_rules.specs.declared.WordChange.the-variants.{Unchanged}
-use Rattle.lock_rules.specs.declared.Sight.{Sight}
+use Rattle.lock_rules.specs.declared.{Sight.Sight, Answer.Answer, Effect.Effect, Action.Action}
 use Rattle.chains.specs.declared.named.Chain.{Chain}
 use Rattle.lock_rules.specs.declared.ChainWork.the-variants.{Stay, Join}
-use Rattle.lock_rules.specs.declared.Answer.{Answer}
 use Rattle.lock_rules.specs.declared.Answer.the-variants.{GoneOn, Finished, Parked, NotOwner, TooDeep, NoRule}
-use Rattle.lock_rules.specs.declared.Effect.{Effect}
-use Rattle.lock_rules.specs.declared.Action.{Action}
 use Rattle.lock_rules.specs.declared.Action.the-variants.{Unruled, Do}
 use Rattle.lock_refusals.specs.Refusals.{unruled}
 

@@ -16,19 +16,15 @@ use Rattle.lock_rules.specs.Rules.{go-in-again, go-in}
 use Rattle.lock_rules.specs.Rules.{exit-owned, exit-store, exit-test, exit-tell, exit-leave, wait-owned, wait-inflate, wait-give-up, wait-resume}
 use Rattle.lock_rules.specs.Rules.{notify-owned, notify-all-owned}
 use Rattle.lock_rules.proofs.Each.{Words, each-word}
-use Rattle.lock_rules.specs.declared.Action.{Action}
+use Rattle.lock_rules.specs.declared.{Action.Action, Doing.Doing, Sight.Sight}
 use Rattle.lock_rules.specs.declared.Action.the-variants.{Unruled}
 use Rattle.lock_word.specs.declared.meaning.WordSeen.{WordSeen}
-use Rattle.lock_rules.specs.declared.Doing.{Doing}
 use Rattle.lock_rules.specs.declared.Doing.the-variants.{EnterLook, EnterStore, EnterCancel, EnterGoIn, EnterCheck, EnterTry, ExitLook}
 use Rattle.lock_rules.specs.declared.Doing.the-variants.{ExitStore, ExitGoIn, ExitTest, ExitTell, ExitLeave, WaitLook, WaitCancel, WaitGoIn}
 use Rattle.lock_rules.specs.declared.Doing.the-variants.{WaitInflate, WaitGiveUp, WaitResume, NotifyLook, NotifyAllLook}
-use Rattle.lock_rules.specs.declared.Sight.{Sight}
 use Rattle.lock_table.specs.Operation.{operation-number}
 use Rattle.lock_table.specs.Phase.{phase-number}
-use Rattle.lock_table.specs.declared.record.Monitor.{Monitor}
-use Rattle.lock_table.specs.declared.record.ObjectRecord.{ObjectRecord}
-use Rattle.lock_table.specs.declared.record.Table.{Table}
+use Rattle.lock_table.specs.declared.record.{Monitor.Monitor, ObjectRecord.ObjectRecord, Table.Table}
 use Rattle.lock_perform.specs.State.{doing-activity}
 use Rattle.lock_perform.specs.Sight.{sight-at}
 use Rattle.lock_table.specs.Ownership.{ownership-in}

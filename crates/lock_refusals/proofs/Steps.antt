@@ -14,15 +14,12 @@ use Rattle.lock_word.specs.declared.reading.Decoded.the-variants.{Valid, Invali
 use Rattle.lock_rules.specs.Numbers.{refusal-number}
 use Rattle.lock_rules.specs.Gate.{is-idle, is-parked, gate-rows, gate, event-thread}
 use Rattle.lock_rules.specs.Rules.{decide}
-use Rattle.lock_rules.specs.declared.event.Event.{Event}
+use Rattle.lock_rules.specs.declared.event.{Event.Event, ThreadStatus.ThreadStatus, Gate.Gate}
 use Rattle.lock_rules.specs.declared.event.Event.the-variants.{Begin, Step}
-use Rattle.lock_rules.specs.declared.event.ThreadStatus.{ThreadStatus}
 use Rattle.lock_rules.specs.declared.event.ThreadStatus.the-variants.{Ready}
 use Rattle.lock_rules.specs.declared.event.Refusal.the-variants.{NotSound}
-use Rattle.lock_rules.specs.declared.event.Gate.{Gate}
 use Rattle.lock_rules.specs.declared.event.Gate.the-variants.{Shut}
-use Rattle.lock_rules.specs.declared.Doing.{Doing}
-use Rattle.lock_rules.specs.declared.ThreadState.{ThreadState}
+use Rattle.lock_rules.specs.declared.{Doing.Doing, ThreadState.ThreadState}
 use Rattle.lock_rules.specs.declared.ThreadState.the-variants.{Idle, Running, Queued, Contending, Waiting}
 use Rattle.lock_rules.proofs.Gate.{Passed, by-gate}
 use Rattle.lock_rules.proofs.Turns.{status-of}
@@ -32,9 +29,7 @@ use Rattle.lock_table.specs.Phase.{phase-number}
 use Rattle.lock_table.specs.Access.{thread-at, object-at}
 use Rattle.lock_table.specs.Whole.{Whole}
 use Rattle.lock_table.specs.Record.{activity}
-use Rattle.lock_table.specs.declared.record.ThreadRecord.{ThreadRecord}
-use Rattle.lock_table.specs.declared.record.Activity.{Activity}
-use Rattle.lock_table.specs.declared.record.Table.{Table}
+use Rattle.lock_table.specs.declared.record.{ThreadRecord.ThreadRecord, Activity.Activity, Table.Table}
 use Rattle.lock_table.specs.Ownership.{ownership-in, ownership-at}
 use Rattle.lock_perform.specs.State.{doing-activity, write-activity, read-thread}
 use Rattle.lock_perform.specs.Sight.{sight-at}

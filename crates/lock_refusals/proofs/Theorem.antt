@@ -19,9 +19,8 @@ use Rattle.lock_engine.specs.Handle.{handle}
 use Rattle.lock_gate.specs.Status.{thread-status}
 use Rattle.lock_soundness.specs.Sound.{sound-of}
 use Rattle.lock_table.specs.Access.{thread-at}
-use Rattle.lock_engine.specs.declared.outcome.Reply.{Reply}
+use Rattle.lock_engine.specs.declared.outcome.{Reply.Reply, Outcome.Outcome}
 use Rattle.lock_engine.specs.declared.outcome.Reply.the-variants.{Begun, Refused, Answered}
-use Rattle.lock_engine.specs.declared.outcome.Outcome.{Outcome}
 use Rattle.lock_refusals.specs.Refusals.{Row, first-applies, numbered, rule-rows, refusals}
 use Rattle.lock_refusals.specs.Demand.{returned, refused-number, RefusedByFirst, DemandOne}
 use Rattle.lock_refusals.proofs.Rows.{from-eleven, first-read, first-made, none-read, none-made}

@@ -3,15 +3,13 @@ use Prim.Native.Nat.{ℕ}
 use Rattle.lock_word.specs.Meaning.{cancelled}
 use Rattle.lock_rules.specs.Rules.{onward}
 use Rattle.lock_rules.specs.declared.Carried.the-variants.{ToCheck, ToResume}
-use Rattle.lock_rules.specs.declared.Doing.{Doing}
+use Rattle.lock_rules.specs.declared.{Doing.Doing, ThreadState.ThreadState, WordChange.WordChange}
 use Rattle.lock_rules.specs.declared.Doing.the-variants.{EnterLook, EnterCancel, EnterGoIn, EnterCheck, EnterTry, ExitLook}
 use Rattle.lock_rules.specs.declared.Doing.the-variants.{ExitGoIn, ExitTest, ExitTell, ExitLeave, WaitLook, WaitCancel, WaitGoIn}
 use Rattle.lock_rules.specs.declared.Doing.the-variants.{WaitInflate, WaitGiveUp, WaitResume, NotifyLook, NotifyAllLook}
-use Rattle.lock_rules.specs.declared.ThreadState.{ThreadState}
 use Rattle.lock_rules.specs.declared.ThreadState.the-variants.{Idle, Running, Queued, Contending, Waiting}
 use Rattle.lock_word.specs.declared.meaning.WordSeen.{WordSeen}
 use Rattle.lock_word.specs.declared.meaning.WordSeen.the-variants.{Free, Fat, Flat, Reserved}
-use Rattle.lock_rules.specs.declared.WordChange.{WordChange}
 use Rattle.lock_rules.specs.declared.WordChange.the-variants.{Unchanged, Freed, OwnFlat, OwnReserved, Cancelled, Inflated}
 use Rattle.lock_rules.proofs.Each.{each-doing, each-state}
 

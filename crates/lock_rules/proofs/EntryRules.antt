@@ -15,9 +15,8 @@ use Rattle.lock_rules.specs.Actions.{keep-object, inflate, become-holder
 use Rattle.lock_rules.specs.Rules.{onward, go-in-again, go-in, enter-check, enter-try}
 use Rattle.lock_rules.specs.Operations.{Operation}
 use Rattle.lock_rules.specs.Operations.{Enter, Exit, Wait}
-use Rattle.lock_rules.specs.declared.Carried.{Carried}
+use Rattle.lock_rules.specs.declared.{Carried.Carried, Doing.Doing}
 use Rattle.lock_rules.specs.declared.Carried.the-variants.{ToCheck, ToTell, ToInflate}
-use Rattle.lock_rules.specs.declared.Doing.{Doing}
 use Rattle.lock_rules.specs.declared.Doing.the-variants.{EnterGoIn, EnterCheck, EnterTry, ExitGoIn, WaitGoIn}
 use Rattle.lock_rules.specs.declared.ThreadState.the-variants.{Idle, Running, Queued, Contending}
 use Rattle.lock_word.specs.declared.meaning.WordSeen.{WordSeen}

@@ -4,12 +4,11 @@ use Rattle.laws.proofs.Choice.{by-equal}
 use Rattle.lock_rules.specs.Rules.{holder-only, enter-check, enter-try, exit-tell, exit-leave, wait-inflate, wait-give-up, wait-resume, decide}
 use Rattle.lock_rules.specs.Operations.{Operation}
 use Rattle.lock_rules.specs.Operations.{Enter, Exit, Wait}
-use Rattle.lock_rules.specs.declared.Doing.{Doing}
+use Rattle.lock_rules.specs.declared.{Doing.Doing, Action.Action}
 use Rattle.lock_rules.specs.declared.Doing.the-variants.{EnterLook, EnterStore, EnterCancel, EnterGoIn, EnterCheck, EnterTry, ExitLook}
 use Rattle.lock_rules.specs.declared.Doing.the-variants.{ExitStore}
 use Rattle.lock_rules.specs.declared.Doing.the-variants.{ExitGoIn, ExitTest, ExitTell, ExitLeave, WaitLook, WaitCancel, WaitGoIn, WaitInflate}
 use Rattle.lock_rules.specs.declared.Doing.the-variants.{WaitGiveUp, WaitResume, NotifyLook, NotifyAllLook}
-use Rattle.lock_rules.specs.declared.Action.{Action}
 use Rattle.lock_rules.proofs.Objects.{ListObject, sight-of}
 use Rattle.lock_rules.proofs.Invariant.{phase-row}
 use Rattle.lock_rules.proofs.Refinement.{Actor, Stepping, Right}

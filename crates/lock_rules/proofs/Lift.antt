@@ -15,14 +15,10 @@ use Rattle.laws.proofs.Count.{count-none}
 use Rattle.lock_rules.specs.Rules.{begun}
 use Rattle.lock_rules.specs.Operations.{Operation}
 use Rattle.lock_rules.specs.Operations.{Known}
-use Rattle.lock_rules.specs.declared.Suspension.{Suspension}
-use Rattle.lock_rules.specs.declared.Doing.{Doing}
-use Rattle.lock_rules.specs.declared.ThreadState.{ThreadState}
+use Rattle.lock_rules.specs.declared.{Suspension.Suspension, Doing.Doing, ThreadState.ThreadState, Answer.Answer}
 use Rattle.lock_rules.specs.declared.ThreadState.the-variants.{Idle, Running}
-use Rattle.lock_rules.specs.declared.Answer.{Answer}
 use Rattle.lock_rules.specs.Numbers.{first-refusal, refusal-number}
-use Rattle.lock_rules.specs.declared.event.Refusal.{Refusal}
-use Rattle.lock_rules.specs.declared.event.Event.{Event}
+use Rattle.lock_rules.specs.declared.event.{Refusal.Refusal, Event.Event}
 use Rattle.lock_rules.specs.declared.event.Event.the-variants.{Begin, Step}
 use Rattle.lock_rules.specs.Events.{Refused}
 use Rattle.lock_rules.specs.PlainMonitor.{PlainMonitor, Committed, unowned, commit}

@@ -19,14 +19,13 @@ use Rattle.lock_rules.specs.Actions.{let-go}
 use Rattle.lock_rules.specs.Rules.{owner-seen, enter-look, exit-owned, wait-owned, owner-only}
 use Rattle.lock_rules.proofs.Changes.{seen-after}
 use Rattle.lock_rules.specs.Operations.{Enter, Exit, Wait}
-use Rattle.lock_rules.specs.declared.Doing.{Doing}
+use Rattle.lock_rules.specs.declared.{Doing.Doing, WordChange.WordChange}
 use Rattle.lock_rules.specs.declared.Doing.the-variants.{EnterLook, EnterStore, EnterCancel, EnterGoIn, ExitLook, ExitStore, ExitTest}
 use Rattle.lock_rules.specs.declared.Doing.the-variants.{ExitLeave}
 use Rattle.lock_rules.specs.declared.Doing.the-variants.{WaitLook, WaitCancel, WaitGoIn, WaitGiveUp}
 use Rattle.lock_rules.specs.declared.ThreadState.the-variants.{Running}
 use Rattle.lock_word.specs.declared.meaning.WordSeen.{WordSeen}
 use Rattle.lock_word.specs.declared.meaning.WordSeen.the-variants.{Free, Anonymous, Fat, Flat, Reserved}
-use Rattle.lock_rules.specs.declared.WordChange.{WordChange}
 use Rattle.lock_rules.specs.declared.WordChange.the-variants.{Unchanged, Freed, OwnFlat, OwnReserved}
 use Rattle.lock_rules.specs.declared.Answer.the-variants.{GoneOn}
 use Rattle.lock_rules.specs.PlainMonitor.{unowned, owned-by, finished}

@@ -9,13 +9,9 @@ use Rattle.laws.proofs.Choice.{equal?, either-way}
 use Rattle.laws.proofs.Count.{count-none, count-same, count-other}
 use Rattle.chains.specs.declared.named.Chain.{Chain}
 use Rattle.lock_rules.proofs.Changes.{sent-back}
-use Rattle.lock_rules.specs.declared.Suspension.{Suspension}
-use Rattle.lock_rules.specs.declared.Carried.{Carried}
-use Rattle.lock_rules.specs.declared.ThreadState.{ThreadState}
+use Rattle.lock_rules.specs.declared.{Suspension.Suspension, Carried.Carried, ThreadState.ThreadState, Taken.Taken, ChainWork.ChainWork}
 use Rattle.lock_rules.specs.declared.ThreadState.the-variants.{Queued, Contending, Waiting}
-use Rattle.lock_rules.specs.declared.Taken.{Taken}
 use Rattle.lock_rules.specs.declared.Taken.the-variants.{First}
-use Rattle.lock_rules.specs.declared.ChainWork.{ChainWork}
 use Rattle.lock_rules.specs.declared.ChainWork.the-variants.{Stay, Join, JoinAndHand, Hand, Move, SendBack}
 use Rattle.lock_rules.proofs.Each.{each-state}
 use Rattle.lock_rules.proofs.Objects.{ListObject, chain-of}

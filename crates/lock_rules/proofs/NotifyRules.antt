@@ -19,12 +19,11 @@ use Rattle.lock_rules.specs.Rules.{owner-seen, notify-owned, notify-all-
 use Rattle.lock_rules.proofs.Changes.{moved}
 use Rattle.lock_rules.specs.Operations.{Operation}
 use Rattle.lock_rules.specs.Operations.{Notify, NotifyAll}
-use Rattle.lock_rules.specs.declared.Doing.{Doing}
+use Rattle.lock_rules.specs.declared.{Doing.Doing, Taken.Taken}
 use Rattle.lock_rules.specs.declared.Doing.the-variants.{NotifyLook, NotifyAllLook}
 use Rattle.lock_rules.specs.declared.ThreadState.the-variants.{Idle, Waiting}
 use Rattle.lock_word.specs.declared.meaning.WordSeen.{WordSeen}
 use Rattle.lock_word.specs.declared.meaning.WordSeen.the-variants.{Free, Anonymous, Fat, Flat, Reserved}
-use Rattle.lock_rules.specs.declared.Taken.{Taken}
 use Rattle.lock_rules.specs.declared.Taken.the-variants.{First, All}
 use Rattle.lock_rules.specs.declared.ChainWork.the-variants.{Move}
 use Rattle.lock_rules.specs.declared.Answer.the-variants.{Finished}

@@ -14,11 +14,8 @@ use Rattle.chains.specs.declared.named.Chain.{Chain}
 use Rattle.lock_rules.specs.Rules.{onward}
 use Rattle.lock_rules.proofs.Each.{each-state, each-carried, each-chain}
 use Rattle.lock_rules.proofs.Changes.{sent-back}
-use Rattle.lock_rules.specs.declared.Suspension.{Suspension}
-use Rattle.lock_rules.specs.declared.Carried.{Carried}
-use Rattle.lock_rules.specs.declared.ThreadState.{ThreadState}
+use Rattle.lock_rules.specs.declared.{Suspension.Suspension, Carried.Carried, ThreadState.ThreadState, Taken.Taken}
 use Rattle.lock_rules.specs.declared.ThreadState.the-variants.{Idle, Running, Queued, Contending, Waiting}
-use Rattle.lock_rules.specs.declared.Taken.{Taken}
 use Rattle.lock_rules.specs.declared.Taken.the-variants.{First, All}
 use Rattle.lock_word.specs.declared.meaning.WordSeen.{WordSeen}
 use Rattle.lock_word.specs.declared.meaning.WordSeen.the-variants.{Fat, Reserved}

@@ -11,15 +11,10 @@ use Rattle.laws.specs.Count.{count}
 use Rattle.laws.proofs.Count.{count-append}
 use Rattle.chains.specs.declared.named.Chain.{Chain}
 use Rattle.lock_rules.proofs.Changes.{seen-after, handed, moved, sent-back}
-use Rattle.lock_rules.specs.declared.ThreadState.{ThreadState}
-use Rattle.lock_rules.specs.declared.Taken.{Taken}
+use Rattle.lock_rules.specs.declared.{ThreadState.ThreadState, Taken.Taken, ChainWork.ChainWork, Answer.Answer, Effect.Effect, Action.Action}
 use Rattle.lock_rules.specs.declared.Taken.the-variants.{First, All}
-use Rattle.lock_rules.specs.declared.ChainWork.{ChainWork}
 use Rattle.lock_rules.specs.declared.ChainWork.the-variants.{Stay, Join, JoinAndHand, Hand, Move, SendBack}
-use Rattle.lock_rules.specs.declared.Answer.{Answer}
 use Rattle.lock_rules.specs.declared.Answer.the-variants.{NoRule}
-use Rattle.lock_rules.specs.declared.Effect.{Effect}
-use Rattle.lock_rules.specs.declared.Action.{Action}
 use Rattle.lock_rules.specs.declared.Action.the-variants.{Unruled, Do}
 use Rattle.lock_rules.specs.PlainMonitor.{above-zero}
 use Rattle.lock_rules.proofs.Objects.{ListObject, with-word, with-flag, with-holder, with-depth, with-entry, chain-of, with-chain}

@@ -9,13 +9,9 @@ use Rattle.laws.specs.Choice.{pick}
 use Rattle.laws.specs.Update.{update}
 use Rattle.laws.proofs.Update.{update-other}
 use Rattle.lock_rules.specs.Operations.{Operation}
-use Rattle.lock_rules.specs.declared.Suspension.{Suspension}
-use Rattle.lock_rules.specs.declared.Doing.{Doing}
-use Rattle.lock_rules.specs.declared.ThreadState.{ThreadState}
+use Rattle.lock_rules.specs.declared.{Suspension.Suspension, Doing.Doing, ThreadState.ThreadState, Answer.Answer, Action.Action}
 use Rattle.lock_rules.specs.declared.ThreadState.the-variants.{Idle, Running}
-use Rattle.lock_rules.specs.declared.Answer.{Answer}
 use Rattle.lock_rules.specs.declared.Answer.the-variants.{GoneOn}
-use Rattle.lock_rules.specs.declared.Action.{Action}
 use Rattle.lock_rules.specs.PlainMonitor.{PlainMonitor, Committed, unowned, commit}
 use Rattle.lock_rules.specs.Feed.{log-after, EndsRight}
 use Rattle.lock_rules.proofs.Objects.{ListObject, empty}

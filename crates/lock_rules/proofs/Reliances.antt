@@ -6,11 +6,8 @@ use mathlib.Core.Bool.{Bool, true, false}
 use native.Mathlib.Omega.{arith}
 use Rattle.lock_rules.proofs.Each.{each-doing, each-state, each-carried, each-word}
 use Rattle.lock_rules.proofs.Changes.{look-again}
-use Rattle.lock_rules.specs.declared.Suspension.{Suspension}
-use Rattle.lock_rules.specs.declared.Carried.{Carried}
+use Rattle.lock_rules.specs.declared.{Suspension.Suspension, Carried.Carried, Doing.Doing, ThreadState.ThreadState}
 use Rattle.lock_rules.specs.declared.Carried.the-variants.{ToCheck, ToTell, ToInflate, ToResume}
-use Rattle.lock_rules.specs.declared.Doing.{Doing}
-use Rattle.lock_rules.specs.declared.ThreadState.{ThreadState}
 use Rattle.lock_rules.specs.declared.ThreadState.the-variants.{Idle, Running, Queued, Contending, Waiting}
 use Rattle.lock_word.specs.declared.meaning.WordSeen.{WordSeen}
 use Rattle.lock_word.specs.declared.meaning.WordSeen.the-variants.{Fat, Reserved}

@@ -17,17 +17,13 @@ use Rattle.lock_rules.specs.Actions.{keep-object, go-on, finish-word, fi
 use Rattle.lock_rules.specs.Rules.{owner-seen, owner-only}
 use Rattle.lock_rules.proofs.Changes.{seen-after, handed, moved}
 use Rattle.lock_rules.specs.Operations.{Operation}
-use Rattle.lock_rules.specs.declared.Suspension.{Suspension}
-use Rattle.lock_rules.specs.declared.Doing.{Doing}
-use Rattle.lock_rules.specs.declared.ThreadState.{ThreadState}
+use Rattle.lock_rules.specs.declared.{Suspension.Suspension, Doing.Doing, ThreadState.ThreadState, WordChange.WordChange, Answer.Answer}
+use Rattle.lock_rules.specs.declared.{Action.Action}
 use Rattle.lock_rules.specs.declared.ThreadState.the-variants.{Idle, Running}
 use Rattle.lock_word.specs.declared.meaning.WordSeen.the-variants.{Fat}
-use Rattle.lock_rules.specs.declared.WordChange.{WordChange}
 use Rattle.lock_rules.specs.declared.Taken.the-variants.{First, All}
 use Rattle.lock_rules.specs.declared.ChainWork.the-variants.{Stay}
-use Rattle.lock_rules.specs.declared.Answer.{Answer}
 use Rattle.lock_rules.specs.declared.Answer.the-variants.{GoneOn, Finished, NotOwner}
-use Rattle.lock_rules.specs.declared.Action.{Action}
 use Rattle.lock_rules.specs.PlainMonitor.{PlainMonitor, Committed, unaltered, finished, commit}
 use Rattle.lock_rules.specs.Feed.{OperationLog, log-after, EndsRight}
 use Rattle.lock_rules.proofs.Commits.{commit-not-owner, owner-operation}

@@ -17,26 +17,19 @@ use Rattle.lock_rules.specs.Rules.{onward, owner-seen, enter-look, exit-
 use Rattle.lock_rules.specs.Rules.{enter-store, exit-store, cancel, go-in-again, go-in, holder-only, enter-check, enter-try, exit-test}
 use Rattle.lock_rules.specs.Rules.{exit-tell}
 use Rattle.lock_rules.specs.Rules.{exit-leave, wait-inflate, wait-give-up, wait-resume, decide}
-use Rattle.lock_rules.specs.declared.Carried.{Carried}
+use Rattle.lock_rules.specs.declared.{Carried.Carried, Doing.Doing, ThreadState.ThreadState, WordChange.WordChange, Sight.Sight}
+use Rattle.lock_rules.specs.declared.{ChainWork.ChainWork, Answer.Answer, Effect.Effect, Action.Action}
 use Rattle.lock_rules.specs.declared.Carried.the-variants.{ToCheck, ToTell, ToInflate}
-use Rattle.lock_rules.specs.declared.Doing.{Doing}
 use Rattle.lock_rules.specs.declared.Doing.the-variants.{EnterLook, EnterStore, EnterCancel, EnterGoIn, EnterCheck, EnterTry, ExitLook}
 use Rattle.lock_rules.specs.declared.Doing.the-variants.{ExitStore}
 use Rattle.lock_rules.specs.declared.Doing.the-variants.{ExitGoIn, ExitTest, ExitTell, ExitLeave, WaitLook, WaitCancel, WaitGoIn, WaitInflate}
 use Rattle.lock_rules.specs.declared.Doing.the-variants.{WaitGiveUp, WaitResume, NotifyLook, NotifyAllLook}
-use Rattle.lock_rules.specs.declared.ThreadState.{ThreadState}
 use Rattle.lock_rules.specs.declared.ThreadState.the-variants.{Idle, Running}
 use Rattle.lock_word.specs.declared.meaning.WordSeen.{WordSeen}
 use Rattle.lock_word.specs.declared.meaning.WordSeen.the-variants.{Fat, Reserved}
-use Rattle.lock_rules.specs.declared.WordChange.{WordChange}
 use Rattle.lock_rules.specs.declared.WordChange.the-variants.{Unchanged, Freed, OwnFlat, OwnReserved, Cancelled, Inflated}
-use Rattle.lock_rules.specs.declared.Sight.{Sight}
-use Rattle.lock_rules.specs.declared.ChainWork.{ChainWork}
 use Rattle.lock_rules.specs.declared.ChainWork.the-variants.{Stay, Join, JoinAndHand, Hand, Move, SendBack}
-use Rattle.lock_rules.specs.declared.Answer.{Answer}
 use Rattle.lock_rules.specs.declared.Answer.the-variants.{GoneOn, Finished}
-use Rattle.lock_rules.specs.declared.Effect.{Effect}
-use Rattle.lock_rules.specs.declared.Action.{Action}
 use Rattle.lock_rules.specs.declared.Action.the-variants.{Unruled, Do}
 use Rattle.lock_rules.proofs.Invariant.{in-entry, in-contention, in-waiting}
 use Rattle.lock_rules.proofs.SharedFacts.{fat-owned, reserved-owned}

@@ -9,16 +9,12 @@ use Rattle.lock_rules.specs.Numbers.{asked-for, first-refusal, refusal-n
 use Rattle.lock_rules.specs.Operations.{Operation}
 use Rattle.lock_rules.specs.Operations.{Asked}
 use Rattle.lock_rules.specs.Operations.{Unknown, Known}
-use Rattle.lock_rules.specs.declared.Doing.{Doing}
-use Rattle.lock_rules.specs.declared.ThreadState.{ThreadState}
+use Rattle.lock_rules.specs.declared.{Doing.Doing, ThreadState.ThreadState}
 use Rattle.lock_rules.specs.declared.ThreadState.the-variants.{Idle, Running, Queued, Contending, Waiting}
-use Rattle.lock_rules.specs.declared.event.Event.{Event}
+use Rattle.lock_rules.specs.declared.event.{Event.Event, ThreadStatus.ThreadStatus, Refusal.Refusal, Gate.Gate}
 use Rattle.lock_rules.specs.declared.event.Event.the-variants.{Begin, Step}
-use Rattle.lock_rules.specs.declared.event.ThreadStatus.{ThreadStatus}
 use Rattle.lock_rules.specs.declared.event.ThreadStatus.the-variants.{Idle as IdleThread, Ready, Parked}
-use Rattle.lock_rules.specs.declared.event.Refusal.{Refusal}
 use Rattle.lock_rules.specs.declared.event.Refusal.the-variants.{ThreadIdle, ThreadParked, NoSuchOperation}
-use Rattle.lock_rules.specs.declared.event.Gate.{Gate}
 use Rattle.lock_rules.specs.declared.event.Gate.the-variants.{Open, Shut}
 use Rattle.lock_rules.specs.Gate.{is-idle, gate, event-thread}
 use Rattle.lock_rules.specs.Events.{Reply, Begun, Refused, Shown}

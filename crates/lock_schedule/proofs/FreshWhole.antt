@@ -14,8 +14,7 @@ use Rattle.lock_table.specs.Access.{object-at}
 use Rattle.lock_table.specs.Fresh.{InRange, fresh-of}
 use Rattle.lock_table.specs.declared.fresh_table.FreshRequest.{FreshRequest}
 use Rattle.lock_table.specs.Whole.{Whole}
-use Rattle.lock_table.specs.declared.record.ObjectRecord.{ObjectRecord}
-use Rattle.lock_table.specs.declared.record.Table.{Table}
+use Rattle.lock_table.specs.declared.record.{ObjectRecord.ObjectRecord, Table.Table}
 use Rattle.lock_records.proofs.Represents.{Represents}
 use Rattle.lock_records.proofs.FreshRecords.{fresh-represents}
 

@@ -4,11 +4,9 @@ use mathlib.Core.Path.{_≡_, sym, ap, _∙_, subst}
 use mathlib.Core.List.{List}
 use Rattle.lock_rules.specs.declared.event.Event.{Event}
 use Rattle.lock_table.specs.Fresh.{fresh-of}
-use Rattle.lock_table.specs.declared.fresh_table.FreshRequest.{FreshRequest}
+use Rattle.lock_table.specs.declared.fresh_table.{FreshRequest.FreshRequest, FreshAnswer.FreshAnswer, FreshTable.FreshTable}
 use Rattle.lock_table.specs.declared.record.Table.{Table}
-use Rattle.lock_table.specs.declared.fresh_table.FreshAnswer.{FreshAnswer}
 use Rattle.lock_table.specs.declared.fresh_table.FreshAnswer.the-variants.{Made}
-use Rattle.lock_table.specs.declared.fresh_table.FreshTable.{FreshTable}
 use Rattle.lock_table.proofs.FreshTables.{fresh-made}
 use Rattle.lock_schedule.specs.Schedule.{final-of}
 use Rattle.lock_schedule.specs.Demand.{Claim}

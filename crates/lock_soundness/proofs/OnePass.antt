@@ -21,8 +21,7 @@ use Rattle.lock_table.specs.Phase.{phase-number}
 use Rattle.lock_table.specs.Record.{no-thread, no-object}
 use Rattle.lock_table.specs.Access.{thread-at, object-at, next-of, phase-number-at}
 use Rattle.lock_table.specs.Parked.{chain-named, thread-chain, first-in, chain-first}
-use Rattle.lock_table.specs.declared.record.Monitor.{Monitor}
-use Rattle.lock_table.specs.declared.record.Table.{Table}
+use Rattle.lock_table.specs.declared.record.{Monitor.Monitor, Table.Table}
 use Rattle.lock_table.proofs.Records.{thread-none}
 use Rattle.lock_table.proofs.Walks.{next-none}
 use Rattle.sound_records.specs.Records.{used-object-fits, empty-object}

@@ -13,8 +13,7 @@ use Rattle.lock_table.specs.Limits.{thread-limit, object-limit}
 use Rattle.lock_table.specs.Record.{no-thread, no-object}
 use Rattle.lock_table.specs.Access.{thread-at, object-at, next-of}
 use Rattle.lock_table.specs.Parked.{thread-chain, first-in, home-at, chain-first}
-use Rattle.lock_table.specs.declared.record.Monitor.{Monitor}
-use Rattle.lock_table.specs.declared.record.Table.{Table}
+use Rattle.lock_table.specs.declared.record.{Monitor.Monitor, Table.Table}
 use Rattle.lock_table.proofs.Walks.{next-none}
 use Rattle.sound_records.proofs.Reading.{Within, ObjectFits, ThreadFits, reads-names, reads-empty-thread, reads-empty-object, reads-object}
 use Rattle.sound_records.proofs.Reading.{reads-thread}

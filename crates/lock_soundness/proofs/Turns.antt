@@ -12,9 +12,7 @@ use Rattle.chains.specs.Chain.{chain-test}
 use Rattle.lock_table.specs.Limits.{thread-limit}
 use Rattle.lock_table.specs.Record.{no-thread}
 use Rattle.lock_table.specs.Access.{object-at}
-use Rattle.lock_table.specs.declared.record.ThreadRecord.{ThreadRecord}
-use Rattle.lock_table.specs.declared.record.ObjectRecord.{ObjectRecord}
-use Rattle.lock_table.specs.declared.record.Table.{Table}
+use Rattle.lock_table.specs.declared.record.{ThreadRecord.ThreadRecord, ObjectRecord.ObjectRecord, Table.Table}
 use Rattle.sound_records.specs.Records.{names-chain, empty-object}
 use Rattle.sound_records.proofs.Reading.{reads-empty-object}
 use Rattle.lock_soundness.specs.OnePass.{thread-in, next-in, member-fits, chain-passes, chains-pass, chain-marks, chains-marks, object-passes}

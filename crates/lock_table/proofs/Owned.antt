@@ -16,8 +16,7 @@ use Rattle.lock_word.specs.Depth.{depth-limit}
 use Rattle.lock_table.specs.Record.{no-object}
 use Rattle.lock_table.specs.Access.{object-at}
 use Rattle.lock_table.specs.Whole.{Whole}
-use Rattle.lock_table.specs.declared.record.ObjectRecord.{ObjectRecord}
-use Rattle.lock_table.specs.declared.record.Table.{Table}
+use Rattle.lock_table.specs.declared.record.{ObjectRecord.ObjectRecord, Table.Table}
 use Rattle.lock_table.proofs.record.ThreadRecord.{the-field as thread-field}
 use Rattle.lock_table.proofs.record.ObjectRecord.{the-field as object-field}
 use Rattle.lock_table.proofs.record.Table.{the-row as table-row}

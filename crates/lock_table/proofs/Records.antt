@@ -16,9 +16,7 @@ use Rattle.laws.proofs.Update.{update-same, update-other}
 use Rattle.lock_table.specs.Limits.{thread-limit, object-limit}
 use Rattle.lock_table.specs.Record.{no-thread, no-object}
 use Rattle.lock_table.specs.Access.{thread-at, set-thread, object-at, set-object, next-of}
-use Rattle.lock_table.specs.declared.record.ThreadRecord.{ThreadRecord}
-use Rattle.lock_table.specs.declared.record.ObjectRecord.{ObjectRecord}
-use Rattle.lock_table.specs.declared.record.Table.{Table}
+use Rattle.lock_table.specs.declared.record.{ThreadRecord.ThreadRecord, ObjectRecord.ObjectRecord, Table.Table}
 
 -- any list of records, by number from 1 to `limit`: `none` is the empty record
 module _ (A : Type 0) (none : A) (limit : ℕ) where

@@ -13,8 +13,7 @@ use Rattle.lock_table.specs.Limits.{thread-limit}
 use Rattle.lock_table.specs.Record.{no-thread, with-next}
 use Rattle.lock_table.specs.Access.{thread-at, set-thread, next-of}
 use Rattle.lock_table.specs.Chain.{hang, moved, move-all}
-use Rattle.lock_table.specs.declared.record.ThreadRecord.{ThreadRecord}
-use Rattle.lock_table.specs.declared.record.Table.{Table}
+use Rattle.lock_table.specs.declared.record.{ThreadRecord.ThreadRecord, Table.Table}
 use Rattle.lock_table.proofs.Records.{thread-in, set-thread-in, thread-none, thread-past, set-thread-out}
 
 pub next-none : (t : Table) → next-of t 0 ≡ 0

@@ -12,10 +12,8 @@ use Rattle.laws.proofs.Choice.{by-test, above-zero}
 use Rattle.lock_word.specs.Layout.{first-beyond, number-unit, count-unit, counts, numbers}
 use Rattle.lock_word.specs.Read.{read-word, read-flat, read-reserved, fat-of, thread-number, monitor-number}
 use Rattle.lock_word.specs.Write.{write-word, IsNumber, InRange}
-use Rattle.lock_word.specs.declared.reading.ThreadNumber.{ThreadNumber}
-use Rattle.lock_word.specs.declared.reading.LockWord.{LockWord}
+use Rattle.lock_word.specs.declared.reading.{ThreadNumber.ThreadNumber, LockWord.LockWord, Decoded.Decoded}
 use Rattle.lock_word.specs.declared.reading.LockWord.the-variants.{Free, Flat, Anonymous, Reserved, Fat}
-use Rattle.lock_word.specs.declared.reading.Decoded.{Decoded}
 use Rattle.lock_word.specs.declared.reading.Decoded.the-variants.{Valid, Invalid}
 
 -- the meaning, if any, is in range and is written as this word

@@ -11,8 +11,7 @@ use Rattle.replay_lines.proofs.Fields.{rest-of}
 use Rattle.replay_parts.specs.Part.{end-room}
 use Rattle.replay_parts.proofs.Passing.{passed-none, passed-fed, settled}
 use Rattle.replay_session.specs.Session.{session-replay}
-use Rattle.replay_stream.specs.declared.feeding.Stream.{Stream}
-use Rattle.replay_stream.specs.declared.feeding.Progress.{Progress}
+use Rattle.replay_stream.specs.declared.feeding.{Stream.Stream, Progress.Progress}
 use Rattle.replay_stream.specs.Stream.{FedFrom}
 use Rattle.replay.specs.Run.{PassedOn, SettledAt, Drains}
 

@@ -12,9 +12,7 @@ use Rattle.replay_parts.proofs.Passing.{passed-none, passed-both, passed-more}
 use Rattle.replay_session.specs.Session.{fresh-session, session-replay}
 use Rattle.replay_stream.specs.declared.feeding.Stream.{Stream}
 use Rattle.replay_stream.specs.Stream.{fresh-stream}
-use Rattle.replay.specs.declared.Ending.{Ending}
-use Rattle.replay.specs.declared.Held.{Held}
-use Rattle.replay.specs.declared.Moved.{Moved}
+use Rattle.replay.specs.declared.{Ending.Ending, Held.Held, Moved.Moved}
 use Rattle.replay.specs.Run.{Takes, ReadBehind, EndedAs, Runs}
 
 -- some input was read, and passed on up to `rest`; `ended` says that it has ended

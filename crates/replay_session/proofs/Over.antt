@@ -10,9 +10,8 @@ use Rattle.replay_text.specs.Text.{answer-text}
 use Rattle.replay_parts.specs.Replay.{rest-output}
 use Rattle.replay_parts.proofs.Whole.{over-silent}
 use Rattle.replay_session.specs.Session.{react-at-stage, closing-by, closing-of, over-by, session-over, session-replay}
-use Rattle.replay_session.specs.declared.session.Stage.{Stage}
+use Rattle.replay_session.specs.declared.session.{Stage.Stage, Session.Session}
 use Rattle.replay_session.specs.declared.session.Stage.the-variants.{Opening, Running, Over}
-use Rattle.replay_session.specs.declared.session.Session.{Session}
 
 stage-over : (stage : Stage) (table : Table) → over-by stage ≡ true → (inside : Bool) (input : List ℕ)
     → rest-output session-replay (record { stage = stage; table = table }) inside input ≡ []

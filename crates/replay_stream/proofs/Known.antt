@@ -15,8 +15,7 @@ use Rattle.lock_table.specs.Access.{thread-at}
 use Rattle.lock_table.specs.Fresh.{sized-request, fresh-of}
 use Rattle.lock_table.specs.Whole.{Whole}
 use Rattle.lock_table.specs.declared.record.Table.{Table}
-use Rattle.lock_table.specs.declared.fresh_table.FreshRequest.{FreshRequest}
-use Rattle.lock_table.specs.declared.fresh_table.FreshTable.{FreshTable}
+use Rattle.lock_table.specs.declared.fresh_table.{FreshRequest.FreshRequest, FreshTable.FreshTable}
 use Rattle.lock_table.specs.Narrow.{narrow-of}
 use Rattle.lock_soundness.specs.Sound.{sound-of}
 use Rattle.lock_rules.specs.Gate.{gate, event-thread}
@@ -33,9 +32,8 @@ use Rattle.replay_lines.specs.declared.reading.Line.the-variants.{Header, Begin
 use Rattle.replay_stream.proofs.Numbers.{narrow-begun, narrow-stepped}
 use Rattle.replay_session.specs.Session.{opened-by, open-by, after-event, run-of, react-at-stage, react-of}
 use Rattle.replay_session.specs.Known.{sound-by, session-sound, run-by, react-by, react-trusting}
-use Rattle.replay_session.specs.declared.session.Stage.{Stage}
+use Rattle.replay_session.specs.declared.session.{Stage.Stage, Session.Session}
 use Rattle.replay_session.specs.declared.session.Stage.the-variants.{Opening, Running, Over}
-use Rattle.replay_session.specs.declared.session.Session.{Session}
 
 -- told right, an event is the one that tests the table
 event-told : (table : Table) {issound : Bool} → issound ≡ sound-of table → (event : Event) → handle-trusting table event issound ≡ handle table event

@@ -4,9 +4,7 @@ use mathlib.Core.Path.{_≡_, refl, ap, sym, _∙_}
 use borrow.Author.Tests.{lt-ltb}
 use Rattle.lock_table.specs.Access.{thread-at}
 use Rattle.lock_table.specs.Narrow.{narrow-of}
-use Rattle.lock_table.specs.declared.record.ThreadRecord.{ThreadRecord}
-use Rattle.lock_table.specs.declared.record.ObjectRecord.{ObjectRecord}
-use Rattle.lock_table.specs.declared.record.Table.{Table}
+use Rattle.lock_table.specs.declared.record.{ThreadRecord.ThreadRecord, ObjectRecord.ObjectRecord, Table.Table}
 use Rattle.lock_table.proofs.Narrowed.{narrowed, narrow-thread, narrow-object}
 use Rattle.lock_engine.specs.Outcome.{reply-returned, reply-woken}
 use Rattle.lock_engine.specs.Handle.{begin, step}

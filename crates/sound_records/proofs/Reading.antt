@@ -23,9 +23,7 @@ use Rattle.lock_table.specs.declared.operation.Operation.the-variants.{Idle, En
 use Rattle.lock_table.specs.declared.phase.Phase.{Phase}
 use Rattle.lock_table.specs.declared.phase.Phase.the-variants.{Idle as idle-phase, Look, Store, Cancel, GoIn, Queued, Check, Try, Contending, Test}
 use Rattle.lock_table.specs.declared.phase.Phase.the-variants.{Tell, Leave, Inflate, GiveUp, Waiting, Resume}
-use Rattle.lock_table.specs.declared.record.ThreadRecord.{ThreadRecord}
-use Rattle.lock_table.specs.declared.record.Monitor.{Monitor}
-use Rattle.lock_table.specs.declared.record.ObjectRecord.{ObjectRecord}
+use Rattle.lock_table.specs.declared.record.{ThreadRecord.ThreadRecord, Monitor.Monitor, ObjectRecord.ObjectRecord}
 use Rattle.sound_records.specs.Records.{word-fits, uses-phase, carries-phase, operation-fits, kept-count-fits, reserved-for, kept-fits}
 use Rattle.sound_records.specs.Records.{saves-depth, saved-fits, unheld-fits, names-chain, unused-fits, used-object-fits, used-thread-fits}
 use Rattle.sound_records.specs.Records.{empty-thread, empty-monitor, empty-object}

@@ -11,9 +11,7 @@ use Rattle.laws.specs.Choice.{pick}
 use Rattle.laws.proofs.Choice.{split}
 use Rattle.lock_table.specs.Limits.{thread-limit, object-limit}
 use Rattle.lock_table.specs.Access.{set-thread, set-object}
-use Rattle.lock_table.specs.declared.record.ThreadRecord.{ThreadRecord}
-use Rattle.lock_table.specs.declared.record.ObjectRecord.{ObjectRecord}
-use Rattle.lock_table.specs.declared.record.Table.{Table}
+use Rattle.lock_table.specs.declared.record.{ThreadRecord.ThreadRecord, ObjectRecord.ObjectRecord, Table.Table}
 use Rattle.table_bytes.specs.Rows.{overwritten}
 use Rattle.table_bytes.specs.Layout.{table-size, thread-bytes, object-bytes, thread-start, object-start}
 use Rattle.table_bytes.specs.Writing.{bytes-of, write-thread, write-object}

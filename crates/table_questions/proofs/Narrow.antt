@@ -16,8 +16,7 @@ use Rattle.lock_rules.specs.declared.event.Refusal.{Refusal}
 use Rattle.lock_rules.specs.declared.event.Refusal.the-variants.{NoSuchThread, NoSuchObject}
 use Rattle.lock_table.specs.Narrow.{narrow-of}
 use Rattle.table_questions.specs.Questions.{said-of, thread-value, object-value, thread-in, object-in}
-use Rattle.table_questions.specs.declared.asking.ThreadQuestion.{ThreadQuestion}
-use Rattle.table_questions.specs.declared.asking.ObjectQuestion.{ObjectQuestion}
+use Rattle.table_questions.specs.declared.asking.{ThreadQuestion.ThreadQuestion, ObjectQuestion.ObjectQuestion}
 
 module _ (istable : Bool) (table : Table) where
   said-past : (inside : ℕ → Bool) (limit : ℕ) (refusal : Refusal) (value : ℕ → ℕ) → limit < 255 → (n : ℕ) → 255 < n

@@ -6,10 +6,6 @@ use Rattle.lock_gate.proofs.gate.Tie as tie
 pub gate-spec : {M : Type 1} → statement M
 gate-spec =
     tie.close
-    (tie.spec
-    (λ c. search needs)
-    (λ c κs. tt)
-    (λ c. search needs)
-    (λ c κs. tt)
+    (tie.spec (λ c. search needs) (λ c κs. tt) (λ c. search needs) (λ c κs. tt)
     (λ c. simp (c .begin-gate .ensures, c .before .before .event .given .1))
     (λ c. simp (c .step-gate .ensures, c .before .before .event2 .given .1)))

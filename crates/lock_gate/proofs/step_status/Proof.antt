@@ -6,10 +6,5 @@ use Rattle.lock_gate.proofs.step_status.Tie as tie
 pub step-status-spec : {M : Type 1} → statement M
 step-status-spec =
     tie.close
-    (tie.spec
-    (λ c. search needs)
-    (λ c. search needs)
-    (λ c. search needs)
-    (λ c. simp (c .enum-told .given .1))
-    (λ c. simp (c .enum-told2 .given .1))
+    (tie.spec (λ c. search needs) (λ c. search needs) (λ c. search needs) (λ c. simp (c .enum-told .given .1)) (λ c. simp (c .enum-told2 .given .1))
     (λ c. simp (c .enum-told3 .given .1)))

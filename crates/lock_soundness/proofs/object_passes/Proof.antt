@@ -9,13 +9,11 @@ pub object-passes-spec : {M : Type 1} → statement M
 unfolding object-passes
 object-passes-spec =
     tie.close
-    (tie.spec
-    (λ c κs. tt)
+    (tie.spec (λ c κs. tt)
     (λ c.
     let a = c .before .before .args in
     empty-object-turn (a .threads) (a .threadcount) (a .objects) (a .number) (a .object) (a .met .now) (sym (c .before .empty-object .ensures) ∙ c .if1 .taken))
-    (λ c κs. tt)
-    (λ c κs. tt)
+    (λ c κs. tt) (λ c κs. tt)
     (λ c.
     let used = c .before .before in
     simp (

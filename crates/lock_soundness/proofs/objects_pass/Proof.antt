@@ -64,17 +64,5 @@ all-pass c = simp (c .before .loop .inv .1 .0, c .before .loop .inv .1 .1, all-e
 pub objects-pass-spec : {M : Type 1} → statement M
 objects-pass-spec =
     tie.close
-    (tie.spec
-    Inv-loop
-    μ-loop
-    (λ c. (omega arith, (refl, refl)))
-    (λ c. search needs)
-    (λ c. search needs)
-    (λ c. search needs)
-    (λ c. search needs)
-    (λ c κs. tt)
-    fails
-    (λ c. omega arith)
-    (λ c. omega arith)
-    loop-again
-    all-pass)
+    (tie.spec Inv-loop μ-loop (λ c. (omega arith, (refl, refl))) (λ c. search needs) (λ c. search needs) (λ c. search needs) (λ c. search needs)
+    (λ c κs. tt) fails (λ c. omega arith) (λ c. omega arith) loop-again all-pass)

@@ -7,7 +7,4 @@ pub sizes-fit-spec : {M : Type 1} → statement M
 unfolding sizes-fit
 sizes-fit-spec =
     tie.close
-    (tie.spec
-    (λ c κs. tt)
-    (λ c κs. tt)
-    (λ c. simp (c .within2 .ensures, c .before .within .ensures)))
+    (tie.spec (λ c κs. tt) (λ c κs. tt) (λ c. simp (c .within2 .ensures, c .before .within .ensures)))

@@ -8,10 +8,7 @@ pub sound-spec : {M : Type 1} → statement M
 unfolding one-pass
 sound-spec =
     tie.close
-    (tie.spec
-    (λ c κs. tt)
-    (λ c κs. tt)
-    (λ c κs. tt)
+    (tie.spec (λ c κs. tt) (λ c κs. tt) (λ c κs. tt)
     (λ c.
     let objects = c .before .before in
     simp (

@@ -49,18 +49,6 @@ loop-again c =
 pub threads-pass-spec : {M : Type 1} → statement M
 threads-pass-spec =
     tie.close
-    (tie.spec
-    Inv-loop
-    μ-loop
-    (λ c. (omega arith, refl))
-    (λ c. search needs)
-    (λ c. search needs)
-    (λ c. search needs)
-    (λ c. search needs)
-    (λ c. search needs)
-    (λ c κs. tt)
-    fails
-    (λ c. omega arith)
-    (λ c. omega arith)
-    loop-again
+    (tie.spec Inv-loop μ-loop (λ c. (omega arith, refl)) (λ c. search needs) (λ c. search needs) (λ c. search needs) (λ c. search needs)
+    (λ c. search needs) (λ c κs. tt) fails (λ c. omega arith) (λ c. omega arith) loop-again
     (λ c. simp (c .before .loop .inv .1, all-end (c .loop-test .left))))

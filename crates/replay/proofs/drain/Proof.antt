@@ -43,22 +43,6 @@ loop-again c =
 pub drain-spec : {M : Type 1} → statement M
 drain-spec =
     tie.close
-    (tie.spec
-    Inv-loop
-    μ-loop
-    (λ c. (search needs, search needs, draining-first _ _ _))
-    (λ c κs. tt)
-    (λ c. search needs)
-    write-count
-    (λ c κs. tt)
-    (λ c. search needs)
-    (λ c. search needs)
-    (λ c. search needs)
-    (λ c. search needs)
-    (λ c. search needs)
-    returns
-    (λ c. search needs)
-    (λ c. search needs)
-    returns-2
-    (λ c. search needs)
-    loop-again)
+    (tie.spec Inv-loop μ-loop (λ c. (search needs, search needs, draining-first _ _ _)) (λ c κs. tt) (λ c. search needs) write-count (λ c κs. tt)
+    (λ c. search needs) (λ c. search needs) (λ c. search needs) (λ c. search needs) (λ c. search needs) returns (λ c. search needs)
+    (λ c. search needs) returns-2 (λ c. search needs) loop-again)

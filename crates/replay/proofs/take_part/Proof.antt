@@ -21,12 +21,5 @@ returns c =
 pub take-part-spec : {M : Type 1} → statement M
 take-part-spec =
     tie.close
-    (tie.spec
-    (λ c. search needs)
-    (λ c. counted _ _ (c .before .before .before .pre .0))
-    (λ c κs. search needs)
-    (λ c κs. tt)
-    held-less
-    (λ c. search needs)
-    (λ c. search needs)
-    returns)
+    (tie.spec (λ c. search needs) (λ c. counted _ _ (c .before .before .before .pre .0)) (λ c κs. search needs) (λ c κs. tt) held-less
+    (λ c. search needs) (λ c. search needs) returns)

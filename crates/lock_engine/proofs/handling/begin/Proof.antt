@@ -5,6 +5,4 @@ use Rattle.lock_engine.proofs.handling.begin.Tie as tie
 pub begin-spec : {M : Type 1} → statement M
 begin-spec =
     tie.close
-    (tie.spec
-    (λ c κs. tt)
-    (λ c. simp (c .handle .ensures)))
+    (tie.spec (λ c κs. tt) (λ c. simp (c .handle .ensures)))

@@ -7,7 +7,4 @@ pub handle-spec : {M : Type 1} → statement M
 unfolding handle
 handle-spec =
     tie.close
-    (tie.spec
-    (λ c κs. tt)
-    (λ c κs. tt)
-    (λ c. simp (c .handle-trusting .ensures, c .before .sound .ensures)))
+    (tie.spec (λ c κs. tt) (λ c κs. tt) (λ c. simp (c .handle-trusting .ensures, c .before .sound .ensures)))

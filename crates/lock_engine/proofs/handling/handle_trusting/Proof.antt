@@ -49,21 +49,9 @@ returns-2 c =
 pub handle-trusting-spec : {M : Type 1} → statement M
 handle-trusting-spec =
     tie.close
-    (tie.spec
-    (λ c κs. tt)
-    (λ c κs. tt)
-    (λ c. omega (arith, place-in c))
-    place-in
-    (λ c κs. tt)
-    (λ c κs. tt)
-    (λ c. omega (arith, home-in c))
-    home-in
-    (λ c κs. tt)
-    (λ c κs. tt)
+    (tie.spec (λ c κs. tt) (λ c κs. tt) (λ c. omega (arith, place-in c)) place-in (λ c κs. tt) (λ c κs. tt) (λ c. omega (arith, home-in c)) home-in
+    (λ c κs. tt) (λ c κs. tt)
     (λ c. let inside = place-in (c .before .before .before .before .before .before .before .before .before) in omega (arith, inside))
     (λ c. place-in (c .before .before .before .before .before .before .before .before .before))
     (λ c. let inside = home-in (c .before .before .before .before .before .before) in omega (arith, inside))
-    (λ c. home-in (c .before .before .before .before .before .before))
-    (λ c κs. tt)
-    returns
-    returns-2)
+    (λ c. home-in (c .before .before .before .before .before .before)) (λ c κs. tt) returns returns-2)

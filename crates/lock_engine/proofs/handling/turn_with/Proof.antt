@@ -8,9 +8,7 @@ use Rattle.lock_engine.proofs.handling.turn_with.Tie as tie
 pub turn-with-spec : {M : Type 1} → statement M
 turn-with-spec =
     tie.close
-    (tie.spec
-    (λ c κs. tt)
-    (λ c κs. tt)
+    (tie.spec (λ c κs. tt) (λ c κs. tt)
     (λ c.
     let joined = c .before .before in
     let waiters = either-way (joined .if1 .came) (λ some. some .2 ∙ some .1 .ensures) (λ none. none .1 ∙ none-wait _ (none .0 .left)) in

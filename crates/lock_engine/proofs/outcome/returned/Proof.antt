@@ -8,12 +8,6 @@ pub returned-spec : {M : Type 1} → statement M
 unfolding reply-returned
 returned-spec =
     tie.close
-    (tie.spec
-    (λ c. search needs)
-    (λ c. search needs)
-    (λ c κs. tt)
-    (λ c. search needs)
-    (λ c κs. tt)
-    (λ c. simp (c .enum-told .given .1))
+    (tie.spec (λ c. search needs) (λ c. search needs) (λ c κs. tt) (λ c. search needs) (λ c κs. tt) (λ c. simp (c .enum-told .given .1))
     (λ c. simp (c .refusal-number .ensures, c .before .before .reply .given .1))
     (λ c. simp (c .answer-number .ensures, c .before .before .reply2 .given .1)))

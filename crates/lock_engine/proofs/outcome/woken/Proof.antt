@@ -8,11 +8,5 @@ pub woken-spec : {M : Type 1} → statement M
 unfolding reply-woken
 woken-spec =
     tie.close
-    (tie.spec
-    (λ c. search needs)
-    (λ c. search needs)
-    (λ c. search needs)
-    (λ c κs. tt)
-    (λ c. simp (c .enum-told .given .1))
-    (λ c. simp (c .enum-told2 .given .1))
-    (λ c. simp (c .answer-woken .ensures, c .before .before .reply .given .1)))
+    (tie.spec (λ c. search needs) (λ c. search needs) (λ c. search needs) (λ c κs. tt) (λ c. simp (c .enum-told .given .1))
+    (λ c. simp (c .enum-told2 .given .1)) (λ c. simp (c .answer-woken .ensures, c .before .before .reply .given .1)))

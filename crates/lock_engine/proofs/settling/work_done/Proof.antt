@@ -98,53 +98,14 @@ returns c =
 pub work-done-spec : {M : Type 1} → statement M
 work-done-spec =
     tie.close
-    (tie.spec
-    Inv-loop
-    μ-loop
-    Inv-loop2
-    μ-loop2
-    (λ c κs. tt)
-    (λ c. refl)
-    (λ c κs. tt)
-    (λ c. search (needs, inside c))
-    (λ c. omega (arith, some c))
-    (λ c. omega (arith, inside c))
-    (λ c. omega (arith, some c, inside c))
-    (λ c κs. tt)
-    (λ c. omega (arith, inside (c .before .before)))
-    (λ c. omega (arith, some (c .before .before), inside (c .before .before)))
-    (λ c. omega (arith, more (c .before .before)))
-    (λ c. omega (arith, more (c .before .before)))
-    loop-again
-    (λ c κs. tt)
-    (λ c κs. tt)
-    (λ c. omega (arith, spot-in c))
-    spot-in
-    (λ c κs. tt)
-    (λ c. omega (arith, spot-in (c .before .before .before)))
-    (λ c. spot-in (c .before .before .before))
-    (λ c. refl)
-    (λ c κs. tt)
-    (λ c. search (needs, inside-2 c))
-    (λ c. omega (arith, some-2 c))
-    (λ c. omega (arith, inside-2 c))
-    (λ c. omega (arith, some-2 c, inside-2 c))
-    (λ c κs. tt)
-    (λ c. omega (arith, inside-2 (c .before .before)))
-    (λ c. omega (arith, some-2 (c .before .before), inside-2 (c .before .before)))
-    (λ c. omega (arith, more-2 (c .before .before)))
-    (λ c. omega (arith, more-2 (c .before .before)))
-    loop2-again
-    (λ c κs. tt)
-    (λ c. omega (arith, place-in c))
-    place-in
-    (λ c κs. tt)
-    (λ c. omega (arith, place-in (c .before .before)))
-    (λ c. place-in (c .before .before))
-    (λ c κs. tt)
-    (λ c. omega (arith, home-in c))
-    home-in
-    (λ c κs. tt)
-    (λ c. omega (arith, home-in (c .before .before)))
-    (λ c. home-in (c .before .before))
-    returns)
+    (tie.spec Inv-loop μ-loop Inv-loop2 μ-loop2 (λ c κs. tt) (λ c. refl) (λ c κs. tt) (λ c. search (needs, inside c)) (λ c. omega (arith, some c))
+    (λ c. omega (arith, inside c)) (λ c. omega (arith, some c, inside c)) (λ c κs. tt) (λ c. omega (arith, inside (c .before .before)))
+    (λ c. omega (arith, some (c .before .before), inside (c .before .before))) (λ c. omega (arith, more (c .before .before)))
+    (λ c. omega (arith, more (c .before .before))) loop-again (λ c κs. tt) (λ c κs. tt) (λ c. omega (arith, spot-in c)) spot-in (λ c κs. tt)
+    (λ c. omega (arith, spot-in (c .before .before .before))) (λ c. spot-in (c .before .before .before)) (λ c. refl) (λ c κs. tt)
+    (λ c. search (needs, inside-2 c)) (λ c. omega (arith, some-2 c)) (λ c. omega (arith, inside-2 c)) (λ c. omega (arith, some-2 c, inside-2 c))
+    (λ c κs. tt) (λ c. omega (arith, inside-2 (c .before .before))) (λ c. omega (arith, some-2 (c .before .before), inside-2 (c .before .before)))
+    (λ c. omega (arith, more-2 (c .before .before))) (λ c. omega (arith, more-2 (c .before .before))) loop2-again (λ c κs. tt)
+    (λ c. omega (arith, place-in c)) place-in (λ c κs. tt) (λ c. omega (arith, place-in (c .before .before))) (λ c. place-in (c .before .before))
+    (λ c κs. tt) (λ c. omega (arith, home-in c)) home-in (λ c κs. tt) (λ c. omega (arith, home-in (c .before .before)))
+    (λ c. home-in (c .before .before)) returns)

@@ -8,9 +8,5 @@ pub action-turn-spec : {M : Type 1} → statement M
 unfolding action-turn
 action-turn-spec =
     tie.close
-    (tie.spec
-    (λ c. search needs)
-    (λ c. search needs)
-    (λ c κs. tt)
-    (λ c. simp (c .enum-told .given .1))
+    (tie.spec (λ c. search needs) (λ c. search needs) (λ c κs. tt) (λ c. simp (c .enum-told .given .1))
     (λ c. simp (c .effect-turn .ensures, c .before .before .action .given .1)))

@@ -5,6 +5,4 @@ use Rattle.lock_engine.proofs.turning.begin_turn.Tie as tie
 pub begin-turn-spec : {M : Type 1} → statement M
 begin-turn-spec =
     tie.close
-    (tie.spec
-    (λ c κs. tt)
-    (λ c. simp (c .begun .ensures)))
+    (tie.spec (λ c κs. tt) (λ c. simp (c .begun .ensures)))

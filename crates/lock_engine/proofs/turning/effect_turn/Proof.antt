@@ -5,7 +5,4 @@ use Rattle.lock_engine.proofs.turning.effect_turn.Tie as tie
 pub effect-turn-spec : {M : Type 1} → statement M
 effect-turn-spec =
     tie.close
-    (tie.spec
-    (λ c κs. tt)
-    (λ c κs. tt)
-    (λ c. simp (c .object-after .ensures, c .before .write-thread .ensures)))
+    (tie.spec (λ c κs. tt) (λ c κs. tt) (λ c. simp (c .object-after .ensures, c .before .write-thread .ensures)))

@@ -8,10 +8,5 @@ pub gate-turn-spec : {M : Type 1} → statement M
 unfolding gate-turn
 gate-turn-spec =
     tie.close
-    (tie.spec
-    (λ c. search needs)
-    (λ c κs. tt)
-    (λ c. search needs)
-    (λ c κs. tt)
-    (λ c. simp (c .open-turn .ensures, c .before .enum-told .given .1))
+    (tie.spec (λ c. search needs) (λ c κs. tt) (λ c. search needs) (λ c κs. tt) (λ c. simp (c .open-turn .ensures, c .before .enum-told .given .1))
     (λ c. simp (c .refused .ensures, c .before .before .gate .given .1)))

@@ -7,9 +7,5 @@ pub step-turn-spec : {M : Type 1} → statement M
 unfolding step-turn
 step-turn-spec =
     tie.close
-    (tie.spec
-    (λ c κs. tt)
-    (λ c κs. tt)
-    (λ c. simp (c .state-turn .ensures, c .before .read-thread .ensures, c .before .before .if1 .taken))
-    (λ c κs. tt)
-    (λ c. simp (c .refused .ensures, c .before .if1 .left)))
+    (tie.spec (λ c κs. tt) (λ c κs. tt) (λ c. simp (c .state-turn .ensures, c .before .read-thread .ensures, c .before .before .if1 .taken))
+    (λ c κs. tt) (λ c. simp (c .refused .ensures, c .before .if1 .left)))

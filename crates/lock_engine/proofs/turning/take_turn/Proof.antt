@@ -5,8 +5,5 @@ use Rattle.lock_engine.proofs.turning.take_turn.Tie as tie
 pub take-turn-spec : {M : Type 1} → statement M
 take-turn-spec =
     tie.close
-    (tie.spec
-    (λ c κs. tt)
-    (λ c κs. tt)
-    (λ c κs. tt)
+    (tie.spec (λ c κs. tt) (λ c κs. tt) (λ c κs. tt)
     (λ c. simp (c .gate-turn .ensures, c .before .gate .ensures, c .before .before .thread-status .ensures)))

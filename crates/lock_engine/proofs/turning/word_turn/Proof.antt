@@ -8,13 +8,6 @@ pub word-turn-spec : {M : Type 1} → statement M
 unfolding word-turn
 word-turn-spec =
     tie.close
-    (tie.spec
-    (λ c. search needs)
-    (λ c. search needs)
-    (λ c κs. tt)
-    (λ c. simp (c .refused .ensures, c .before .enum-told .given .1))
-    (λ c κs. tt)
-    (λ c κs. tt)
-    (λ c κs. tt)
-    (λ c κs. tt)
+    (tie.spec (λ c. search needs) (λ c. search needs) (λ c κs. tt) (λ c. simp (c .refused .ensures, c .before .enum-told .given .1)) (λ c κs. tt)
+    (λ c κs. tt) (λ c κs. tt) (λ c κs. tt)
     (λ c. simp (c .action-turn .ensures, c .before .decide .ensures, c .before .before .sight-with .ensures, c .before .before .before .seen-word .ensures, c .before .before .before .before .before .decoded .given .1)))

@@ -10,13 +10,7 @@ use Rattle.lock_engine_c.proofs.calls.duskclamp_begin.Tie as tie
 pub duskclamp-begin-spec : {M : Type 1} → statement M
 duskclamp-begin-spec =
     tie.close
-    (tie.spec
-    (λ c κs. tt)
-    (λ c κs. tt)
-    (λ c κs. tt)
-    (λ c κs. tt)
-    (λ c κs. tt)
-    (λ c. search needs)
+    (tie.spec (λ c κs. tt) (λ c κs. tt) (λ c κs. tt) (λ c κs. tt) (λ c κs. tt) (λ c. search needs)
     (λ c.
     let gated = c .before .before in
     let third = gated .before .before in

@@ -10,11 +10,7 @@ use Rattle.lock_engine_c.proofs.calls.duskclamp_step.Tie as tie
 pub duskclamp-step-spec : {M : Type 1} → statement M
 duskclamp-step-spec =
     tie.close
-    (tie.spec
-    (λ c κs. tt)
-    (λ c κs. tt)
-    (λ c κs. tt)
-    (λ c. search needs)
+    (tie.spec (λ c κs. tt) (λ c κs. tt) (λ c κs. tt) (λ c. search needs)
     (λ c.
     let gated = c .before .before in
     let number = gated .before .before .narrow .ensures in

@@ -8,10 +8,6 @@ pub keep-made-spec : {M : Type 1} → statement M
 unfolding keep-made
 keep-made-spec =
     tie.close
-    (tie.spec
-    (λ c. search needs)
-    (λ c κs. tt)
-    (λ c. search needs)
-    (λ c. search needs)
+    (tie.spec (λ c. search needs) (λ c κs. tt) (λ c. search needs) (λ c. search needs)
     (λ c. simp (c .before .before .write-table .ensures, c .before .before .before .before .enum-told .given .1))
     (λ c. simp (c .enum-told2 .given .1)))

@@ -8,11 +8,5 @@ pub reply-changes-spec : {M : Type 1} → statement M
 unfolding reply-changes
 reply-changes-spec =
     tie.close
-    (tie.spec
-    (λ c. search needs)
-    (λ c. search needs)
-    (λ c. search needs)
-    (λ c κs. tt)
-    (λ c. simp (c .enum-told .given .1))
-    (λ c. simp (c .enum-told2 .given .1))
-    (λ c. simp (c .answer-changes .ensures, c .before .before .reply .given .1)))
+    (tie.spec (λ c. search needs) (λ c. search needs) (λ c. search needs) (λ c κs. tt) (λ c. simp (c .enum-told .given .1))
+    (λ c. simp (c .enum-told2 .given .1)) (λ c. simp (c .answer-changes .ensures, c .before .before .reply .given .1)))

@@ -8,8 +8,5 @@ pub store-spec : {M : Type 1} → statement M
 unfolding stored-over
 store-spec =
     tie.close
-    (tie.spec
-    (λ c κs. tt)
-    (λ c. search needs)
-    (λ c. simp (c .before .before .write-table .ensures, c .before .before .before .before .if1 .taken))
+    (tie.spec (λ c κs. tt) (λ c. search needs) (λ c. simp (c .before .before .write-table .ensures, c .before .before .before .before .if1 .taken))
     (λ c. simp (c .if1 .left)))

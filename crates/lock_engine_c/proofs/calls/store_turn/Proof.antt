@@ -9,11 +9,7 @@ pub store-turn-spec : {M : Type 1} → statement M
 unfolding store-turn
 store-turn-spec =
     tie.close
-    (tie.spec
-    (λ c κs. tt)
-    (λ c κs. tt)
-    (λ c κs. tt)
-    (λ c. search needs)
+    (tie.spec (λ c κs. tt) (λ c κs. tt) (λ c κs. tt) (λ c. search needs)
     (λ c.
     let object = c .before .before in
     let thread = object .before .before .before .before in
@@ -24,9 +20,7 @@ store-turn-spec =
       sym (test .before .stays .ensures) ∙ test .if2 .taken,
       test .before .before .before .before .if1 .taken,
     ))
-    (λ c κs. tt)
-    (λ c κs. tt)
-    (λ c. search needs)
+    (λ c κs. tt) (λ c κs. tt) (λ c. search needs)
     (λ c.
     let table = c .before .before in
     let done = table .before in

@@ -106,49 +106,17 @@ returns c =
 pub duskclamp-run-spec : {M : Type 1} → statement M
 duskclamp-run-spec =
     tie.close
-    (tie.spec
-    Inv-loop
-    μ-loop
-    (λ c κs. tt)
-    (λ c κs. tt)
-    (λ c κs. tt)
-    (λ c κs. tt)
-    loop-holds
-    (λ c. omega arith)
-    (λ c. omega arith)
-    (λ c. omega arith)
-    (λ c. omega arith)
-    (λ c. omega arith)
-    (λ c. omega arith)
-    (λ c. omega arith)
-    (λ c κs. tt)
-    (λ c κs. tt)
-    (λ c κs. tt)
-    (λ c. omega (arith, place-in c))
-    place-in
-    (λ c κs. tt)
-    (λ c κs. tt)
-    (λ c. omega (arith, home-in c))
-    home-in
-    (λ c κs. tt)
-    (λ c κs. tt)
+    (tie.spec Inv-loop μ-loop (λ c κs. tt) (λ c κs. tt) (λ c κs. tt) (λ c κs. tt) loop-holds (λ c. omega arith) (λ c. omega arith)
+    (λ c. omega arith) (λ c. omega arith) (λ c. omega arith) (λ c. omega arith) (λ c. omega arith) (λ c κs. tt) (λ c κs. tt) (λ c κs. tt)
+    (λ c. omega (arith, place-in c)) place-in (λ c κs. tt) (λ c κs. tt) (λ c. omega (arith, home-in c)) home-in (λ c κs. tt) (λ c κs. tt)
     (λ c. let inside = place-in (c .before .before .before .before .before .before .before .before .before) in omega (arith, inside))
     (λ c. place-in (c .before .before .before .before .before .before .before .before .before))
     (λ c. let inside = home-in (c .before .before .before .before .before .before) in omega (arith, inside))
-    (λ c. home-in (c .before .before .before .before .before .before))
-    (λ c κs. tt)
-    (λ c κs. tt)
-    (λ c κs. tt)
-    (λ c κs. tt)
-    (λ c κs. tt)
+    (λ c. home-in (c .before .before .before .before .before .before)) (λ c κs. tt) (λ c κs. tt) (λ c κs. tt) (λ c κs. tt) (λ c κs. tt)
     (λ c. omega arith)
     (λ c. let (count, wide, enough, room, few, at, long, running) = c .before .before .before .before .before .before .before .before .before .before .before .before .before .before .before .before .before .before .before .before .before .loop .inv in omega (arith, wide, enough, room, few, at, long, c .before .before .before .before .before .before .before .before .before .before .before .before .before .before .before .before .before .before .before .before .loop-test .taken))
     (λ c. let (count, wide, enough, room, few, at, long, running) = c .before .before .before .before .before .before .before .before .before .before .before .before .before .before .before .before .before .before .before .before .before .loop .inv in omega (arith, wide, enough, room, few, at, long, c .before .before .before .before .before .before .before .before .before .before .before .before .before .before .before .before .before .before .before .before .loop-test .taken))
     (λ c. let (count, wide, enough, room, few, at, long, running) = c .before .before .before .before .before .before .before .before .before .before .before .before .before .before .before .before .before .before .before .before .before .loop .inv in omega (arith, wide, enough, room, few, at, long, c .before .before .before .before .before .before .before .before .before .before .before .before .before .before .before .before .before .before .before .before .loop-test .taken))
     (λ c. let (count, wide, enough, room, few, at, long, running) = c .before .before .before .before .before .before .before .before .before .before .before .before .before .before .before .before .before .before .before .before .before .loop .inv in omega (arith, wide, enough, room, few, at, long, c .before .before .before .before .before .before .before .before .before .before .before .before .before .before .before .before .before .before .before .before .loop-test .taken))
     (λ c. let (count, wide, enough, room, few, at, long, running) = c .before .before .before .before .before .before .before .before .before .before .before .before .before .before .before .before .before .before .before .before .before .loop .inv in omega (arith, wide, enough, room, few, at, long, c .before .before .before .before .before .before .before .before .before .before .before .before .before .before .before .before .before .before .before .before .loop-test .taken))
-    loop-again
-    (λ c κs. tt)
-    (λ c. search needs)
-    (λ c. search needs)
-    returns)
+    loop-again (λ c κs. tt) (λ c. search needs) (λ c. search needs) returns)

@@ -8,6 +8,4 @@ pub run-count-spec : {M : Type 1} → statement M
 unfolding run-count
 run-count-spec =
     tie.close
-    (tie.spec
-    (λ c. simp (lt-ltb _ _ (c .if1 .taken)))
-    (λ c. simp (le-ltb _ _ (c .if1 .left))))
+    (tie.spec (λ c. simp (lt-ltb _ _ (c .if1 .taken))) (λ c. simp (le-ltb _ _ (c .if1 .left))))

@@ -8,7 +8,4 @@ pub hung-spec : {M : Type 1} → statement M
 unfolding hung
 hung-spec =
     tie.close
-    (tie.spec
-    (λ c κs. tt)
-    (λ c. simp (c .with-next .ensures, eq-eqb _ _ (c .before .if1 .taken)))
-    (λ c. simp (ne-eqb _ _ (c .if1 .left))))
+    (tie.spec (λ c κs. tt) (λ c. simp (c .with-next .ensures, eq-eqb _ _ (c .before .if1 .taken))) (λ c. simp (ne-eqb _ _ (c .if1 .left))))

@@ -5,7 +5,4 @@ use Rattle.lock_perform.proofs.moving.joining.Tie as tie
 pub joining-spec : {M : Type 1} → statement M
 joining-spec =
     tie.close
-    (tie.spec
-    (λ c κs. tt)
-    (λ c κs. tt)
-    (λ c. simp (c .first-in .ensures, c .before .join .ensures)))
+    (tie.spec (λ c κs. tt) (λ c κs. tt) (λ c. simp (c .first-in .ensures, c .before .join .ensures)))

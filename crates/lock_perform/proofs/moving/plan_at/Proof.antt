@@ -5,10 +5,5 @@ use Rattle.lock_perform.proofs.moving.plan_at.Tie as tie
 pub plan-at-spec : {M : Type 1} → statement M
 plan-at-spec =
     tie.close
-    (tie.spec
-    (λ c κs. tt)
-    (λ c κs. tt)
-    (λ c κs. tt)
-    (λ c κs. tt)
-    (λ c κs. tt)
+    (tie.spec (λ c κs. tt) (λ c κs. tt) (λ c κs. tt) (λ c κs. tt) (λ c κs. tt)
     (λ c. simp (c .if-record2 .ensures, c .before .plan .ensures, c .before .before .if-record .ensures, c .before .before .before .no-thread .ensures, c .before .before .before .before .touched .ensures)))

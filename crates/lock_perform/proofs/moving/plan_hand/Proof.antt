@@ -5,9 +5,5 @@ use Rattle.lock_perform.proofs.moving.plan_hand.Tie as tie
 pub plan-hand-spec : {M : Type 1} → statement M
 plan-hand-spec =
     tie.close
-    (tie.spec
-    (λ c κs. tt)
-    (λ c κs. tt)
-    (λ c κs. tt)
-    (λ c κs. tt)
+    (tie.spec (λ c κs. tt) (λ c κs. tt) (λ c κs. tt) (λ c κs. tt)
     (λ c. simp (c .unlinked .ensures, c .before .thread-set .ensures, c .before .before .handed .ensures, c .before .before .before .hand .ensures)))

@@ -8,7 +8,4 @@ pub sent-back-spec : {M : Type 1} → statement M
 unfolding sent-back-of
 sent-back-spec =
     tie.close
-    (tie.spec
-    (λ c κs. tt)
-    (λ c. simp (c .back-from .ensures, eq-eqb _ _ (c .before .if1 .taken)))
-    (λ c. simp (ne-eqb _ _ (c .if1 .left))))
+    (tie.spec (λ c κs. tt) (λ c. simp (c .back-from .ensures, eq-eqb _ _ (c .before .if1 .taken))) (λ c. simp (ne-eqb _ _ (c .if1 .left))))

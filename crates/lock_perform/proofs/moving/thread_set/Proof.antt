@@ -14,11 +14,8 @@ pub thread-set-spec : {M : Type 1} → statement M
 unfolding thread-set
 thread-set-spec =
     tie.close
-    (tie.spec
-    (λ c. simp (eq-eqb _ _ (c .if1 .taken)))
-    (λ c. simp (lt-ltb _ _ (c .if2 .taken), ne-eqb _ _ (c .before .if1 .left)))
-    (λ c. search needs)
-    (λ c. search needs)
+    (tie.spec (λ c. simp (eq-eqb _ _ (c .if1 .taken))) (λ c. simp (lt-ltb _ _ (c .if2 .taken), ne-eqb _ _ (c .before .if1 .left)))
+    (λ c. search needs) (λ c. search needs)
     (λ c.
     let thread = c .before .before .args .thread in
     simp (le-ltb _ _ (c .if2 .left), ne-eqb _ _ (c .before .if1 .left))

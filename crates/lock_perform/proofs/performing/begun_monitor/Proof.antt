@@ -5,7 +5,4 @@ use Rattle.lock_perform.proofs.performing.begun_monitor.Tie as tie
 pub begun-monitor-spec : {M : Type 1} → statement M
 begun-monitor-spec =
     tie.close
-    (tie.spec
-    (λ c κs. tt)
-    (λ c κs. tt)
-    (λ c. simp (c .with-depth .ensures, c .before .held-by .ensures)))
+    (tie.spec (λ c κs. tt) (λ c κs. tt) (λ c. simp (c .with-depth .ensures, c .before .held-by .ensures)))

@@ -5,10 +5,5 @@ use Rattle.lock_perform.proofs.performing.object_after.Tie as tie
 pub object-after-spec : {M : Type 1} → statement M
 object-after-spec =
     tie.close
-    (tie.spec
-    (λ c κs. tt)
-    (λ c κs. tt)
-    (λ c κs. tt)
-    (λ c κs. tt)
-    (λ c κs. tt)
+    (tie.spec (λ c κs. tt) (λ c κs. tt) (λ c κs. tt) (λ c κs. tt) (λ c κs. tt)
     (λ c. simp (c .with-flag .ensures, c .before .with-monitor .ensures, c .before .before .with-word .ensures, c .before .before .before .word-after .ensures, c .before .before .before .before .begun-monitor .ensures)))

@@ -5,7 +5,4 @@ use Rattle.lock_perform.proofs.performing.object_written.Tie as tie
 pub object-written-spec : {M : Type 1} → statement M
 object-written-spec =
     tie.close
-    (tie.spec
-    (λ c κs. tt)
-    (λ c κs. tt)
-    (λ c. simp (c .if-object .ensures, c .before .with-monitor .ensures)))
+    (tie.spec (λ c κs. tt) (λ c κs. tt) (λ c. simp (c .if-object .ensures, c .before .with-monitor .ensures)))

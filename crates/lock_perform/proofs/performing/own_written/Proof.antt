@@ -5,7 +5,4 @@ use Rattle.lock_perform.proofs.performing.own_written.Tie as tie
 pub own-written-spec : {M : Type 1} → statement M
 own-written-spec =
     tie.close
-    (tie.spec
-    (λ c κs. tt)
-    (λ c κs. tt)
-    (λ c. simp (c .if-record .ensures, c .before .with-next .ensures)))
+    (tie.spec (λ c κs. tt) (λ c κs. tt) (λ c. simp (c .if-record .ensures, c .before .with-next .ensures)))

@@ -8,9 +8,5 @@ pub run-fresh-spec : {M : Type 1} → statement M
 unfolding run-fresh
 run-fresh-spec =
     tie.close
-    (tie.spec
-    (λ c. search needs)
-    (λ c κs. tt)
-    (λ c. search needs)
-    (λ c. simp (c .run-events .ensures, c .before .enum-told .given .1))
+    (tie.spec (λ c. search needs) (λ c κs. tt) (λ c. search needs) (λ c. simp (c .run-events .ensures, c .before .enum-told .given .1))
     (λ c. simp (c .enum-told2 .given .1)))

@@ -11,7 +11,4 @@ pub chain-passes-spec : {M : Type 1} → statement M
 unfolding chain-passes chain-marks
 chain-passes-spec =
     tie.close
-    (tie.spec
-    (λ c. simp (c .if1 .taken, empty-passes, marked-none) (refl, refl))
-    (λ c κs. tt)
-    (λ c. search needs))
+    (tie.spec (λ c. simp (c .if1 .taken, empty-passes, marked-none) (refl, refl)) (λ c κs. tt) (λ c. search needs))

@@ -8,10 +8,7 @@ pub chains-pass-spec : {M : Type 1} → statement M
 unfolding chains-pass chains-marks
 chains-pass-spec =
     tie.close
-    (tie.spec
-    (λ c κs. tt)
-    (λ c κs. tt)
-    (λ c κs. tt)
+    (tie.spec (λ c κs. tt) (λ c κs. tt) (λ c κs. tt)
     (λ c.
     let two = c .before .before in
     let one = two .before .before in

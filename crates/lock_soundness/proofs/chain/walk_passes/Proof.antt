@@ -104,21 +104,5 @@ out-of-links c =
 pub walk-passes-spec : {M : Type 1} → statement M
 walk-passes-spec =
     tie.close
-    (tie.spec
-    Inv-loop
-    μ-loop
-    loop-holds
-    ended
-    past-threads
-    past-records
-    (λ c. search needs)
-    (λ c. search needs)
-    (λ c. search needs)
-    (λ c. search needs)
-    (λ c κs. tt)
-    not-parked-here
-    (λ c. search needs)
-    (λ c. omega arith)
-    (λ c. omega arith)
-    loop-again
-    out-of-links)
+    (tie.spec Inv-loop μ-loop loop-holds ended past-threads past-records (λ c. search needs) (λ c. search needs) (λ c. search needs)
+    (λ c. search needs) (λ c κs. tt) not-parked-here (λ c. search needs) (λ c. omega arith) (λ c. omega arith) loop-again out-of-links)

@@ -5,6 +5,4 @@ use Rattle.lock_table.proofs.access.object_place.Tie as tie
 pub object-place-spec : {M : Type 1} → statement M
 object-place-spec =
     tie.close
-    (tie.spec
-    (λ c κs. tt)
-    (λ c. simp (c .place-within .ensures)))
+    (tie.spec (λ c κs. tt) (λ c. simp (c .place-within .ensures)))

@@ -9,10 +9,5 @@ pub set-object-spec : {M : Type 1} → statement M
 unfolding set-object
 set-object-spec =
     tie.close
-    (tie.spec
-    (λ c. simp (eq-eqb _ _ (c .if1 .taken)))
-    (λ c. simp (lt-ltb _ _ (c .if2 .taken), ne-eqb _ _ (c .before .if1 .left)))
-    (λ c. search needs)
-    (λ c. search needs)
-    (λ c. search needs)
-    (λ c. simp (le-ltb _ _ (c .if2 .left), ne-eqb _ _ (c .before .if1 .left))))
+    (tie.spec (λ c. simp (eq-eqb _ _ (c .if1 .taken))) (λ c. simp (lt-ltb _ _ (c .if2 .taken), ne-eqb _ _ (c .before .if1 .left)))
+    (λ c. search needs) (λ c. search needs) (λ c. search needs) (λ c. simp (le-ltb _ _ (c .if2 .left), ne-eqb _ _ (c .before .if1 .left))))

@@ -5,6 +5,4 @@ use Rattle.lock_table.proofs.access.thread_place.Tie as tie
 pub thread-place-spec : {M : Type 1} → statement M
 thread-place-spec =
     tie.close
-    (tie.spec
-    (λ c κs. tt)
-    (λ c. simp (c .place-within .ensures)))
+    (tie.spec (λ c κs. tt) (λ c. simp (c .place-within .ensures)))

@@ -5,8 +5,5 @@ use Rattle.lock_table.proofs.chain.handed.Tie as tie
 pub handed-spec : {M : Type 1} → statement M
 handed-spec =
     tie.close
-    (tie.spec
-    (λ c κs. tt)
-    (λ c κs. tt)
-    (λ c κs. tt)
+    (tie.spec (λ c κs. tt) (λ c κs. tt) (λ c κs. tt)
     (λ c. simp (c .with-next .ensures, c .before .with-phase .ensures, c .before .before .carried .ensures)))

@@ -5,7 +5,4 @@ use Rattle.lock_table.proofs.chain.moved.Tie as tie
 pub moved-spec : {M : Type 1} → statement M
 moved-spec =
     tie.close
-    (tie.spec
-    (λ c κs. tt)
-    (λ c κs. tt)
-    (λ c. simp (c .with-phase .ensures, c .before .moved-phase .ensures)))
+    (tie.spec (λ c κs. tt) (λ c κs. tt) (λ c. simp (c .with-phase .ensures, c .before .moved-phase .ensures)))

@@ -7,8 +7,5 @@ pub first-word-spec : {M : Type 1} → statement M
 unfolding first-word
 first-word-spec =
     tie.close
-    (tie.spec
-    (λ c κs. tt)
-    (λ c. simp (c .anonymous-word .ensures, c .before .if1 .taken))
-    (λ c κs. tt)
+    (tie.spec (λ c κs. tt) (λ c. simp (c .anonymous-word .ensures, c .before .if1 .taken)) (λ c κs. tt)
     (λ c. simp (c .free-word .ensures, c .before .if1 .left)))

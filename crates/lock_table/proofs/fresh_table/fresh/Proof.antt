@@ -9,16 +9,10 @@ pub fresh-spec : {M : Type 1} → statement M
 unfolding fresh-of
 fresh-spec =
     tie.close
-    (tie.spec
-    (λ c κs. tt)
-    (λ c. simp (c .refused .ensures, eq-eqb _ _ (c .before .if1 .taken)))
-    (λ c. search needs)
-    (λ c κs. tt)
-    (λ c. simp (c .refused2 .ensures, lt-ltb _ _ (c .before .if2 .taken), ne-eqb _ _ (c .before .before .before .if1 .left)))
-    (λ c κs. tt)
+    (tie.spec (λ c κs. tt) (λ c. simp (c .refused .ensures, eq-eqb _ _ (c .before .if1 .taken))) (λ c. search needs) (λ c κs. tt)
+    (λ c. simp (c .refused2 .ensures, lt-ltb _ _ (c .before .if2 .taken), ne-eqb _ _ (c .before .before .before .if1 .left))) (λ c κs. tt)
     (λ c. simp (c .refused3 .ensures, eq-eqb _ _ (c .before .if3 .taken), le-ltb _ _ (c .before .before .before .if2 .left), ne-eqb _ _ (c .before .before .before .before .before .if1 .left)))
-    (λ c. search needs)
-    (λ c κs. tt)
+    (λ c. search needs) (λ c κs. tt)
     (λ c. simp (c .refused4 .ensures, lt-ltb _ _ (c .before .if4 .taken), ne-eqb _ _ (c .before .before .before .if3 .left), le-ltb _ _ (c .before .before .before .before .before .if2 .left), ne-eqb _ _ (c .before .before .before .before .before .before .before .if1 .left)))
     (λ c κs. search needs)
     (λ c. simp (c .table-of .ensures, le-ltb _ _ (c .before .if4 .left), ne-eqb _ _ (c .before .before .before .if3 .left), le-ltb _ _ (c .before .before .before .before .before .if2 .left), ne-eqb _ _ (c .before .before .before .before .before .before .before .if1 .left))))

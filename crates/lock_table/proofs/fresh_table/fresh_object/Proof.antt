@@ -9,10 +9,6 @@ pub fresh-object-spec : {M : Type 1} → statement M
 unfolding fresh-object
 fresh-object-spec =
     tie.close
-    (tie.spec
-    (λ c κs. tt)
-    (λ c. search needs)
-    (λ c κs. tt)
-    (λ c κs. tt)
+    (tie.spec (λ c κs. tt) (λ c. search needs) (λ c κs. tt) (λ c κs. tt)
     (λ c. simp (c .with-word .ensures, c .before .first-word .ensures, lt-ltb _ _ (c .before .before .if1 .taken), c .before .before .before .before .no-object .ensures))
     (λ c. simp (le-ltb _ _ (c .if1 .left), c .before .before .no-object .ensures)))

@@ -39,5 +39,5 @@ pub fresh-objects-spec : {M : Type 1} → statement M
 fresh-objects-spec =
     tie.close
     (tie.spec Inv-loop μ-loop (λ c κs. tt)
-    (λ c. (omega arith, rw (c .no-object .ensures) (patched-none 0 (fresh-object (c .before .args .request)) empty)))
-    (λ c κs. search needs) (λ c. search needs) (λ c. search needs) (λ c. search needs) (λ c. search needs) loop-again returns)
+    (λ c. (omega arith, rw (c .no-object .ensures) (patched-none 0 (fresh-object (c .before .args .request)) empty))) (λ c κs. search needs)
+    (λ c. search needs) (λ c. search needs) (λ c. search needs) (λ c. search needs) loop-again returns)

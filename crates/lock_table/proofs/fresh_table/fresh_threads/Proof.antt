@@ -39,5 +39,5 @@ pub fresh-threads-spec : {M : Type 1} → statement M
 fresh-threads-spec =
     tie.close
     (tie.spec Inv-loop μ-loop (λ c κs. tt)
-    (λ c. (omega arith, rw (c .no-thread .ensures) (patched-none 0 (fresh-thread (c .before .args .request)) empty)))
-    (λ c κs. search needs) (λ c. search needs) (λ c. search needs) (λ c. search needs) (λ c. search needs) loop-again returns)
+    (λ c. (omega arith, rw (c .no-thread .ensures) (patched-none 0 (fresh-thread (c .before .args .request)) empty))) (λ c κs. search needs)
+    (λ c. search needs) (λ c. search needs) (λ c. search needs) (λ c. search needs) loop-again returns)

@@ -6,7 +6,5 @@ use Rattle.lock_table.proofs.fresh_table.refused.Tie as tie
 pub refused-spec : {M : Type 1} → statement M
 refused-spec =
     tie.close
-    (tie.spec
-    (λ c κs. tt)
-    (λ c κs. rw (c .sized-request .ensures) (omega arith, omega arith))
+    (tie.spec (λ c κs. tt) (λ c κs. rw (c .sized-request .ensures) (omega arith, omega arith))
     (λ c. simp (c .table-of .ensures, c .before .sized-request .ensures)))

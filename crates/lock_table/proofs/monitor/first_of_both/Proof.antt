@@ -6,6 +6,4 @@ use Rattle.lock_table.proofs.monitor.first_of_both.Tie as tie
 pub first-of-both-spec : {M : Type 1} → statement M
 first-of-both-spec =
     tie.close
-    (tie.spec
-    (λ c. simp (eq-eqb _ _ (c .if1 .taken)))
-    (λ c. simp (ne-eqb _ _ (c .if1 .left))))
+    (tie.spec (λ c. simp (eq-eqb _ _ (c .if1 .taken))) (λ c. simp (ne-eqb _ _ (c .if1 .left))))

@@ -9,7 +9,4 @@ pub narrow-spec : {M : Type 1} → statement M
 unfolding narrow-of
 narrow-spec =
     tie.close
-    (tie.spec
-    (λ c. simp (lt-ltb _ _ (c .if1 .taken)))
-    (λ c. search needs)
-    (λ c. simp (le-ltb _ _ (c .if1 .left))))
+    (tie.spec (λ c. simp (lt-ltb _ _ (c .if1 .taken))) (λ c. search needs) (λ c. simp (le-ltb _ _ (c .if1 .left))))

@@ -8,10 +8,5 @@ pub ownership-in-spec : {M : Type 1} → statement M
 unfolding ownership-in
 ownership-in-spec =
     tie.close
-    (tie.spec
-    (λ c. search needs)
-    (λ c. search needs)
-    (λ c. simp (c .enum-told .given .1))
-    (λ c κs. tt)
-    (λ c κs. tt)
+    (tie.spec (λ c. search needs) (λ c. search needs) (λ c. simp (c .enum-told .given .1)) (λ c κs. tt) (λ c κs. tt)
     (λ c. simp (c .ownership-of .ensures, c .before .seen-word .ensures, c .before .before .before .decoded .given .1)))

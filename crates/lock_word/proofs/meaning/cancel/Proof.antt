@@ -7,7 +7,4 @@ pub cancel-spec : {M : Type 1} → statement M
 unfolding cancel-of
 cancel-spec =
     tie.close
-    (tie.spec
-    (λ c κs. tt)
-    (λ c κs. tt)
-    (λ c. simp (c .cancel-read .ensures, c .before .read-word .ensures)))
+    (tie.spec (λ c κs. tt) (λ c κs. tt) (λ c. simp (c .cancel-read .ensures, c .before .read-word .ensures)))

@@ -8,11 +8,5 @@ pub cancel-read-spec : {M : Type 1} → statement M
 unfolding cancel-read
 cancel-read-spec =
     tie.close
-    (tie.spec
-    (λ c. search needs)
-    (λ c. search needs)
-    (λ c. simp (c .enum-told .given .1))
-    (λ c κs. tt)
-    (λ c κs. tt)
-    (λ c κs. tt)
+    (tie.spec (λ c. search needs) (λ c. search needs) (λ c. simp (c .enum-told .given .1)) (λ c κs. tt) (λ c κs. tt) (λ c κs. tt)
     (λ c. simp (c .rewritten .ensures, c .before .cancel-seen .ensures, c .before .before .seen-word .ensures, c .before .before .before .before .decoded .given .1)))

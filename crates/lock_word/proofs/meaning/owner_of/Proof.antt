@@ -7,16 +7,8 @@ use Rattle.lock_word.proofs.meaning.owner_of.Tie as tie
 pub owner-of-spec : {M : Type 1} → statement M
 owner-of-spec =
     tie.close
-    (tie.spec
-    (λ c. search needs)
-    (λ c. search needs)
-    (λ c. search needs)
-    (λ c. simp (eq-eqb _ _ (c .if1 .taken), c .before .enum-told3 .given .1))
-    (λ c. search needs)
-    (λ c. search needs)
-    (λ c. simp (eq-eqb _ _ (c .if2 .taken), c .before .before .word2 .given .1))
-    (λ c. simp (c .enum-told .given .1))
-    (λ c. simp (c .enum-told2 .given .1))
-    (λ c. simp (ne-eqb _ _ (c .if1 .left), c .before .enum-told3 .given .1))
-    (λ c. simp (c .before .word .given .1))
+    (tie.spec (λ c. search needs) (λ c. search needs) (λ c. search needs) (λ c. simp (eq-eqb _ _ (c .if1 .taken), c .before .enum-told3 .given .1))
+    (λ c. search needs) (λ c. search needs) (λ c. simp (eq-eqb _ _ (c .if2 .taken), c .before .before .word2 .given .1))
+    (λ c. simp (c .enum-told .given .1)) (λ c. simp (c .enum-told2 .given .1))
+    (λ c. simp (ne-eqb _ _ (c .if1 .left), c .before .enum-told3 .given .1)) (λ c. simp (c .before .word .given .1))
     (λ c. simp (ne-eqb _ _ (c .if2 .left), c .before .before .word2 .given .1)))

@@ -5,8 +5,5 @@ use Rattle.lock_word.proofs.meaning.ownership_of.Tie as tie
 pub ownership-of-spec : {M : Type 1} → statement M
 ownership-of-spec =
     tie.close
-    (tie.spec
-    (λ c κs. tt)
-    (λ c κs. tt)
-    (λ c κs. tt)
+    (tie.spec (λ c κs. tt) (λ c κs. tt) (λ c κs. tt)
     (λ c. simp (c .owned-by .ensures, c .before .depth-of .ensures, c .before .before .owner-of .ensures)))

@@ -8,18 +8,8 @@ pub rewritten-spec : {M : Type 1} → statement M
 unfolding rewritten-of
 rewritten-spec =
     tie.close
-    (tie.spec
-    (λ c. search needs)
-    (λ c κs. tt)
-    (λ c. search needs)
-    (λ c κs. tt)
-    (λ c. search needs)
-    (λ c. search needs)
-    (λ c κs. tt)
-    (λ c. search needs)
-    (λ c κs. tt)
-    (λ c. simp (c .free-word .ensures, c .before .enum-told .given .1))
-    (λ c. simp (c .anonymous-word .ensures, c .before .enum-told2 .given .1))
-    (λ c. simp (c .enum-told3 .given .1))
+    (tie.spec (λ c. search needs) (λ c κs. tt) (λ c. search needs) (λ c κs. tt) (λ c. search needs) (λ c. search needs) (λ c κs. tt)
+    (λ c. search needs) (λ c κs. tt) (λ c. simp (c .free-word .ensures, c .before .enum-told .given .1))
+    (λ c. simp (c .anonymous-word .ensures, c .before .enum-told2 .given .1)) (λ c. simp (c .enum-told3 .given .1))
     (λ c. simp (c .flat-word .ensures, c .before .before .seen .given .1))
     (λ c. simp (c .reserved-word .ensures, c .before .before .seen2 .given .1)))

@@ -8,11 +8,7 @@ pub by-kind-spec : {M : Type 1} → statement M
 unfolding by-kind
 by-kind-spec =
     tie.close
-    (tie.spec
-    (λ c κs. tt)
-    (λ c. simp (c .read-flat .ensures, eq-eqb _ _ (c .before .if1 .taken)))
-    (λ c κs. tt)
-    (λ c. simp (c .read-reserved .ensures, eq-eqb _ _ (c .before .if2 .taken), ne-eqb _ _ (c .before .before .if1 .left)))
-    (λ c κs. tt)
+    (tie.spec (λ c κs. tt) (λ c. simp (c .read-flat .ensures, eq-eqb _ _ (c .before .if1 .taken))) (λ c κs. tt)
+    (λ c. simp (c .read-reserved .ensures, eq-eqb _ _ (c .before .if2 .taken), ne-eqb _ _ (c .before .before .if1 .left))) (λ c κs. tt)
     (λ c. simp (c .read-fat .ensures, eq-eqb _ _ (c .before .if3 .taken), ne-eqb _ _ (c .before .before .if2 .left), ne-eqb _ _ (c .before .before .before .if1 .left)))
     (λ c. simp (ne-eqb _ _ (c .if3 .left), ne-eqb _ _ (c .before .if2 .left), ne-eqb _ _ (c .before .before .if1 .left))))

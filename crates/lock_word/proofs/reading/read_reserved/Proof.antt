@@ -8,7 +8,5 @@ pub read-reserved-spec : {M : Type 1} → statement M
 unfolding read-reserved
 read-reserved-spec =
     tie.close
-    (tie.spec
-    (λ c. simp (eq-eqb _ _ (c .if2 .taken), eq-eqb _ _ (c .before .if1 .taken)))
-    (λ c. simp (ne-eqb _ _ (c .if2 .left), eq-eqb _ _ (c .before .if1 .taken)))
-    (λ c. simp (ne-eqb _ _ (c .if1 .left))))
+    (tie.spec (λ c. simp (eq-eqb _ _ (c .if2 .taken), eq-eqb _ _ (c .before .if1 .taken)))
+    (λ c. simp (ne-eqb _ _ (c .if2 .left), eq-eqb _ _ (c .before .if1 .taken))) (λ c. simp (ne-eqb _ _ (c .if1 .left))))

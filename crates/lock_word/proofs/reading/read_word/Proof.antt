@@ -8,10 +8,5 @@ use Rattle.lock_word.proofs.reading.read_word.Tie as tie
 pub read-word-spec : {M : Type 1} → statement M
 read-word-spec =
     tie.close
-    (tie.spec
-    (λ c. sym (beyond _ (c .if1 .taken)))
-    (λ c. search needs)
-    (λ c κs. tt)
-    (λ c. search needs)
-    (λ c κs. tt)
+    (tie.spec (λ c. sym (beyond _ (c .if1 .taken))) (λ c. search needs) (λ c κs. tt) (λ c. search needs) (λ c κs. tt)
     (λ c. simp (c .by-kind .ensures, c .before .kind-and-count .ensures) (read-by-entry _ (c .before .before .if1 .left))))

@@ -8,21 +8,8 @@ pub write-word-spec : {M : Type 1} → statement M
 unfolding write-word
 write-word-spec =
     tie.close
-    (tie.spec
-    (λ c. search needs)
-    (λ c κs. tt)
-    (λ c. search needs)
-    (λ c κs. tt)
-    (λ c κs. tt)
-    (λ c. search needs)
-    (λ c κs. tt)
-    (λ c. search needs)
-    (λ c κs. tt)
-    (λ c κs. tt)
-    (λ c. search needs)
-    (λ c κs. tt)
-    (λ c κs. tt)
-    (λ c. simp (c .free-word .ensures, c .before .enum-told .given .1))
+    (tie.spec (λ c. search needs) (λ c κs. tt) (λ c. search needs) (λ c κs. tt) (λ c κs. tt) (λ c. search needs) (λ c κs. tt) (λ c. search needs)
+    (λ c κs. tt) (λ c κs. tt) (λ c. search needs) (λ c κs. tt) (λ c κs. tt) (λ c. simp (c .free-word .ensures, c .before .enum-told .given .1))
     (λ c. simp (c .flat-word .ensures, c .before .value .ensures, c .before .before .before .meaning .given .1))
     (λ c. simp (c .anonymous-word .ensures, c .before .enum-told2 .given .1))
     (λ c. simp (c .reserved-word .ensures, c .before .value2 .ensures, c .before .before .before .meaning2 .given .1))

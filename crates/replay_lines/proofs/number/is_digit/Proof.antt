@@ -8,5 +8,4 @@ pub is-digit-spec : {M : Type 1} → statement M
 unfolding is-digit
 is-digit-spec =
     tie.close
-    (tie.spec
-    (λ c. refl))
+    (tie.spec (λ c. refl))

@@ -69,21 +69,5 @@ returns-3 c =
 pub read-digits-spec : {M : Type 1} → statement M
 read-digits-spec =
     tie.close
-    (tie.spec
-    Inv-loop
-    μ-loop
-    (λ c. search needs)
-    (λ c. search needs)
-    (λ c κs. tt)
-    (λ c. search needs)
-    sub-widen
-    (λ c κs. tt)
-    add-next
-    returns
-    (λ c. search needs)
-    (λ c. search needs)
-    loop-again
-    (λ c. search needs)
-    returns-2
-    (λ c. search needs)
-    returns-3)
+    (tie.spec Inv-loop μ-loop (λ c. search needs) (λ c. search needs) (λ c κs. tt) (λ c. search needs) sub-widen (λ c κs. tt) add-next returns
+    (λ c. search needs) (λ c. search needs) loop-again (λ c. search needs) returns-2 (λ c. search needs) returns-3)

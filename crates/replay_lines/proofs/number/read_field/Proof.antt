@@ -46,16 +46,5 @@ pub read-field-spec : {M : Type 1} → statement M
 unfolding read-field
 read-field-spec =
     tie.close
-    (tie.spec
-    (λ c. rw (no-bytes (c .before .before .args .text .now) (c .if1 .taken)))
-    (λ c. search needs)
-    returns-2
-    (λ c. search needs)
-    (λ c. search needs)
-    (λ c. search needs)
-    (λ c κs. tt)
-    (λ c. search needs)
-    (λ c. search needs)
-    returns-3
-    add-length
-    returns-4)
+    (tie.spec (λ c. rw (no-bytes (c .before .before .args .text .now) (c .if1 .taken))) (λ c. search needs) returns-2 (λ c. search needs)
+    (λ c. search needs) (λ c. search needs) (λ c κs. tt) (λ c. search needs) (λ c. search needs) returns-3 add-length returns-4)

@@ -39,12 +39,5 @@ pub read-number-spec : {M : Type 1} → statement M
 unfolding read-number
 read-number-spec =
     tie.close
-    (tie.spec
-    (λ c. rw (no-bytes (c .before .before .args .text .now) (c .if1 .taken)))
-    (λ c. search needs)
-    returns-2
-    (λ c κs. tt)
-    sub-read-digits
-    (λ c κs. tt)
-    returns-3
-    returns-4)
+    (tie.spec (λ c. rw (no-bytes (c .before .before .args .text .now) (c .if1 .taken))) (λ c. search needs) returns-2 (λ c κs. tt) sub-read-digits
+    (λ c κs. tt) returns-3 returns-4)

@@ -18,8 +18,4 @@ returns-3 c =
 pub end-line-spec : {M : Type 1} → statement M
 end-line-spec =
     tie.close
-    (tie.spec
-    (λ c. end-other (c .before .args .text .now) (c .before .args .line) (c .if1 .taken))
-    (λ c. search needs)
-    returns-2
-    returns-3)
+    (tie.spec (λ c. end-other (c .before .args .text .now) (c .before .args .line) (c .if1 .taken)) (λ c. search needs) returns-2 returns-3)

@@ -16,16 +16,9 @@ pub read-begin-spec : {M : Type 1} → statement M
 unfolding read-begin
 read-begin-spec =
     tie.close
-    (tie.spec
-    (λ c. simp (eq-eqb _ _ (c .if1 .taken)))
-    (λ c κs. tt)
-    (λ c. search needs)
-    (λ c. search needs)
-    (λ c. simp (ne-eqb _ _ (c .before .before .before .if1 .left), sym (c .before .before .read-field .ensures) ∙ c .enum-told .given .1))
-    fits
-    fits
-    (λ c. search needs)
-    (λ c κs. tt)
+    (tie.spec (λ c. simp (eq-eqb _ _ (c .if1 .taken))) (λ c κs. tt) (λ c. search needs) (λ c. search needs)
+    (λ c. simp (ne-eqb _ _ (c .before .before .before .if1 .left), sym (c .before .before .read-field .ensures) ∙ c .enum-told .given .1)) fits fits
+    (λ c. search needs) (λ c κs. tt)
     (λ c.
     let found = c .before .before .before in
     let read = found .before .before in

@@ -22,13 +22,5 @@ pub read-begin-object-spec : {M : Type 1} → statement M
 unfolding read-begin-object
 read-begin-object-spec =
     tie.close
-    (tie.spec
-    (λ c κs. tt)
-    (λ c. search needs)
-    (λ c. search needs)
-    (λ c. simp (sym (c .before .before .read-field .ensures) ∙ c .enum-told .given .1))
-    fits
-    fits
-    (λ c. search needs)
-    (λ c κs. tt)
-    returns-2)
+    (tie.spec (λ c κs. tt) (λ c. search needs) (λ c. search needs)
+    (λ c. simp (sym (c .before .before .read-field .ensures) ∙ c .enum-told .given .1)) fits fits (λ c. search needs) (λ c κs. tt) returns-2)

@@ -17,18 +17,12 @@ pub read-header-reserved-spec : {M : Type 1} → statement M
 unfolding read-header-reserved
 read-header-reserved-spec =
     tie.close
-    (tie.spec
-    (λ c κs. tt)
-    (λ c. search needs)
-    (λ c. search needs)
+    (tie.spec (λ c κs. tt) (λ c. search needs) (λ c. search needs)
     (λ c. simp (sym (c .before .before .read-field .ensures) ∙ c .enum-told .given .1))
     (λ c.
     let found = c .before .before in
     simp (sym (found .before .before .read-field .ensures) ∙ found .value .given .1, lt-ltb _ _ (c .if1 .taken)))
-    fits
-    fits
-    (λ c. search needs)
-    (λ c κs. tt)
+    fits fits (λ c. search needs) (λ c κs. tt)
     (λ c.
     let found = c .before .before .before .before in
     let read = found .before .before in

@@ -35,16 +35,5 @@ pub read-line-spec : {M : Type 1} → statement M
 unfolding read-line
 read-line-spec =
     tie.close
-    (tie.spec
-    (λ c. rw (no-bytes (c .before .before .args .line .now) (c .if1 .taken)))
-    (λ c. search needs)
-    (λ c. search needs)
-    (λ c. search needs)
-    (λ c. search needs)
-    (λ c κs. tt)
-    returns-2
-    (λ c κs. tt)
-    returns-3
-    (λ c κs. tt)
-    (λ c κs. tt)
-    returns-4)
+    (tie.spec (λ c. rw (no-bytes (c .before .before .args .line .now) (c .if1 .taken))) (λ c. search needs) (λ c. search needs) (λ c. search needs)
+    (λ c. search needs) (λ c κs. tt) returns-2 (λ c κs. tt) returns-3 (λ c κs. tt) (λ c κs. tt) returns-4)

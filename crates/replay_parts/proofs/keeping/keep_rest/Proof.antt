@@ -9,11 +9,8 @@ pub keep-rest-spec : {M : Type 1} → statement M
 unfolding keep-rest
 keep-rest-spec =
     tie.close
-    (tie.spec
-    (λ c. simp (lt-ltb _ _ (c .if1 .taken)))
-    (λ c. simp (lt-ltb _ _ (c .if2 .taken), le-ltb _ _ (c .before .if1 .left)))
-    (λ c κs. search needs)
-    (λ c. search needs)
+    (tie.spec (λ c. simp (lt-ltb _ _ (c .if1 .taken))) (λ c. simp (lt-ltb _ _ (c .if2 .taken), le-ltb _ _ (c .before .if1 .left)))
+    (λ c κs. search needs) (λ c. search needs)
     (λ c.
     let move = c .before .before in
     let test = move .before .before in

@@ -21,15 +21,5 @@ loop-again c =
 pub move-down-spec : {M : Type 1} → statement M
 move-down-spec =
     tie.close
-    (tie.spec
-    Inv-loop
-    μ-loop
-    (λ c. (search needs, moved-first _ _))
-    (λ c. search needs)
-    (λ c. search needs)
-    (λ c. search needs)
-    (λ c. search needs)
-    (λ c. search needs)
-    loop-again
-    (λ c. search needs)
-    (λ c. moved-all (c .before .loop .inv .1) (c .before .loop .inv .0) (c .loop-test .left)))
+    (tie.spec Inv-loop μ-loop (λ c. (search needs, moved-first _ _)) (λ c. search needs) (λ c. search needs) (λ c. search needs) (λ c. search needs)
+    (λ c. search needs) loop-again (λ c. search needs) (λ c. moved-all (c .before .loop .inv .1) (c .before .loop .inv .0) (c .loop-test .left)))

@@ -5,11 +5,5 @@ use Rattle.replay_session.proofs.reacting.after_event.Tie as tie
 pub after-event-spec : {M : Type 1} → statement M
 after-event-spec =
     tie.close
-    (tie.spec
-    (λ c κs. tt)
-    (λ c κs. tt)
-    (λ c κs. tt)
-    (λ c κs. tt)
-    (λ c κs. tt)
-    (λ c κs. tt)
+    (tie.spec (λ c κs. tt) (λ c κs. tt) (λ c κs. tt) (λ c κs. tt) (λ c κs. tt) (λ c κs. tt)
     (λ c. simp (c .stay .ensures, c .before .answer-with .ensures, c .before .before .word-of .ensures, c .before .before .before .woken .ensures, c .before .before .before .before .phase-of .ensures, c .before .before .before .before .before .returned .ensures)))

@@ -8,6 +8,4 @@ pub answer-from-spec : {M : Type 1} → statement M
 unfolding answer-from
 answer-from-spec =
     tie.close
-    (tie.spec
-    (λ c. simp (le-leb _ _ (c .if1 .taken)))
-    (λ c. simp (lt-leb _ _ (c .if1 .left))))
+    (tie.spec (λ c. simp (le-leb _ _ (c .if1 .taken))) (λ c. simp (lt-leb _ _ (c .if1 .left))))

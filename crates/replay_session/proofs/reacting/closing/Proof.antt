@@ -5,6 +5,4 @@ use Rattle.replay_session.proofs.reacting.closing.Tie as tie
 pub closing-spec : {M : Type 1} → statement M
 closing-spec =
     tie.close
-    (tie.spec
-    (λ c κs. tt)
-    (λ c. simp (c .closing-by .ensures)))
+    (tie.spec (λ c κs. tt) (λ c. simp (c .closing-by .ensures)))

@@ -8,13 +8,6 @@ pub closing-by-spec : {M : Type 1} → statement M
 unfolding closing-by
 closing-by-spec =
     tie.close
-    (tie.spec
-    (λ c. search needs)
-    (λ c κs. tt)
-    (λ c. search needs)
-    (λ c κs. tt)
-    (λ c. search needs)
-    (λ c κs. tt)
-    (λ c. simp (c .stay .ensures, c .before .enum-told .given .1))
-    (λ c. simp (c .stay2 .ensures, c .before .enum-told2 .given .1))
+    (tie.spec (λ c. search needs) (λ c κs. tt) (λ c. search needs) (λ c κs. tt) (λ c. search needs) (λ c κs. tt)
+    (λ c. simp (c .stay .ensures, c .before .enum-told .given .1)) (λ c. simp (c .stay2 .ensures, c .before .enum-told2 .given .1))
     (λ c. simp (c .stay3 .ensures, c .before .enum-told3 .given .1)))

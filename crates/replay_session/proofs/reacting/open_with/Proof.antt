@@ -7,6 +7,4 @@ pub open-with-spec : {M : Type 1} → statement M
 unfolding opened-by
 open-with-spec =
     tie.close
-    (tie.spec
-    (λ c κs. tt)
-    (λ c. simp (c .opened .ensures)))
+    (tie.spec (λ c κs. tt) (λ c. simp (c .opened .ensures)))

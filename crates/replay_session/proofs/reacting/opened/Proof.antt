@@ -8,12 +8,6 @@ pub opened-spec : {M : Type 1} → statement M
 unfolding opened-by
 opened-spec =
     tie.close
-    (tie.spec
-    (λ c. search needs)
-    (λ c κs. tt)
-    (λ c. search needs)
-    (λ c κs. tt)
-    (λ c. search needs)
-    (λ c κs. tt)
+    (tie.spec (λ c. search needs) (λ c κs. tt) (λ c. search needs) (λ c κs. tt) (λ c. search needs) (λ c κs. tt)
     (λ c. simp (c .stay .ensures, c .before .enum-told .given .1))
     (λ c. simp (c .stay2 .ensures, c .before .fresh-returned .ensures, c .before .before .enum-told2 .given .1)))

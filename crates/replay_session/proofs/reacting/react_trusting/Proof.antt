@@ -5,6 +5,4 @@ use Rattle.replay_session.proofs.reacting.react_trusting.Tie as tie
 pub react-trusting-spec : {M : Type 1} → statement M
 react-trusting-spec =
     tie.close
-    (tie.spec
-    (λ c κs. tt)
-    (λ c. simp (c .react-by .ensures)))
+    (tie.spec (λ c κs. tt) (λ c. simp (c .react-by .ensures)))

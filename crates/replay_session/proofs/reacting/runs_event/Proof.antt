@@ -8,11 +8,5 @@ pub runs-event-spec : {M : Type 1} → statement M
 unfolding runs-event
 runs-event-spec =
     tie.close
-    (tie.spec
-    (λ c. search needs)
-    (λ c. search needs)
-    (λ c κs. tt)
-    (λ c. search needs)
-    (λ c. simp (c .enum-told .given .1))
-    (λ c. simp (c .is-event .ensures, c .before .enum-told2 .given .1))
-    (λ c. simp (c .enum-told3 .given .1)))
+    (tie.spec (λ c. search needs) (λ c. search needs) (λ c κs. tt) (λ c. search needs) (λ c. simp (c .enum-told .given .1))
+    (λ c. simp (c .is-event .ensures, c .before .enum-told2 .given .1)) (λ c. simp (c .enum-told3 .given .1)))

@@ -5,9 +5,5 @@ use Rattle.replay_session.proofs.reacting.turn_answer.Tie as tie
 pub turn-answer-spec : {M : Type 1} → statement M
 turn-answer-spec =
     tie.close
-    (tie.spec
-    (λ c κs. tt)
-    (λ c κs. tt)
-    (λ c κs. tt)
-    (λ c κs. tt)
+    (tie.spec (λ c κs. tt) (λ c κs. tt) (λ c κs. tt) (λ c κs. tt)
     (λ c. simp (c .answer-with .ensures, c .before .woken .ensures, c .before .before .phase-number .ensures, c .before .before .before .returned .ensures)))

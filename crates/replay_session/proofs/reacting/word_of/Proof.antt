@@ -5,6 +5,4 @@ use Rattle.replay_session.proofs.reacting.word_of.Tie as tie
 pub word-of-spec : {M : Type 1} → statement M
 word-of-spec =
     tie.close
-    (tie.spec
-    (λ c κs. tt)
-    (λ c. simp (c .object-at .ensures)))
+    (tie.spec (λ c κs. tt) (λ c. simp (c .object-at .ensures)))

@@ -8,10 +8,5 @@ pub over-by-spec : {M : Type 1} → statement M
 unfolding over-by
 over-by-spec =
     tie.close
-    (tie.spec
-    (λ c. search needs)
-    (λ c. search needs)
-    (λ c. search needs)
-    (λ c. simp (c .enum-told .given .1))
-    (λ c. simp (c .enum-told2 .given .1))
+    (tie.spec (λ c. search needs) (λ c. search needs) (λ c. search needs) (λ c. simp (c .enum-told .given .1)) (λ c. simp (c .enum-told2 .given .1))
     (λ c. simp (c .enum-told3 .given .1)))

@@ -5,6 +5,4 @@ use Rattle.replay_session.proofs.session.session_over.Tie as tie
 pub session-over-spec : {M : Type 1} → statement M
 session-over-spec =
     tie.close
-    (tie.spec
-    (λ c κs. tt)
-    (λ c. simp (c .over-by .ensures)))
+    (tie.spec (λ c κs. tt) (λ c. simp (c .over-by .ensures)))

@@ -5,6 +5,4 @@ use Rattle.replay_session.proofs.session.session_sound.Tie as tie
 pub session-sound-spec : {M : Type 1} → statement M
 session-sound-spec =
     tie.close
-    (tie.spec
-    (λ c κs. tt)
-    (λ c. simp (c .sound-by .ensures)))
+    (tie.spec (λ c κs. tt) (λ c. simp (c .sound-by .ensures)))

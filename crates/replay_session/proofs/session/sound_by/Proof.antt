@@ -8,11 +8,5 @@ pub sound-by-spec : {M : Type 1} → statement M
 unfolding sound-by
 sound-by-spec =
     tie.close
-    (tie.spec
-    (λ c. search needs)
-    (λ c. search needs)
-    (λ c κs. tt)
-    (λ c. search needs)
-    (λ c. simp (c .enum-told .given .1))
-    (λ c. simp (c .sound .ensures, c .before .enum-told2 .given .1))
-    (λ c. simp (c .enum-told3 .given .1)))
+    (tie.spec (λ c. search needs) (λ c. search needs) (λ c κs. tt) (λ c. search needs) (λ c. simp (c .enum-told .given .1))
+    (λ c. simp (c .sound .ensures, c .before .enum-told2 .given .1)) (λ c. simp (c .enum-told3 .given .1)))

@@ -60,18 +60,6 @@ returns-3 c =
 pub take-end-spec : {M : Type 1} → statement M
 take-end-spec =
     tie.close
-    (tie.spec
-    (λ c κs. search needs)
-    (λ c κs. search needs)
-    (λ c. search needs)
-    returns
-    (λ c κs. search needs)
-    (λ c κs. search needs)
-    (λ c. search needs)
-    returns-2
-    (λ c κs. tt)
-    (λ c κs. (search needs, c .before .session-sound .ensures))
-    close-requires-3
-    (λ c κs. search needs)
-    (λ c. search needs)
-    returns-3)
+    (tie.spec (λ c κs. search needs) (λ c κs. search needs) (λ c. search needs) returns (λ c κs. search needs) (λ c κs. search needs)
+    (λ c. search needs) returns-2 (λ c κs. tt) (λ c κs. (search needs, c .before .session-sound .ensures)) close-requires-3 (λ c κs. search needs)
+    (λ c. search needs) returns-3)

@@ -5,6 +5,4 @@ use Rattle.replay_stream.proofs.feeding.event_answer.Tie as tie
 pub event-answer-spec : {M : Type 1} → statement M
 event-answer-spec =
     tie.close
-    (tie.spec
-    (λ c κs. tt)
-    (λ c. simp (c .turn-answer .ensures)))
+    (tie.spec (λ c κs. tt) (λ c. simp (c .turn-answer .ensures)))

@@ -18,14 +18,5 @@ returns-3 c =
 pub feed-last-spec : {M : Type 1} → statement M
 feed-last-spec =
     tie.close
-    (tie.spec
-    (λ c κs. tt)
-    (λ c. search needs)
-    returns
-    (λ c κs. tt)
-    (λ c κs. search needs)
-    (λ c. search needs)
-    (λ c. c .before .before .take-end .ensures)
-    (λ c κs. tt)
-    (λ c. search needs)
-    returns-3)
+    (tie.spec (λ c κs. tt) (λ c. search needs) returns (λ c κs. tt) (λ c κs. search needs) (λ c. search needs)
+    (λ c. c .before .before .take-end .ensures) (λ c κs. tt) (λ c. search needs) returns-3)

@@ -6,5 +6,4 @@ use Rattle.replay_stream.proofs.feeding.progressed.Tie as tie
 pub progressed-spec : {M : Type 1} → statement M
 progressed-spec =
     tie.close
-    (tie.spec
-    (λ c. refl))
+    (tie.spec (λ c. refl))

@@ -7,7 +7,5 @@ use Rattle.replay_stream.proofs.feeding.skip_line.Tie as tie
 pub skip-line-spec : {M : Type 1} → statement M
 skip-line-spec =
     tie.close
-    (tie.spec
-    (λ c κs. tt)
-    (λ c. λ last goes-on. skipped-part _ _ _ _ (sym (c .before .line-end .ensures) ∙ c .if1 .taken) goes-on)
+    (tie.spec (λ c κs. tt) (λ c. λ last goes-on. skipped-part _ _ _ _ (sym (c .before .line-end .ensures) ∙ c .if1 .taken) goes-on)
     (λ c. λ last goes-on. skipped-line _ _ _ _ (c .before .line-end .ensures) (c .if1 .left)))

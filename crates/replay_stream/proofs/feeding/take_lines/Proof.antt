@@ -152,50 +152,12 @@ returns-2 c =
 pub take-lines-spec : {M : Type 1} → statement M
 take-lines-spec =
     tie.close
-    (tie.spec
-    Inv-loop
-    μ-loop
-    (λ c κs. tt)
-    loop-holds
-    (λ c. search needs)
-    (λ c κs. tt)
-    (λ c. c .before .before .before .loop .inv .0 .rest-within)
-    (λ c κs. tt)
-    (λ c. search needs)
-    returns
-    line-count
-    (λ c κs. tt)
-    fits
-    fits
-    (λ c. search needs)
-    (λ c κs. tt)
-    (λ c κs. tt)
-    (λ c κs. tt)
-    loop-less
-    loop-again
-    (λ c κs. tt)
-    (λ c κs. tt)
-    (λ c κs. tt)
-    (λ c. let inside = place-in c in omega (arith, inside))
-    place-in
-    (λ c κs. tt)
-    (λ c κs. tt)
-    (λ c. let inside = home-in c in omega (arith, inside))
-    home-in
-    (λ c κs. tt)
-    (λ c κs. tt)
-    (λ c κs. tt)
-    (λ c κs. tt)
+    (tie.spec Inv-loop μ-loop (λ c κs. tt) loop-holds (λ c. search needs) (λ c κs. tt) (λ c. c .before .before .before .loop .inv .0 .rest-within)
+    (λ c κs. tt) (λ c. search needs) returns line-count (λ c κs. tt) fits fits (λ c. search needs) (λ c κs. tt) (λ c κs. tt) (λ c κs. tt) loop-less
+    loop-again (λ c κs. tt) (λ c κs. tt) (λ c κs. tt) (λ c. let inside = place-in c in omega (arith, inside)) place-in (λ c κs. tt) (λ c κs. tt)
+    (λ c. let inside = home-in c in omega (arith, inside)) home-in (λ c κs. tt) (λ c κs. tt) (λ c κs. tt) (λ c κs. tt)
     (λ c. let inside = place-in (c .before .before .before .before .before .before .before .before .before .before .before .before .before .before) in omega (arith, inside))
     (λ c. place-in (c .before .before .before .before .before .before .before .before .before .before .before .before .before .before))
     (λ c. let inside = home-in (c .before .before .before .before .before .before .before .before .before .before .before) in omega (arith, inside))
-    (λ c. home-in (c .before .before .before .before .before .before .before .before .before .before .before))
-    loop-less-2
-    loop-again-2
-    (λ c κs. tt)
-    loop-less-3
-    loop-again-3
-    (λ c. c .before .loop .inv .0 .rest-within)
-    (λ c κs. tt)
-    (λ c. search needs)
-    returns-2)
+    (λ c. home-in (c .before .before .before .before .before .before .before .before .before .before .before)) loop-less-2 loop-again-2 (λ c κs. tt)
+    loop-less-3 loop-again-3 (λ c. c .before .loop .inv .0 .rest-within) (λ c κs. tt) (λ c. search needs) returns-2)

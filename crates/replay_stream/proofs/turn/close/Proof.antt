@@ -14,8 +14,4 @@ returns c =
 pub close-spec : {M : Type 1} → statement M
 close-spec =
     tie.close
-    (tie.spec
-    (λ c κs. tt)
-    (λ c κs. tt)
-    (λ c. search needs)
-    returns)
+    (tie.spec (λ c κs. tt) (λ c κs. tt) (λ c. search needs) returns)

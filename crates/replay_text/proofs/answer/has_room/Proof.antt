@@ -6,6 +6,5 @@ use Rattle.replay_text.proofs.answer.has_room.Tie as tie
 pub has-room-spec : {M : Type 1} → statement M
 has-room-spec =
     tie.close
-    (tie.spec
-    (λ c. room-none (c .before .args .at) (c .before .args .length) (c .if1 .taken))
+    (tie.spec (λ c. room-none (c .before .args .at) (c .before .args .length) (c .if1 .taken))
     (λ c. room-test (c .before .args .at) (c .before .args .length) (c .if1 .left)))

@@ -9,14 +9,7 @@ pub put-answer-spec : {M : Type 1} → statement M
 unfolding answer-text
 put-answer-spec =
     tie.close
-    (tie.spec
-    (λ c. search needs)
-    (λ c. search needs)
-    (λ c κs. tt)
-    (λ c. search needs)
-    (λ c κs. tt)
-    (λ c. let args = c .before .before .before .args in rw (c .enum-told .given .1) (put-nothing (args .out .now) (args .at)))
-    (λ c. search needs)
-    (λ c. let line = c .before .before in rw (line .before .before .before .answer .given .1) (line .put-number-line .ensures))
-    (λ c. search needs)
+    (tie.spec (λ c. search needs) (λ c. search needs) (λ c κs. tt) (λ c. search needs) (λ c κs. tt)
+    (λ c. let args = c .before .before .before .args in rw (c .enum-told .given .1) (put-nothing (args .out .now) (args .at))) (λ c. search needs)
+    (λ c. let line = c .before .before in rw (line .before .before .before .answer .given .1) (line .put-number-line .ensures)) (λ c. search needs)
     (λ c. let line = c .before .before in rw (line .before .before .before .answer2 .given .1) (line .put-answer-line .ensures)))

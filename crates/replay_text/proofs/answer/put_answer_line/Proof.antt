@@ -25,9 +25,4 @@ returns c =
 pub put-answer-line-spec : {M : Type 1} → statement M
 put-answer-line-spec =
     tie.close
-    (tie.spec
-    (λ c κs. tt)
-    room
-    (λ c. search needs)
-    returns
-    (λ c. put-refused _ _ _ (sym (c .before .has-room .ensures) ∙ c .if1 .left)))
+    (tie.spec (λ c κs. tt) room (λ c. search needs) returns (λ c. put-refused _ _ _ (sym (c .before .has-room .ensures) ∙ c .if1 .left)))

@@ -26,8 +26,4 @@ returns c =
 pub put-field-spec : {M : Type 1} → statement M
 put-field-spec =
     tie.close
-    (tie.spec
-    (λ c κs. search needs)
-    put-byte-requires
-    (λ c. search needs)
-    returns)
+    (tie.spec (λ c κs. search needs) put-byte-requires (λ c. search needs) returns)

@@ -16,8 +16,5 @@ pub put-word-spec : {M : Type 1} → statement M
 unfolding word-text
 put-word-spec =
     tie.close
-    (tie.spec
-    (λ c κs. search needs)
-    put-byte-requires
-    (λ c. search needs)
+    (tie.spec (λ c κs. search needs) put-byte-requires (λ c. search needs)
     (λ c. wrote-both (c .before .before .before .before .before .before .put-digits .ensures) (c .before .before .put-byte .ensures)))

@@ -9,10 +9,5 @@ pub digit-byte-spec : {M : Type 1} → statement M
 unfolding digit-byte
 digit-byte-spec =
     tie.close
-    (tie.spec
-    (λ c. search needs)
-    (λ c. search needs)
-    (λ c. simp (lt-ltb _ _ (c .if1 .taken)))
-    (λ c. search needs)
-    (λ c. search needs)
+    (tie.spec (λ c. search needs) (λ c. search needs) (λ c. simp (lt-ltb _ _ (c .if1 .taken))) (λ c. search needs) (λ c. search needs)
     (λ c. simp (le-ltb _ _ (c .if1 .left))))

@@ -15,8 +15,5 @@ pub put-decimal-spec : {M : Type 1} → statement M
 unfolding decimal
 put-decimal-spec =
     tie.close
-    (tie.spec
-    (λ c κs. tt)
-    put-digits-requires
-    (λ c. search needs)
+    (tie.spec (λ c κs. tt) put-digits-requires (λ c. search needs)
     (λ c. rw (← c .before .before .before .places .ensures) (c .before .before .put-digits .ensures)))

@@ -6,8 +6,6 @@ use Rattle.rule_look.proofs.look.deflation.Tie as tie
 pub deflation-spec : {M : Type 1} → statement M
 deflation-spec =
     tie.close
-    (tie.spec
-    (λ c. simp (eq-eqb _ _ (c .if3 .taken), c .before .before .if2 .taken, c .before .before .before .if1 .taken))
+    (tie.spec (λ c. simp (eq-eqb _ _ (c .if3 .taken), c .before .before .if2 .taken, c .before .before .before .if1 .taken))
     (λ c. simp (ne-eqb _ _ (c .if3 .left), c .before .before .if2 .taken, c .before .before .before .if1 .taken))
-    (λ c. simp (c .if2 .left, c .before .if1 .taken))
-    (λ c. simp (c .if1 .left)))
+    (λ c. simp (c .if2 .left, c .before .if1 .taken)) (λ c. simp (c .if1 .left)))

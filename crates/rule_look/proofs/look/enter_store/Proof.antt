@@ -9,8 +9,5 @@ pub enter-store-spec : {M : Type 1} → statement M
 unfolding enter-store
 enter-store-spec =
     tie.close
-    (tie.spec
-    (λ c. search needs)
-    (λ c κs. tt)
-    (λ c. simp (c .finish-word .ensures, lt-ltb _ _ (c .before .if1 .taken)))
+    (tie.spec (λ c. search needs) (λ c κs. tt) (λ c. simp (c .finish-word .ensures, lt-ltb _ _ (c .before .if1 .taken)))
     (λ c. simp (le-ltb _ _ (c .if1 .left))))

@@ -9,8 +9,5 @@ pub exit-store-spec : {M : Type 1} → statement M
 unfolding exit-store
 exit-store-spec =
     tie.close
-    (tie.spec
-    (λ c. simp (eq-eqb _ _ (c .if1 .taken)))
-    (λ c. search needs)
-    (λ c κs. tt)
+    (tie.spec (λ c. simp (eq-eqb _ _ (c .if1 .taken))) (λ c. search needs) (λ c κs. tt)
     (λ c. simp (c .finish-word .ensures, ne-eqb _ _ (c .before .if1 .left))))

@@ -5,6 +5,4 @@ use Rattle.rule_look.proofs.look.owner_seen.Tie as tie
 pub owner-seen-spec : {M : Type 1} → statement M
 owner-seen-spec =
     tie.close
-    (tie.spec
-    (λ c κs. tt)
-    (λ c. simp (c .owner-of .ensures)))
+    (tie.spec (λ c κs. tt) (λ c. simp (c .owner-of .ensures)))

@@ -8,7 +8,4 @@ pub exit-leave-spec : {M : Type 1} → statement M
 unfolding exit-leave
 exit-leave-spec =
     tie.close
-    (tie.spec
-    (λ c κs. tt)
-    (λ c. simp (c .keep-object .ensures, eq-eqb _ _ (c .before .if1 .taken)))
-    (λ c. simp (ne-eqb _ _ (c .if1 .left))))
+    (tie.spec (λ c κs. tt) (λ c. simp (c .keep-object .ensures, eq-eqb _ _ (c .before .if1 .taken))) (λ c. simp (ne-eqb _ _ (c .if1 .left))))

@@ -7,8 +7,5 @@ pub exit-test-spec : {M : Type 1} → statement M
 unfolding exit-test
 exit-test-spec =
     tie.close
-    (tie.spec
-    (λ c κs. tt)
-    (λ c. simp (c .go-on .ensures, c .before .if1 .taken))
-    (λ c κs. tt)
+    (tie.spec (λ c κs. tt) (λ c. simp (c .go-on .ensures, c .before .if1 .taken)) (λ c κs. tt)
     (λ c. simp (c .keep-object .ensures, c .before .if1 .left)))

@@ -8,11 +8,7 @@ pub go-in-spec : {M : Type 1} → statement M
 unfolding go-in
 go-in-spec =
     tie.close
-    (tie.spec
-    (λ c κs. tt)
-    (λ c κs. tt)
-    (λ c. simp (c .become-holder .ensures, c .before .onward .ensures, eq-eqb _ _ (c .before .before .if1 .taken)))
-    (λ c κs. tt)
-    (λ c. simp (c .go-in-again .ensures, eq-eqb _ _ (c .before .if2 .taken), ne-eqb _ _ (c .before .before .before .if1 .left)))
-    (λ c κs. tt)
+    (tie.spec (λ c κs. tt) (λ c κs. tt)
+    (λ c. simp (c .become-holder .ensures, c .before .onward .ensures, eq-eqb _ _ (c .before .before .if1 .taken))) (λ c κs. tt)
+    (λ c. simp (c .go-in-again .ensures, eq-eqb _ _ (c .before .if2 .taken), ne-eqb _ _ (c .before .before .before .if1 .left))) (λ c κs. tt)
     (λ c. simp (c .keep-object .ensures, ne-eqb _ _ (c .before .if2 .left), ne-eqb _ _ (c .before .before .before .if1 .left))))

@@ -6,6 +6,4 @@ use Rattle.rule_monitor.proofs.monitor.holder_only.Tie as tie
 pub holder-only-spec : {M : Type 1} → statement M
 holder-only-spec =
     tie.close
-    (tie.spec
-    (λ c. simp (eq-eqb _ _ (c .if1 .taken)))
-    (λ c. simp (ne-eqb _ _ (c .if1 .left))))
+    (tie.spec (λ c. simp (eq-eqb _ _ (c .if1 .taken))) (λ c. simp (ne-eqb _ _ (c .if1 .left))))

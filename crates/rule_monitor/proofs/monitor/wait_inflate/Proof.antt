@@ -9,18 +9,7 @@ pub wait-inflate-spec : {M : Type 1} → statement M
 unfolding wait-inflate
 wait-inflate-spec =
     tie.close
-    (tie.spec
-    (λ c. search needs)
-    (λ c. search needs)
-    (λ c. search needs)
-    (λ c. search needs)
-    (λ c. search needs)
-    (λ c. search needs)
-    (λ c κs. tt)
-    (λ c. simp (c .inflate .ensures, eq-eqb _ _ (c .before .if1 .taken), c .before .before .before .word .given .1))
-    (λ c. search needs)
-    (λ c. simp (c .enum-told .given .1))
-    (λ c. simp (c .enum-told2 .given .1))
-    (λ c. simp (c .enum-told3 .given .1))
-    (λ c. simp (ne-eqb _ _ (c .if1 .left), c .before .before .word .given .1))
-    (λ c. simp (c .enum-told4 .given .1)))
+    (tie.spec (λ c. search needs) (λ c. search needs) (λ c. search needs) (λ c. search needs) (λ c. search needs) (λ c. search needs) (λ c κs. tt)
+    (λ c. simp (c .inflate .ensures, eq-eqb _ _ (c .before .if1 .taken), c .before .before .before .word .given .1)) (λ c. search needs)
+    (λ c. simp (c .enum-told .given .1)) (λ c. simp (c .enum-told2 .given .1)) (λ c. simp (c .enum-told3 .given .1))
+    (λ c. simp (ne-eqb _ _ (c .if1 .left), c .before .before .word .given .1)) (λ c. simp (c .enum-told4 .given .1)))

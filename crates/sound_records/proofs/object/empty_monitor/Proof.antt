@@ -8,5 +8,4 @@ pub empty-monitor-spec : {M : Type 1} → statement M
 unfolding empty-monitor
 empty-monitor-spec =
     tie.close
-    (tie.spec
-    (λ c. refl))
+    (tie.spec (λ c. refl))

@@ -7,6 +7,4 @@ pub empty-object-spec : {M : Type 1} → statement M
 unfolding empty-object
 empty-object-spec =
     tie.close
-    (tie.spec
-    (λ c κs. tt)
-    (λ c. simp (c .empty-monitor .ensures)))
+    (tie.spec (λ c κs. tt) (λ c. simp (c .empty-monitor .ensures)))

@@ -7,6 +7,4 @@ pub unheld-fits-spec : {M : Type 1} → statement M
 unfolding unheld-fits
 unheld-fits-spec =
     tie.close
-    (tie.spec
-    (λ c κs. tt)
-    (λ c. simp (c .implies .ensures)))
+    (tie.spec (λ c κs. tt) (λ c. simp (c .implies .ensures)))

@@ -8,18 +8,8 @@ pub word-fits-spec : {M : Type 1} → statement M
 unfolding word-fits
 word-fits-spec =
     tie.close
-    (tie.spec
-    (λ c. search needs)
-    (λ c. search needs)
-    (λ c. simp (c .enum-told .given .1))
-    (λ c. search needs)
-    (λ c. search needs)
-    (λ c κs. tt)
-    (λ c. search needs)
-    (λ c. search needs)
-    (λ c κs. tt)
-    (λ c. search needs)
-    (λ c κs. tt)
+    (tie.spec (λ c. search needs) (λ c. search needs) (λ c. simp (c .enum-told .given .1)) (λ c. search needs) (λ c. search needs) (λ c κs. tt)
+    (λ c. search needs) (λ c. search needs) (λ c κs. tt) (λ c. search needs) (λ c κs. tt)
     (λ c. simp (c .enum-told2 .given .1, c .before .before .before .decoded .given .1))
     (λ c. simp (c .value .ensures, c .before .before .meaning .given .1, c .before .before .before .before .before .decoded .given .1))
     (λ c. simp (c .enum-told3 .given .1, c .before .before .before .decoded .given .1))

@@ -7,7 +7,5 @@ pub empty-thread-spec : {M : Type 1} → statement M
 unfolding empty-thread
 empty-thread-spec =
     tie.close
-    (tie.spec
-    (λ c κs. tt)
-    (λ c κs. tt)
+    (tie.spec (λ c κs. tt) (λ c κs. tt)
     (λ c. simp (c .before .before .before .before .phase-number .ensures, c .before .before .before .before .before .operation-number .ensures)))

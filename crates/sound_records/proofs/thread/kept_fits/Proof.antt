@@ -8,8 +8,6 @@ pub kept-fits-spec : {M : Type 1} → statement M
 unfolding kept-fits
 kept-fits-spec =
     tie.close
-    (tie.spec
-    (λ c κs. tt)
-    (λ c κs. tt)
+    (tie.spec (λ c κs. tt) (λ c κs. tt)
     (λ c. simp (c .reserved-for .ensures, c .before .read-word .ensures, eq-eqb _ _ (c .before .before .if1 .taken)))
     (λ c. simp (ne-eqb _ _ (c .if1 .left))))

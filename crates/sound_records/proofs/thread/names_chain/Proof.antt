@@ -7,6 +7,4 @@ pub names-chain-spec : {M : Type 1} → statement M
 unfolding names-chain
 names-chain-spec =
     tie.close
-    (tie.spec
-    (λ c κs. tt)
-    (λ c. simp (c .thread-chain .ensures)))
+    (tie.spec (λ c κs. tt) (λ c. simp (c .thread-chain .ensures)))

@@ -7,9 +7,5 @@ pub operation-fits-spec : {M : Type 1} → statement M
 unfolding operation-fits
 operation-fits-spec =
     tie.close
-    (tie.spec
-    (λ c κs. tt)
-    (λ c κs. tt)
-    (λ c κs. tt)
-    (λ c κs. tt)
+    (tie.spec (λ c κs. tt) (λ c κs. tt) (λ c κs. tt) (λ c κs. tt)
     (λ c. simp (c .implies .ensures, c .before .carries-phase .ensures, c .before .before .uses-phase .ensures, c .before .before .before .within .ensures)))

@@ -8,17 +8,8 @@ pub reserved-for-spec : {M : Type 1} → statement M
 unfolding reserved-for
 reserved-for-spec =
     tie.close
-    (tie.spec
-    (λ c. search needs)
-    (λ c. search needs)
-    (λ c. simp (c .enum-told .given .1))
-    (λ c. search needs)
-    (λ c. search needs)
-    (λ c. search needs)
-    (λ c. search needs)
-    (λ c κs. tt)
-    (λ c κs. tt)
-    (λ c. search needs)
+    (tie.spec (λ c. search needs) (λ c. search needs) (λ c. simp (c .enum-told .given .1)) (λ c. search needs) (λ c. search needs)
+    (λ c. search needs) (λ c. search needs) (λ c κs. tt) (λ c κs. tt) (λ c. search needs)
     (λ c. simp (c .enum-told2 .given .1, c .before .before .before .decoded .given .1))
     (λ c. simp (c .enum-told3 .given .1, c .before .before .before .decoded .given .1))
     (λ c. simp (c .enum-told4 .given .1, c .before .before .before .decoded .given .1))

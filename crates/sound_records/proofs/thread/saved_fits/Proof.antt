@@ -7,7 +7,4 @@ pub saved-fits-spec : {M : Type 1} → statement M
 unfolding saved-fits
 saved-fits-spec =
     tie.close
-    (tie.spec
-    (λ c κs. tt)
-    (λ c κs. tt)
-    (λ c. simp (c .implies .ensures, c .before .before .before .saves-depth .ensures)))
+    (tie.spec (λ c κs. tt) (λ c κs. tt) (λ c. simp (c .implies .ensures, c .before .before .before .saves-depth .ensures)))

@@ -7,6 +7,4 @@ pub saves-depth-spec : {M : Type 1} → statement M
 unfolding saves-depth
 saves-depth-spec =
     tie.close
-    (tie.spec
-    (λ c κs. tt)
-    (λ c. simp (c .within .ensures)))
+    (tie.spec (λ c κs. tt) (λ c. simp (c .within .ensures)))

@@ -8,14 +8,9 @@ pub thread-passes-spec : {M : Type 1} → statement M
 unfolding thread-passes
 thread-passes-spec =
     tie.close
-    (tie.spec
-    (λ c κs. tt)
-    (λ c. simp (← c .before .empty-thread .ensures, c .if1 .taken))
-    (λ c. simp (← c .before .before .empty-thread .ensures, c .before .if1 .left, lt-leb _ _ (c .if2 .taken)))
-    (λ c κs. tt)
-    (λ c κs. tt)
-    (λ c κs. tt)
-    (λ c κs. tt)
+    (tie.spec (λ c κs. tt) (λ c. simp (← c .before .empty-thread .ensures, c .if1 .taken))
+    (λ c. simp (← c .before .before .empty-thread .ensures, c .before .if1 .left, lt-leb _ _ (c .if2 .taken))) (λ c κs. tt) (λ c κs. tt)
+    (λ c κs. tt) (λ c κs. tt)
     (λ c.
     let fits = c .before in
     let used = fits .before .before .before in

@@ -7,10 +7,5 @@ pub unused-fits-spec : {M : Type 1} → statement M
 unfolding unused-fits
 unused-fits-spec =
     tie.close
-    (tie.spec
-    (λ c κs. tt)
-    (λ c κs. tt)
-    (λ c κs. tt)
-    (λ c κs. tt)
-    (λ c κs. tt)
+    (tie.spec (λ c κs. tt) (λ c κs. tt) (λ c κs. tt) (λ c κs. tt) (λ c κs. tt)
     (λ c. simp (c .before .saves-depth .ensures, c .before .before .implies2 .ensures, c .before .before .before .before .chain-named .ensures, c .before .before .before .before .before .before .implies .ensures, c .before .before .before .before .before .before .before .before .operation-number .ensures)))

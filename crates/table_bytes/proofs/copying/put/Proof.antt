@@ -38,15 +38,6 @@ returns c =
 pub put-spec : {M : Type 1} → statement M
 put-spec =
     tie.close
-    (tie.spec
-    Inv-loop
-    μ-loop
-    (λ c. (omega arith, paste-zero (c .args .bytes .now) (c .args .at) (c .args .stored .now)))
-    (λ c. omega arith)
-    (λ c. omega arith)
-    (λ c. omega (arith, long (c .before .before)))
-    (λ c. omega arith)
-    (λ c. omega arith)
-    loop-again
-    (λ c. long (c .before))
+    (tie.spec Inv-loop μ-loop (λ c. (omega arith, paste-zero (c .args .bytes .now) (c .args .at) (c .args .stored .now))) (λ c. omega arith)
+    (λ c. omega arith) (λ c. omega (arith, long (c .before .before))) (λ c. omega arith) (λ c. omega arith) loop-again (λ c. long (c .before))
     returns)

@@ -9,8 +9,6 @@ pub is-table-spec : {M : Type 1} → statement M
 unfolding is-table
 is-table-spec =
     tie.close
-    (tie.spec
-    (λ c κs. search needs)
-    (λ c κs. search needs)
+    (tie.spec (λ c κs. search needs) (λ c κs. search needs)
     (λ c. simp (c .objects-known .ensures, c .before .threads-known .ensures, eq-eqb _ _ (c .before .before .if1 .taken)))
     (λ c. simp (ne-eqb _ _ (c .if1 .left))))

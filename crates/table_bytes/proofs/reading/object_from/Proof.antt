@@ -10,12 +10,6 @@ use Rattle.table_bytes.proofs.reading.object_from.Tie as tie
 pub object-from-spec : {M : Type 1} → statement M
 object-from-spec =
     tie.close
-    (tie.spec
-    (λ c. search needs)
-    (λ c. search needs)
-    (λ c. search needs)
-    (λ c. search needs)
-    (λ c. search needs)
-    (λ c κs. search needs)
+    (tie.spec (λ c. search needs) (λ c. search needs) (λ c. search needs) (λ c. search needs) (λ c. search needs) (λ c κs. search needs)
     (λ c. let args = c .before .before .before .args in
     c .object-of .ensures ∙ ap object-of (read-part object-layout (args .bytes .now) (object-start (args .place)))))

@@ -34,15 +34,5 @@ loop-again c =
 pub objects-known-spec : {M : Type 1} → statement M
 objects-known-spec =
     tie.close
-    (tie.spec
-    Inv-loop
-    μ-loop
-    (λ c. (omega arith, refl))
-    (λ c. search needs)
-    (λ c. search needs)
-    (λ c. search needs)
-    (λ c κs. search needs)
-    unknown
-    (λ c. omega arith)
-    loop-again
-    (λ c. simp (c .before .loop .inv .1, all-end (c .loop-test .left))))
+    (tie.spec Inv-loop μ-loop (λ c. (omega arith, refl)) (λ c. search needs) (λ c. search needs) (λ c. search needs) (λ c κs. search needs) unknown
+    (λ c. omega arith) loop-again (λ c. simp (c .before .loop .inv .1, all-end (c .loop-test .left))))

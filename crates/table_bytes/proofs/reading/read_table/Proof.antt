@@ -50,12 +50,7 @@ module _ (bytes : List ℕ) (n : ℕ) where
 pub read-table-spec : {M : Type 1} → statement M
 read-table-spec =
     tie.close
-    (tie.spec
-    (λ c κs. search needs)
-    (λ c. c .table-from .ensures)
-    (λ c. search needs)
-    (λ c κs. search needs)
-    (λ c. search needs)
+    (tie.spec (λ c κs. search needs) (λ c. c .table-from .ensures) (λ c. search needs) (λ c κs. search needs) (λ c. search needs)
     (λ c κs. search needs)
     (λ c. let copied = c .before .before .before in
     c .table-from2 .ensures ∙ ap table-of (copied .put .ensures) ∙ same-table (copied .before .before .before .before .args .bytes .now) table-size))

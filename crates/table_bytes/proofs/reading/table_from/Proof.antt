@@ -6,9 +6,5 @@ use Rattle.table_bytes.proofs.reading.table_from.Tie as tie
 pub table-from-spec : {M : Type 1} → statement M
 table-from-spec =
     tie.close
-    (tie.spec
-    (λ c. search needs)
-    (λ c. search needs)
-    (λ c κs. search needs)
-    (λ c κs. search needs)
+    (tie.spec (λ c. search needs) (λ c. search needs) (λ c κs. search needs) (λ c κs. search needs)
     (λ c. simp (c .objects-from .ensures, c .before .threads-from .ensures)))

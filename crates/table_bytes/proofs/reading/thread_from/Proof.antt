@@ -10,12 +10,6 @@ use Rattle.table_bytes.proofs.reading.thread_from.Tie as tie
 pub thread-from-spec : {M : Type 1} → statement M
 thread-from-spec =
     tie.close
-    (tie.spec
-    (λ c. search needs)
-    (λ c. search needs)
-    (λ c. search needs)
-    (λ c. search needs)
-    (λ c. search needs)
-    (λ c κs. search needs)
+    (tie.spec (λ c. search needs) (λ c. search needs) (λ c. search needs) (λ c. search needs) (λ c. search needs) (λ c κs. search needs)
     (λ c. let args = c .before .before .before .args in
     c .thread-of .ensures ∙ ap thread-of (read-part thread-layout (args .bytes .now) (thread-start (args .place)))))

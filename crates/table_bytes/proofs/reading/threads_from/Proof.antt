@@ -38,15 +38,6 @@ returns c =
 pub threads-from-spec : {M : Type 1} → statement M
 threads-from-spec =
     tie.close
-    (tie.spec
-    Inv-loop
-    μ-loop
-    (λ c κs. tt)
+    (tie.spec Inv-loop μ-loop (λ c κs. tt)
     (λ c. (omega arith, rw (c .no-thread .ensures) (patched-none 0 (thread-from (c .before .before .args .bytes .now)) empty)))
-    (λ c κs. search needs)
-    (λ c. search needs)
-    (λ c. search needs)
-    (λ c. search needs)
-    (λ c. search needs)
-    loop-again
-    returns)
+    (λ c κs. search needs) (λ c. search needs) (λ c. search needs) (λ c. search needs) (λ c. search needs) loop-again returns)

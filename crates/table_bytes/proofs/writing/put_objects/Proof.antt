@@ -43,19 +43,8 @@ returns c =
 pub put-objects-spec : {M : Type 1} → statement M
 put-objects-spec =
     tie.close
-    (tie.spec
-    Inv-loop
-    μ-loop
-    (λ c. (omega arith, stored-none object-layout no-object (c .before .args .t2) objects-start (c .before .args .bytes .now)))
-    (λ c. search needs)
-    (λ c. search needs)
-    (λ c κs. tt)
-    (λ c. search needs)
-    (λ c. search needs)
-    (λ c. search needs)
+    (tie.spec Inv-loop μ-loop
+    (λ c. (omega arith, stored-none object-layout no-object (c .before .args .t2) objects-start (c .before .args .bytes .now))) (λ c. search needs)
+    (λ c. search needs) (λ c κs. tt) (λ c. search needs) (λ c. search needs) (λ c. search needs)
     (λ c κs. let loop = c .before .before .before .before .before in omega (arith, ap length (c .before .before .object-bytes .ensures), long loop, loop .before .before .pre))
-    (λ c. search needs)
-    (λ c. search needs)
-    loop-again
-    (λ c. long (c .before))
-    returns)
+    (λ c. search needs) (λ c. search needs) loop-again (λ c. long (c .before)) returns)

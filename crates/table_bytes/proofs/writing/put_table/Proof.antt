@@ -38,11 +38,7 @@ returns c =
 pub put-table-spec : {M : Type 1} → statement M
 put-table-spec =
     tie.close
-    (tie.spec
-    (λ c. search needs)
-    (λ c κs. search needs)
-    threads-requires
-    objects-requires
+    (tie.spec (λ c. search needs) (λ c κs. search needs) threads-requires objects-requires
     (λ c. let start = c .before .before .before .before .before .before .before .before .before .before .before .before .before .before .before .before in
     ap length (returns c) ∙ bytes-long (start .args .table) ∙ sym (start .pre))
     returns)

@@ -9,8 +9,6 @@ pub write-table-spec : {M : Type 1} → statement M
 unfolding kept-over
 write-table-spec =
     tie.close
-    (tie.spec
-    (λ c κs. search needs)
-    (λ c. search needs)
+    (tie.spec (λ c κs. search needs) (λ c. search needs)
     (λ c. simp (c .before .before .put-table .ensures, eq-eqb _ _ (c .before .before .before .before .if1 .taken)))
     (λ c. simp (ne-eqb _ _ (c .if1 .left))))

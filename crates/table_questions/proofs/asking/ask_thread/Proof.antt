@@ -7,11 +7,7 @@ use Rattle.table_questions.proofs.asking.ask_thread.Tie as tie
 pub ask-thread-spec : {M : Type 1} → statement M
 ask-thread-spec =
     tie.close
-    (tie.spec
-    (λ c κs. tt)
-    (λ c κs. tt)
-    (λ c κs. tt)
-    (λ c κs. tt)
+    (tie.spec (λ c κs. tt) (λ c κs. tt) (λ c κs. tt) (λ c κs. tt)
     (λ c.
     let read = c .before .before in
     let given = read .before .before .before .args in

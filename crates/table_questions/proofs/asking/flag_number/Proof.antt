@@ -7,6 +7,4 @@ pub flag-number-spec : {M : Type 1} → statement M
 unfolding flag-byte
 flag-number-spec =
     tie.close
-    (tie.spec
-    (λ c. simp (c .if1 .taken))
-    (λ c. simp (c .if1 .left)))
+    (tie.spec (λ c. simp (c .if1 .taken)) (λ c. simp (c .if1 .left)))

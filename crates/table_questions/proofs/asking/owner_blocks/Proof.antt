@@ -8,9 +8,6 @@ pub owner-blocks-spec : {M : Type 1} → statement M
 unfolding owner-blocks
 owner-blocks-spec =
     tie.close
-    (tie.spec
-    (λ c κs. tt)
-    (λ c. simp (c .holder-blocks .ensures, eq-eqb _ _ (c .before .if1 .taken)))
-    (λ c κs. tt)
+    (tie.spec (λ c κs. tt) (λ c. simp (c .holder-blocks .ensures, eq-eqb _ _ (c .before .if1 .taken))) (λ c κs. tt)
     (λ c. simp (c .holder-blocks2 .ensures, eq-eqb _ _ (c .before .if2 .taken), ne-eqb _ _ (c .before .before .if1 .left)))
     (λ c. simp (ne-eqb _ _ (c .if2 .left), ne-eqb _ _ (c .before .if1 .left))))

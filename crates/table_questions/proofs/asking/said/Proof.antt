@@ -8,12 +8,6 @@ pub said-spec : {M : Type 1} → statement M
 unfolding said-of
 said-spec =
     tie.close
-    (tie.spec
-    (λ c. search needs)
-    (λ c. simp (c .if2 .taken, c .before .if1 .taken))
-    (λ c κs. tt)
-    (λ c. search needs)
-    (λ c. simp (c .refusal-number .ensures, c .before .if2 .left, c .before .before .if1 .taken))
-    (λ c κs. tt)
-    (λ c. search needs)
+    (tie.spec (λ c. search needs) (λ c. simp (c .if2 .taken, c .before .if1 .taken)) (λ c κs. tt) (λ c. search needs)
+    (λ c. simp (c .refusal-number .ensures, c .before .if2 .left, c .before .before .if1 .taken)) (λ c κs. tt) (λ c. search needs)
     (λ c. simp (c .refusal-number2 .ensures, c .before .if1 .left)))

@@ -5,10 +5,5 @@ use Rattle.table_questions.proofs.asking.thread_in.Tie as tie
 pub thread-in-spec : {M : Type 1} → statement M
 thread-in-spec =
     tie.close
-    (tie.spec
-    (λ c κs. tt)
-    (λ c κs. tt)
-    (λ c κs. tt)
-    (λ c κs. tt)
-    (λ c κs. tt)
+    (tie.spec (λ c κs. tt) (λ c κs. tt) (λ c κs. tt) (λ c κs. tt) (λ c κs. tt)
     (λ c. simp (c .said .ensures, c .before .thread-value .ensures, c .before .before .before .before .ownership-at .ensures, c .before .before .before .before .before .object-at .ensures, c .before .before .before .before .before .before .thread-at .ensures)))

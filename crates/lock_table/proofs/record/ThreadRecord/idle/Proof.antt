@@ -5,7 +5,4 @@ use Rattle.lock_table.proofs.record.ThreadRecord.idle.Tie as tie
 pub idle-spec : {M : Type 1} → statement M
 idle-spec =
     tie.close
-    (tie.spec
-    (λ c κs. tt)
-    (λ c κs. tt)
-    (λ c. simp (c .with-activity .ensures, c .before .no-activity .ensures)))
+    (tie.spec (λ c κs. tt) (λ c κs. tt) (λ c. simp (c .with-activity .ensures, c .before .no-activity .ensures)))
