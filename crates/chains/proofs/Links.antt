@@ -21,8 +21,8 @@ pub record Links : Type 0 where
   pub first : ℕ → ℕ
 
 -- the links stand for these lists
-abbrev pub Stands : Links → (ℕ → List ℕ) → Type 0
-Stands links list = Chains (links .next) (links .first) list
+abbrev pub LinksRepresent : Links → (ℕ → List ℕ) → Type 0
+LinksRepresent links list = Chains (links .next) (links .first) list
 
 -- the first thread of a chain, if there is one, leaves it
 abbrev pub leave-links : ℕ → Links → Links
@@ -97,25 +97,25 @@ leave-short list c d = at (equal? d c)
     at (inl e) = rw (e, update-same list c (tail (list c))) (tail-length (list c))
     at (inr away) = rw (update-other list c (tail (list c)) d away) (omega arith)
 
-module _ (links : Links) (list : ℕ → List ℕ) (stands : Stands links list) where
+module _ (links : Links) (list : ℕ → List ℕ) (represented : LinksRepresent links list) where
   -- a chain's first thread is its list's
   pub first-head : (c : ℕ) → links .first c ≡ head (list c)
-  first-head c = chain-head (links .next) (links .first c) (list c) (stands .chain c)
+  first-head c = chain-head (links .next) (links .first c) (list c) (represented .chain c)
 
   -- and is no 0
   pub head-real : (c x : ℕ) (rest : List ℕ) → list c ≡ x ∷ rest → x ≢ 0
-  head-real c x rest is = let here : Chain (links .next) (links .first c) (x ∷ rest) = rw is at (stands .chain c) in here .1
+  head-real c x rest is = let here : Chain (links .next) (links .first c) (x ∷ rest) = rw is at (represented .chain c) in here .1
 
   -- a thread that has left its chain is in none
-  pub stands-left : (c x : ℕ) (rest : List ℕ) → list c ≡ x ∷ rest → (d : ℕ) → count x (leave-lists c list d) ≡ 0
-  stands-left c x rest is = rw is (chains-left (links .next) (links .first) list stands c x rest is)
+  pub represent-left : (c x : ℕ) (rest : List ℕ) → list c ≡ x ∷ rest → (d : ℕ) → count x (leave-lists c list d) ≡ 0
+  represent-left c x rest is = rw is (chains-left (links .next) (links .first) list represented c x rest is)
 
   -- leaving an empty chain changes nothing: the code need not ask
   pub leave-none : (c : ℕ) → links .first c ≡ 0 → leave-links c links ≡ links
   leave-none c empty = λ j. record { next = same-next j; first = same-first j }
     where
       ends : links .next (links .first c) ≡ 0
-      ends = ap (links .next) empty ∙ chains-zero (links .next) (links .first) list stands
+      ends = ap (links .next) empty ∙ chains-zero (links .next) (links .first) list represented
 
       same-next : update (links .next) (links .first c) 0 ≡ links .next
       same-next = update-id (links .next) (links .first c) 0 ends
@@ -128,56 +128,56 @@ module _ (links : Links) (list : ℕ → List ℕ) (stands : Stands links list) 
   join-none fuel c short = λ j. record { next = same-next j; first = same-first j }
     where
       same-next : linked fuel (links .next) (links .first c) 0 ≡ links .next
-      same-next = linked-none fuel (links .next) (links .first c) (list c) (stands .chain c) short
+      same-next = linked-none fuel (links .next) (links .first c) (list c) (represented .chain c) short
 
       same-first : update (links .first) c (first-with (links .first c) 0) ≡ links .first
       same-first = update-id (links .first) c (first-with (links .first c) 0) (sym (first-with-none (links .first c)))
 
   -- Each action on links stands for the action on lists.
   -- the first of chain c leaves
-  pub stands-leave : (c : ℕ) → Stands (leave-links c links) (leave-lists c list)
-  stands-leave c = at (list c) refl
+  pub represent-leave : (c : ℕ) → LinksRepresent (leave-links c links) (leave-lists c list)
+  represent-leave c = at (list c) refl
     where
-      at : (threads : List ℕ) → list c ≡ threads → Stands (leave-links c links) (update list c (tail threads))
-      at [] is = subst (λ (s : Links). Stands s (update list c [])) (sym (leave-none c (first-head c ∙ ap head is))) (rw (update-id list c [] is) stands)
-      at (x ∷ rest) is = rw (first-head c ∙ ap head is) (chains-leave (links .next) (links .first) list stands c x rest is)
+      at : (threads : List ℕ) → list c ≡ threads → LinksRepresent (leave-links c links) (update list c (tail threads))
+      at [] is = subst (λ (s : Links). LinksRepresent s (update list c [])) (sym (leave-none c (first-head c ∙ ap head is))) (rw (update-id list c [] is) represented)
+      at (x ∷ rest) is = rw (first-head c ∙ ap head is) (chains-leave (links .next) (links .first) list represented c x rest is)
 
   -- thread n, in no chain, joins chain c
-  pub stands-join : (fuel c n : ℕ) → length (list c) ≤ fuel → n ≢ 0 → ((d : ℕ) → count n (list d) ≡ 0)
-      → Stands (join-links fuel c n links) (join-lists c n list)
-  stands-join fuel c n = chains-join (links .next) (links .first) list stands c fuel n
+  pub represent-join : (fuel c n : ℕ) → length (list c) ≤ fuel → n ≢ 0 → ((d : ℕ) → count n (list d) ≡ 0)
+      → LinksRepresent (join-links fuel c n links) (join-lists c n list)
+  represent-join fuel c n = chains-join (links .next) (links .first) list represented c fuel n
 
   -- the first thread of a chain moves to the end of another
-  pub stands-shift : (fuel from to : ℕ) → length (list to) ≤ fuel → Stands (shift-links fuel from to links) (shift-lists from to list)
-  stands-shift fuel from to short = at (list from) refl
+  pub represent-shift : (fuel from to : ℕ) → length (list to) ≤ fuel → LinksRepresent (shift-links fuel from to links) (shift-lists from to list)
+  represent-shift fuel from to short = at (list from) refl
     where
       brief : length (leave-lists from list to) ≤ fuel
       brief = omega (arith, leave-short list from to, short)
 
       at : (threads : List ℕ) → list from ≡ threads
-          → Stands (shift-links fuel from to links) (update (leave-lists from list) to (leave-lists from list to ++ take 1 threads))
+          → LinksRepresent (shift-links fuel from to links) (update (leave-lists from list) to (leave-lists from list to ++ take 1 threads))
       at [] is =
           let empty : links .first from ≡ 0 = first-head from ∙ ap head is in
           let still : shift-links fuel from to links ≡ links =
           ap (join-links fuel to (links .first from)) (leave-none from empty)
           ∙ (ap (λ (n : ℕ). join-links fuel to n links) empty ∙ join-none fuel to short) in
           let same : leave-lists from list ≡ list = update-id list from (tail (list from)) (is ∙ sym (ap tail is)) in
-          subst (λ (s : Links). Stands s (update (leave-lists from list) to (leave-lists from list to ++ []))) (sym still)
-          (rw (same, append-nil (list to), update-id list to (list to) refl) stands)
+          subst (λ (s : Links). LinksRepresent s (update (leave-lists from list) to (leave-lists from list to ++ []))) (sym still)
+          (rw (same, append-nil (list to), update-id list to (list to) refl) represented)
       at (x ∷ rest) is =
           let is-first : links .first from ≡ x = first-head from ∙ ap head is in
-          subst (λ (n : ℕ). Stands (shift-links fuel from to links) (update (leave-lists from list) to (leave-lists from list to ++ (n ∷ [])))) is-first
-          (chains-join (leave-links from links .next) (leave-links from links .first) (leave-lists from list) (stands-leave from) to fuel (links .first from)
-          brief (rw is-first (head-real from x rest is)) (rw is-first (stands-left from x rest is)))
+          subst (λ (n : ℕ). LinksRepresent (shift-links fuel from to links) (update (leave-lists from list) to (leave-lists from list to ++ (n ∷ [])))) is-first
+          (chains-join (leave-links from links .next) (leave-links from links .first) (leave-lists from list) (represent-leave from) to fuel (links .first from)
+          brief (rw is-first (head-real from x rest is)) (rw is-first (represent-left from x rest is)))
 
   -- all threads of a chain move to the end of another
-  pub stands-move : (fuel from to : ℕ) → length (list to) ≤ fuel → Stands (move-links fuel from to links) (move-lists from to list)
+  pub represent-move : (fuel from to : ℕ) → length (list to) ≤ fuel → LinksRepresent (move-links fuel from to links) (move-lists from to list)
   unfolding linked
-  stands-move fuel from to short = at (equal? from to)
+  represent-move fuel from to short = at (equal? from to)
     where
-      at : (from ≡ to) ⊎ (from ≢ to) → Stands (move-links fuel from to links) (move-lists from to list)
+      at : (from ≡ to) ⊎ (from ≢ to) → LinksRepresent (move-links fuel from to links) (move-lists from to list)
       at (inl e) =
-          rw (← e, update-same list from [], update-same (links .first) from 0, update-back list from [], update-back (links .first) from 0) stands
+          rw (← e, update-same list from [], update-same (links .first) from 0, update-back list from [], update-back (links .first) from 0) represented
       at (inr apart) =
           rw (update-other list from [] to (λ e. apart (sym e)), update-other (links .first) from 0 to (λ e. apart (sym e)))
-          (chains-move (links .next) (links .first) list stands fuel from to apart short)
+          (chains-move (links .next) (links .first) list represented fuel from to apart short)

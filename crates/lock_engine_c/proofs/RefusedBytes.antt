@@ -20,7 +20,7 @@ use Rattle.lock_word.specs.Depth.{depth-limit}
 use Rattle.lock_table.specs.Record.{no-object, idle}
 use Rattle.lock_table.specs.Access.{thread-at, object-at, set-thread}
 use Rattle.lock_table.specs.Narrow.{narrow-of}
-use Rattle.lock_table.specs.Whole.{Whole}
+use Rattle.lock_table.specs.WellTyped.{WellTyped}
 use Rattle.lock_table.specs.declared.record.{ObjectRecord.ObjectRecord, Table.Table}
 use Rattle.lock_soundness.specs.Sound.{sound-of}
 use Rattle.lock_engine.specs.Outcome.{reply-returned, reply-woken}
@@ -67,9 +67,9 @@ abbrev DepthFits : ObjectRecord → Type 0
 DepthFits object = object .monitor .depth ≤ depth-limit
 
 -- bytes say no depth above 16 bits
-pub read-whole : (bytes : List ℕ) → AreBytes bytes → Whole (table-of bytes)
+pub read-well-typed : (bytes : List ℕ) → AreBytes bytes → WellTyped (table-of bytes)
 unfolding object-at
-read-whole bytes small =
+read-well-typed bytes small =
     let depth : (place : ℕ) → DepthFits (object-from bytes place) = λ place.
     let low = small (object-start place + 6) in
     let high = small (object-start place + 7) in omega (arith, low, high) in
@@ -106,10 +106,10 @@ unchanged-number (Answered TooDeep) same = false≢true (sym same)
 unchanged-number (Answered NoRule) same = (omega arith, refl)
 
 -- so a reply that goes with no change goes with the same table
-pub unchanged-same : (table : Table) → Whole table → (event : Event) → reply-changes (handle table event .reply) ≡ false → handle table event .table ≡ table
-unchanged-same table whole event unchanged =
+pub unchanged-same : (table : Table) → WellTyped table → (event : Event) → reply-changes (handle table event .reply) ≡ false → handle table event .table ≡ table
+unchanged-same table typed event unchanged =
     let (refused, ordinary) = unchanged-number (handle table event .reply) unchanged in
-    rw ordinary at (demand-one table whole event .1 refused)
+    rw ordinary at (demand-one table typed event .1 refused)
 
 number-small : (reply : Reply) → reply-returned reply < 256
 unfolding reply-returned
@@ -135,7 +135,7 @@ module _ (bytes : List ℕ) (small : AreBytes bytes) where
   table = table-of bytes
 
   left : (event : Event) → let outcome = handle table event in 11 ≤ returned outcome → outcome .table ≡ left-by (returned outcome) table (event-thread event)
-  left event refused = demand-one table (read-whole bytes small) event .1 refused
+  left event refused = demand-one table (read-well-typed bytes small) event .1 refused
 
   -- what the code writes is what the contract says
   turn-stored : is-table bytes ≡ true → (event : Event)
@@ -150,7 +150,7 @@ module _ (bytes : List ℕ) (small : AreBytes bytes) where
       split (reply-changes (turn .reply))
       (λ changed. rw changed (split (stays (turn .work)) (λ stay. rw stay (object-written (write-thread bytes (event-thread event) (turn .own)) (set-thread table (event-thread event) (turn .own)) own number (full .objects) (turn .object)))
       (λ work. rw work (kept-is bytes (work-done table (event-thread event) number (turn .own) (turn .object) (turn .work)) (table-long bytes known)))))
-      (λ unchanged. rw unchanged (sym (ap bytes-of (unchanged-same table (read-whole bytes small) event unchanged) ∙ bytes-back bytes small known)))
+      (λ unchanged. rw unchanged (sym (ap bytes-of (unchanged-same table (read-well-typed bytes small) event unchanged) ∙ bytes-back bytes small known)))
 
   pub event-stored : (event : Event) → event-over (is-table bytes) bytes table event ≡ event-bytes (is-table bytes) bytes (handle table event)
   event-stored event = split (is-table bytes) (λ known. rw known (turn-stored known event)) (λ unknown. rw unknown refl)

@@ -19,7 +19,7 @@ use Rattle.lock_rules.specs.declared.event.Refusal.the-variants.{NotSound}
 use Rattle.lock_rules.specs.declared.event.Gate.the-variants.{Shut}
 use Rattle.event_bytes.specs.Encoding.{event-size, event-at, events-from}
 use Rattle.event_bytes.proofs.Encoding.{events-next, events-end}
-use Rattle.lock_table.specs.Whole.{Whole}
+use Rattle.lock_table.specs.WellTyped.{WellTyped}
 use Rattle.lock_table.specs.declared.record.Table.{Table}
 use Rattle.lock_soundness.specs.Sound.{sound-of}
 use Rattle.lock_engine.specs.Handle.{work-done-of, handle-trusting, handle}
@@ -30,7 +30,7 @@ use Rattle.lock_engine.specs.declared.settling.WorkDone.{WorkDone}
 use Rattle.lock_engine.proofs.InPlace.{Taken, stored, stored-so, worked-so}
 use Rattle.lock_engine.proofs.Refused.{refusing, handle-shut}
 use Rattle.lock_perform.specs.Perform.{stays}
-use Rattle.lock_schedule.proofs.Theorem.{sound-kept, whole-kept}
+use Rattle.lock_schedule.proofs.Theorem.{sound-kept, well-typed-kept}
 use Rattle.table_bytes.specs.Rows.{overwritten}
 use Rattle.table_bytes.specs.Reading.{AreBytes, table-of, is-table}
 use Rattle.table_bytes.specs.Writing.{bytes-of}
@@ -40,7 +40,7 @@ use Rattle.table_bytes.proofs.ReadBack.{bytes-table, read-back}
 use Rattle.table_bytes.proofs.SameBytes.{bytes-back}
 use Rattle.lock_engine_c.specs.Calls.{not-sound, packed-of, outcome-answer, event-answer, event-bytes, reply-changes, stored-over}
 use Rattle.lock_engine_c.specs.Run.{run-count, run-events, handle-answer, handle-bytes, run-answers, run-bytes}
-use Rattle.lock_engine_c.proofs.RefusedBytes.{read-whole, unchanged-same}
+use Rattle.lock_engine_c.proofs.RefusedBytes.{read-well-typed, unchanged-same}
 
 -- there are as many events and as much room
 pub count-fits : (events answers : ℕ) → (run-count events answers ≤ answers) × (run-count events answers * event-size ≤ events)
@@ -95,7 +95,7 @@ module _ (bytes : List ℕ) where
   same-now table unknown = ap (λ (b : Bool). pick b (bytes-of table) bytes) unknown
 
   -- one event, trusted as the run trusts the table
-  module _ (table : Table) (whole : Whole table) (event : Event) where
+  module _ (table : Table) (typed : WellTyped table) (event : Event) where
     abbrev trusted : Bool
     trusted = both (is-table bytes) (sound-of table)
 
@@ -113,7 +113,7 @@ module _ (bytes : List ℕ) where
     handled known = ap (λ (b : Bool). handle-trusting table event (both b (sound-of table))) known
 
     back : table-of (bytes-of table) ≡ table
-    back = read-back table (whole .threads) (whole .objects)
+    back = read-back table (typed .threads) (typed .objects)
 
     pub answer-is : outcome-answer outcome ≡ handle-answer (bytes-now table) event
     answer-is =
@@ -137,22 +137,22 @@ module _ (bytes : List ℕ) where
         (λ yes.
         let known = both-first (is-table bytes) (sound-of table) yes in
         let sound = both-second (is-table bytes) (sound-of table) yes in
-        yes ∙ sym (λ j. both (known j) ((ap (λ (o : Outcome). sound-of (o .table)) (handled known) ∙ sound-kept table whole sound event) j)))
+        yes ∙ sym (λ j. both (known j) ((ap (λ (o : Outcome). sound-of (o .table)) (handled known) ∙ sound-kept table typed sound event) j)))
         (λ unsound. ap (λ (o : Outcome). both (is-table bytes) (sound-of (o .table))) (sym (refused unsound)))
 
-    pub whole-after : Whole (outcome .table)
+    pub whole-after : WellTyped (outcome .table)
     whole-after =
         split trusted
         (λ yes.
         let known = both-first (is-table bytes) (sound-of table) yes in
         let sound = both-second (is-table bytes) (sound-of table) yes in
-        subst (λ (o : Outcome). Whole (o .table)) (sym (handled known)) (whole-kept table whole sound event))
-        (λ unsound. subst (λ (o : Outcome). Whole (o .table)) (sym (refused unsound)) whole)
+        subst (λ (o : Outcome). WellTyped (o .table)) (sym (handled known)) (well-typed-kept table typed sound event))
+        (λ unsound. subst (λ (o : Outcome). WellTyped (o .table)) (sym (refused unsound)) typed)
 
     pub unchanged-after : reply-changes (outcome .reply) ≡ false → outcome .table ≡ table
     unchanged-after =
         split (is-table bytes)
-        (λ known. subst (λ (o : Outcome). reply-changes (o .reply) ≡ false → o .table ≡ table) (sym (handled known)) (unchanged-same table whole event))
+        (λ known. subst (λ (o : Outcome). reply-changes (o .reply) ≡ false → o .table ≡ table) (sym (handled known)) (unchanged-same table typed event))
         (λ unknown none. ap (λ (o : Outcome). o .table) (no-table unknown))
 
     pub none-changes : is-table bytes ≡ false → reply-changes (outcome .reply) ≡ false
@@ -165,7 +165,7 @@ module _ (bytes : List ℕ) where
 
     -- the events that are left, from the bytes as they would be now, give what the whole run gives
     pub record Running (issound : Bool) (table : Table) (changed : Bool) (at done : ℕ) (answers : List ℕ) : Type 0 where
-      pub whole : Whole table
+      pub typed : WellTyped table
       pub sound-is : issound ≡ both (is-table bytes) (sound-of table)
       pub unchanged : changed ≡ false → table ≡ table-of bytes
       pub no-table : is-table bytes ≡ false → changed ≡ false
@@ -183,7 +183,7 @@ module _ (bytes : List ℕ) where
         let all : count ≡ count - 0 = omega arith in
         let bytes-same : bytes ≡ bytes-now table = first-bytes small ∙ ap bytes-now (sym read) in
         record {
-          whole = subst Whole (sym read) (read-whole bytes small);
+          typed = subst WellTyped (sym read) (read-well-typed bytes small);
           sound-is = sound;
           unchanged = λ none. read;
           no-table = λ unknown. refl;
@@ -199,7 +199,7 @@ module _ (bytes : List ℕ) where
           → Running issound (outcome .table) changes (at + event-size) (done + 1) (set answers done answer)
       unfolding run-bytes run-answers
       run-goes-on {event} {outcome} {answer} {changes} more room is gave answered changes-are =
-          let before = running .whole in
+          let before = running .typed in
           let same : outcome ≡ handle-trusting table event (both (is-table bytes) (sound-of table)) = gave ∙ ap (handle-trusting table event) (running .sound-is) in
           let fewer : count - done - 1 ≡ count - (done + 1) = omega arith in
           let next : events-from (count - done) events at ≡ event ∷ events-from (count - (done + 1)) events (at + event-size) =
@@ -209,7 +209,7 @@ module _ (bytes : List ℕ) where
           let said : handle-answer (bytes-now table) event ≡ answer =
           sym (answer-is table before event) ∙ ap outcome-answer (sym same) ∙ sym answered in
           record {
-            whole = subst (λ (o : Outcome). Whole (o .table)) (sym same) (whole-after table before event);
+            typed = subst (λ (o : Outcome). WellTyped (o .table)) (sym same) (whole-after table before event);
             sound-is = running .sound-is ∙ trusted-after table before event ∙ ap (λ (o : Outcome). both (is-table bytes) (sound-of (o .table))) (sym same);
             unchanged = λ none. stays same changes-are none;
             no-table = λ unknown. changes-are
@@ -228,7 +228,7 @@ module _ (bytes : List ℕ) where
               at-first : (x y : Bool) → either x y ≡ false → changed ≡ x → reply-changes (outcome .reply) ≡ y → outcome .table ≡ table-of bytes
               at-first false false e cx cy =
                   ap (λ (o : Outcome). o .table) same
-                  ∙ unchanged-after table (running .whole) event (sym (ap (λ (o : Outcome). reply-changes (o .reply)) same) ∙ cy) ∙ running .unchanged cx
+                  ∙ unchanged-after table (running .typed) event (sym (ap (λ (o : Outcome). reply-changes (o .reply)) same) ∙ cy) ∙ running .unchanged cx
               at-first false true e cx cy = false≢true (sym e)
               at-first true y e cx cy = false≢true (sym e)
 

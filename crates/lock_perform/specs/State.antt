@@ -4,8 +4,8 @@ use Rattle.lock_word.specs.Read.{read-word}
 use Rattle.lock_word.specs.Meaning.{kept-count}
 use Rattle.lock_word.specs.Write.{reserved-word}
 use Rattle.lock_rules.specs.declared.Suspension.{Suspension}
-use Rattle.lock_rules.specs.declared.Carried.{Carried}
-use Rattle.lock_rules.specs.declared.Carried.the-variants.{ToCheck, ToTell, ToInflate, ToResume}
+use Rattle.lock_rules.specs.declared.OnwardStep.{OnwardStep}
+use Rattle.lock_rules.specs.declared.OnwardStep.the-variants.{ToCheck, ToTell, ToInflate, ToResume}
 use Rattle.lock_rules.specs.declared.Doing.{Doing}
 use Rattle.lock_rules.specs.declared.Doing.the-variants.{EnterLook, EnterStore, EnterCancel, EnterGoIn, EnterCheck, EnterTry, ExitLook}
 use Rattle.lock_rules.specs.declared.Doing.the-variants.{ExitStore, ExitGoIn, ExitTest, ExitTell, ExitLeave, WaitLook, WaitCancel, WaitGoIn}
@@ -59,7 +59,7 @@ go-in-of Notify = Idle
 go-in-of NotifyAll = Idle
 
 -- a queued thread carries the phase it goes on with, and for 15 what it saved
-unfoldable pub carried-of : Onward → Suspension → Carried
+unfoldable pub carried-of : Onward → Suspension → OnwardStep
 carried-of OnToCheck suspension = ToCheck
 carried-of OnToTell suspension = ToTell
 carried-of OnToInflate suspension = ToInflate
@@ -116,7 +116,7 @@ doing-activity number object (WaitResume suspension) = activity-of Wait object R
 doing-activity number object NotifyLook = activity-of Notify object Look 0 0
 doing-activity number object NotifyAllLook = activity-of NotifyAll object Look 0 0
 
-unfoldable pub carried-activity : ℕ → Carried → Activity
+unfoldable pub carried-activity : ℕ → OnwardStep → Activity
 carried-activity object ToCheck = activity-of Enter object (QueuedPhase OnToCheck) 0 0
 carried-activity object ToTell = activity-of Exit object (QueuedPhase OnToTell) 0 0
 carried-activity object ToInflate = activity-of Wait object (QueuedPhase OnToInflate) 0 0

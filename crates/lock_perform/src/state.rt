@@ -1,6 +1,6 @@
 // A thread's record read as what the thread is doing, and what of it is written. Nothing is kept that the phase does not use.
-use lock_rules::Carried;
 use lock_rules::Doing;
+use lock_rules::OnwardStep;
 use lock_rules::Suspension;
 use lock_rules::ThreadState;
 use lock_table::Activity;
@@ -65,14 +65,14 @@ fn go_in(operation: Operation) -> ThreadState
     }
 }
 
-fn carried(onward: Onward, suspension: Suspension) -> Carried
+fn carried(onward: Onward, suspension: Suspension) -> OnwardStep
     ensures { λ r. ⌜ r ≡ carried-of onward suspension ⌝ }
 {
     match onward {
-        Onward::ToCheck => Carried::ToCheck,
-        Onward::ToTell => Carried::ToTell,
-        Onward::ToInflate => Carried::ToInflate,
-        Onward::ToResume => Carried::ToResume(suspension),
+        Onward::ToCheck => OnwardStep::ToCheck,
+        Onward::ToTell => OnwardStep::ToTell,
+        Onward::ToInflate => OnwardStep::ToInflate,
+        Onward::ToResume => OnwardStep::ToResume(suspension),
     }
 }
 
@@ -184,32 +184,32 @@ fn doing_activity(number: u8, object: u8, doing: Doing) -> Activity
     }
 }
 
-fn carried_activity(object: u8, carried: Carried) -> Activity
+fn carried_activity(object: u8, carried: OnwardStep) -> Activity
     ensures { λ r. ⌜ r ≡ carried-activity object carried ⌝ }
 {
     match carried {
-        Carried::ToCheck => activity_of(
+        OnwardStep::ToCheck => activity_of(
             Operation::Enter,
             object,
             Phase::Queued(Onward::ToCheck),
             0,
             0,
         ),
-        Carried::ToTell => activity_of(
+        OnwardStep::ToTell => activity_of(
             Operation::Exit,
             object,
             Phase::Queued(Onward::ToTell),
             0,
             0,
         ),
-        Carried::ToInflate => activity_of(
+        OnwardStep::ToInflate => activity_of(
             Operation::Wait,
             object,
             Phase::Queued(Onward::ToInflate),
             0,
             0,
         ),
-        Carried::ToResume(suspension) => {
+        OnwardStep::ToResume(suspension) => {
             activity_of(
                 Operation::Wait,
                 object,

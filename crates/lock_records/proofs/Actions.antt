@@ -16,7 +16,7 @@ use Rattle.chains.specs.Chain.{first-with, linked}
 use Rattle.chains.specs.declared.named.Chain.{Chain}
 use Rattle.chains.proofs.Chain.{Chain as ChainOf, head}
 use Rattle.chains.proofs.Walk.{walk}
-use Rattle.chains.proofs.Links.{Links, leave-links, leave-lists, leave-within, leave-short, stands-leave}
+use Rattle.chains.proofs.Links.{Links, leave-links, leave-lists, leave-within, leave-short, represent-leave}
 use Rattle.lock_rules.proofs.Changes.{handed, moved}
 use Rattle.lock_rules.specs.declared.{ThreadState.ThreadState, ChainWork.ChainWork, Effect.Effect}
 use Rattle.lock_rules.specs.declared.ThreadState.the-variants.{Idle}
@@ -169,7 +169,7 @@ module _ (threads objects : ℕ) (t : Table) (lists : ListTable) (represents : R
           let all = lists-of (lists .objects) in
           let same : all (number o to) ≡ list to = list-at (lists .objects) o to in
           moves-hang (represents .given .thread) t table after (left .next) moves (leave-lists (number o from) all (number o to)) (left .first (number o to)) back
-          (stands-leave (represents .links) all (represents .chains) (number o from) .chain (number o to))
+          (represent-leave (represents .links) all (represents .chains) (number o from) .chain (number o to))
           (omega (arith, leave-short all (number o from) (number o to), ap length same, brief to))
           (λ n h. inside to n (omega (arith, h, leave-within all (number o from) (number o to) n, ap (count n) same)))
 

@@ -26,13 +26,13 @@ use Rattle.lock_rules.specs.declared.ThreadState.the-variants.{Idle, Running, Q
 use Rattle.lock_word.specs.declared.meaning.WordSeen.the-variants.{Free, Anonymous, Fat, Flat, Reserved}
 use Rattle.lock_rules.proofs.Objects.{object-owner, owned-depth}
 use Rattle.lock_rules.proofs.Tables.{ListTable, seen-from, final, shown, fresh}
-use Rattle.lock_rules.proofs.Turns.{final-on, shown-on}
+use Rattle.lock_rules.proofs.TableKinds.{final-on, shown-on}
 use Rattle.lock_rules.proofs.Lift.{World, world-fresh, world-run}
 use Rattle.lock_rules.proofs.Claim.{Claim, world-claim, OwnedByOther as ListOwned, BusyOther as ListBusy}
 use Rattle.lock_rules.proofs.ListSound.{WordFine, SoundTable}
 use Rattle.chains.specs.declared.named.Chain.{Chain}
 use Rattle.lock_rules.proofs.SoundKept.{sound-fresh}
-use Rattle.lock_rules.proofs.Standing.{stands-run}
+use Rattle.lock_rules.proofs.Simulation.{simulated-run}
 use Rattle.lock_table.specs.Limits.{thread-limit}
 use Rattle.lock_table.specs.Phase.{phase-number, carried-number}
 use Rattle.lock_table.specs.Record.{no-thread}
@@ -44,7 +44,7 @@ use Rattle.lock_perform.specs.State.{write-activity}
 use Rattle.lock_records.proofs.Written.{lock-word, seen-written, written-doing, written-carried, idle-or-written, phase-written}
 use Rattle.lock_records.proofs.Represents.{monitor-record, Represents}
 use Rattle.lock_records.proofs.Readings.{busy-in, thread-is, home-is, members-are, word-is}
-use Rattle.lock_records.proofs.RecordKind.{record-kind, sound-stands}
+use Rattle.lock_records.proofs.RecordKind.{record-kind, sound-simulates}
 use Rattle.lock_records.proofs.FreshRecords.{fresh-represents}
 use Rattle.lock_table.specs.Ownership.{ownership-in, ownership-at}
 use Rattle.lock_records.specs.Agrees.{woken-at}
@@ -281,8 +281,8 @@ module _ (request : FreshRequest) (in-range : InRange request) (events : List Ev
       × SoundTable threads objects (final threads objects fresh-lists events)
       × (shown-on record-kind threads objects fresh-records events ≡ shown threads objects fresh-lists events)
   schedule-represents =
-      stands-run record-kind threads objects (Represents threads objects) (SoundTable threads objects)
-      (sound-stands threads objects) events fresh-records fresh-lists (fresh-represents request in-range) (sound-fresh threads objects (request .reserved))
+      simulated-run record-kind threads objects (Represents threads objects) (SoundTable threads objects)
+      (sound-simulates threads objects) events fresh-records fresh-lists (fresh-represents request in-range) (sound-fresh threads objects (request .reserved))
 
   -- demand 3 for every schedule from any fresh table; 11, which no sound table gives, is not asked here
   pub schedule-agrees :

@@ -15,8 +15,8 @@ use Rattle.lock_word.proofs.RoundTrip.{meaning-of-word}
 use Rattle.lock_rules.specs.Numbers.{phase-of}
 use Rattle.lock_rules.specs.Rules.{onward}
 use Rattle.lock_rules.proofs.Status.{unfinished}
-use Rattle.lock_rules.specs.declared.{Suspension.Suspension, Carried.Carried, Doing.Doing, ThreadState.ThreadState}
-use Rattle.lock_rules.specs.declared.Carried.the-variants.{ToCheck, ToTell, ToInflate, ToResume}
+use Rattle.lock_rules.specs.declared.{Suspension.Suspension, OnwardStep.OnwardStep, Doing.Doing, ThreadState.ThreadState}
+use Rattle.lock_rules.specs.declared.OnwardStep.the-variants.{ToCheck, ToTell, ToInflate, ToResume}
 use Rattle.lock_rules.specs.declared.Doing.the-variants.{EnterLook, EnterStore, EnterCancel, EnterGoIn, EnterCheck, EnterTry, ExitLook}
 use Rattle.lock_rules.specs.declared.Doing.the-variants.{ExitStore, ExitGoIn, ExitTest, ExitTell, ExitLeave, WaitLook, WaitCancel, WaitGoIn}
 use Rattle.lock_rules.specs.declared.Doing.the-variants.{WaitInflate, WaitGiveUp, WaitResume, NotifyLook, NotifyAllLook}
@@ -80,7 +80,7 @@ module _ (objects n o : ℕ) (own : ThreadRecord) (low : 1 ≤ n) (high : n ≤ 
   doing-fits NotifyLook fine home out = rw (home, out)
   doing-fits NotifyAllLook fine home out = rw (home, out)
 
-  carried-fits : (carried : Carried) → DoingFine (onward carried) → Home → fits? objects n (with-activity own (carried-activity o carried)) ≡ true
+  carried-fits : (carried : OnwardStep) → DoingFine (onward carried) → Home → fits? objects n (with-activity own (carried-activity o carried)) ≡ true
   unfolding operation-fits uses-phase carries-phase kept-fits saves-depth saved-fits chain-named unused-fits
       operation-number phase-number carried-number onward-number carried-activity
   carried-fits ToCheck fine home = rw home

@@ -8,7 +8,7 @@ use Rattle.laws.specs.Count.{count}
 use Rattle.laws.proofs.Count.{count-none}
 use Rattle.laws.proofs.Sequence.{tabulate-length}
 use Rattle.chains.specs.declared.named.Chain.{Chain}
-use Rattle.chains.proofs.Links.{Links, Stands}
+use Rattle.chains.proofs.Links.{Links, LinksRepresent}
 use Rattle.lock_word.specs.Read.{read-word, read-flat, read-reserved}
 use Rattle.lock_word.specs.Write.{write-word}
 use Rattle.lock_rules.proofs.Objects.{chain-of}
@@ -30,8 +30,8 @@ use Rattle.lock_records.proofs.Represents.{Represents}
 abbrev no-links : Links
 no-links = record { next = λ n. 0; first = λ c. 0 }
 
-fresh-stands : (reserved : Bool) → Stands no-links (lists-of (fresh reserved .objects))
-fresh-stands reserved =
+fresh-represent : (reserved : Bool) → LinksRepresent no-links (lists-of (fresh reserved .objects))
+fresh-represent reserved =
     record { chain = λ c. rw (none c); apart = λ c d n h k. absurd (omega (arith, h, ap (count n) (none c), count-none n)); loose = λ n h. refl }
   where
     empty : (o : ℕ) (chain : Chain) → chain-of chain (fresh reserved .objects o) ≡ []
@@ -79,7 +79,7 @@ module _ (request : FreshRequest) (in-range : InRange request) where
           object-fits = λ o low high. word-alone-fits (request .threads) o (first-word (request .reserved)) (first-word-fits (request .threads) o (request .reserved));
         };
         links = no-links;
-        chains = fresh-stands (request .reserved);
+        chains = fresh-represent (request .reserved);
         written = record { records = fun-ext (fresh-thread-at request); full = tabulate-length thread-limit (fresh-thread request) };
         objects-full = tabulate-length object-limit (fresh-object request);
         object-is = λ o real small. fresh-used request (in-range .3) o real small

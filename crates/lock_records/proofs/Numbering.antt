@@ -14,8 +14,8 @@ use Rattle.laws.specs.Count.{count}
 use Rattle.laws.proofs.Choice.{equal?, Equal, equal}
 use Rattle.laws.proofs.Update.{update-same, update-other}
 use Rattle.chains.proofs.Chain.{head}
-use Rattle.chains.proofs.Links.{Links, Stands, leave-links, leave-lists, join-links, join-lists, move-links, move-lists, shift-links, shift-lists}
-use Rattle.chains.proofs.Links.{leave-within, leave-short, stands-leave, stands-join, stands-move, stands-shift}
+use Rattle.chains.proofs.Links.{Links, LinksRepresent, leave-links, leave-lists, join-links, join-lists, move-links, move-lists, shift-links, shift-lists}
+use Rattle.chains.proofs.Links.{leave-within, leave-short, represent-leave, represent-join, represent-move, represent-shift}
 use Rattle.chains.specs.declared.named.Chain.{Chain}
 use Rattle.lock_rules.specs.declared.{Taken.Taken, ChainWork.ChainWork, Effect.Effect}
 use Rattle.lock_rules.specs.declared.Taken.the-variants.{First, All}
@@ -127,19 +127,19 @@ pub record Room (n : ℕ) (list : ℕ → List ℕ) : Type 0 where
   pub short : (c : ℕ) → length (list c) ≤ thread-limit
 
 -- after every work the links stand for the lists
-pub stands-work : (thread o : ℕ) (links : Links) (list : ℕ → List ℕ) → Stands links list → Room thread list → (work : ChainWork)
-    → Stands (work-links thread o work links) (work-lists thread o work list)
-stands-work thread o links list stands room Stay = stands
-stands-work thread o links list stands room (Join chain) =
-    stands-join links list stands thread-limit (number o chain) thread (room .short _) (room .real) (room .out)
-stands-work thread o links list stands room (JoinAndHand chain) =
-    stands-join _ _ (stands-leave links list stands (number o Chain.Entry)) thread-limit (number o chain) thread
+pub represent-work : (thread o : ℕ) (links : Links) (list : ℕ → List ℕ) → LinksRepresent links list → Room thread list → (work : ChainWork)
+    → LinksRepresent (work-links thread o work links) (work-lists thread o work list)
+represent-work thread o links list represented room Stay = represented
+represent-work thread o links list represented room (Join chain) =
+    represent-join links list represented thread-limit (number o chain) thread (room .short _) (room .real) (room .out)
+represent-work thread o links list represented room (JoinAndHand chain) =
+    represent-join _ _ (represent-leave links list represented (number o Chain.Entry)) thread-limit (number o chain) thread
     (omega (arith, leave-short list (number o Chain.Entry) (number o chain), room .short (number o chain))) (room .real)
     (λ c. omega (arith, leave-within list (number o Chain.Entry) c thread, room .out c))
-stands-work thread o links list stands room Hand = stands-leave links list stands (number o Chain.Entry)
-stands-work thread o links list stands room (Move from First) = stands-shift links list stands thread-limit _ _ (room .short _)
-stands-work thread o links list stands room (Move from All) = stands-move links list stands thread-limit _ _ (room .short _)
-stands-work thread o links list stands room (SendBack owner) = stands
+represent-work thread o links list represented room Hand = represent-leave links list represented (number o Chain.Entry)
+represent-work thread o links list represented room (Move from First) = represent-shift links list represented thread-limit _ _ (room .short _)
+represent-work thread o links list represented room (Move from All) = represent-move links list represented thread-limit _ _ (room .short _)
+represent-work thread o links list represented room (SendBack owner) = represented
 
 -- The lists of the object after a work, as the four primitives give them. Joining any chain is joining at its end: only here is `enter-queue-all` opened.
 pub first-is-head : (queue : List ℕ) → first-of queue ≡ head queue

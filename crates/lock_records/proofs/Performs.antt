@@ -10,7 +10,7 @@ use Rattle.laws.specs.Count.{count}
 use Rattle.laws.proofs.Choice.{equal?}
 use Rattle.laws.proofs.Update.{update-same, update-other, update-id}
 use Rattle.chains.proofs.Chain.{head}
-use Rattle.chains.proofs.Links.{Links, Stands, first-head}
+use Rattle.chains.proofs.Links.{Links, LinksRepresent, first-head}
 use Rattle.lock_rules.proofs.Changes.{seen-after}
 use Rattle.lock_rules.specs.declared.{Doing.Doing, ThreadState.ThreadState, Effect.Effect}
 use Rattle.lock_rules.specs.declared.ThreadState.the-variants.{Idle, Running}
@@ -30,7 +30,7 @@ use Rattle.lock_table.specs.declared.record.{ThreadRecord.ThreadRecord, ObjectR
 use Rattle.lock_perform.specs.State.{write-thread}
 use Rattle.lock_perform.specs.Moving.{CarriedOut, carry-out}
 use Rattle.lock_perform.proofs.Performed.{perform-of}
-use Rattle.lock_records.proofs.Numbering.{number, lists-of, list-at, by-number, work-links, Room, stands-work, lists-work}
+use Rattle.lock_records.proofs.Numbering.{number, lists-of, list-at, by-number, work-links, Room, represent-work, lists-work}
 use Rattle.lock_records.proofs.Written.{word-written, word-changed}
 use Rattle.lock_records.proofs.Represents.{thread-record, monitor-record, object-record, Represents, record-is, next-is}
 use Rattle.lock_records.proofs.Moves.{Moves, moves-set, moves-change}
@@ -138,10 +138,10 @@ module _ (threads objects : ℕ) (t : Table) (lists : ListTable) (represents : R
       abbrev object-written : ObjectRecord
       object-written = with-flag (with-monitor (with-word (represents .given .object o) written-word) (moved .monitor)) (effect .flag)
 
-      stands : Stands links (lists-of (update (lists .objects) o new))
-      stands =
-          subst (Stands links) (lists-work (lists .objects) i o effect (effect .work))
-          (stands-work i o (represents .links) (lists-of (lists .objects)) (represents .chains) (room unchained) (effect .work))
+      represented : LinksRepresent links (lists-of (update (lists .objects) o new))
+      represented =
+          subst (LinksRepresent links) (lists-work (lists .objects) i o effect (effect .work))
+          (represent-work i o (represents .links) (lists-of (lists .objects)) (represents .chains) (room unchained) (effect .work))
 
       action : Acted (represents .given .thread) t lists o links moved (states-after (effect .work) (states-at lists o) now) (new .holder) (new .depth)
       action = acted threads objects t lists represents sound o i effect (effect .work)
@@ -173,7 +173,7 @@ module _ (threads objects : ℕ) (t : Table) (lists : ListTable) (represents : R
       -- the chains of another object begin as before
       other-first : (p : ℕ) → p ≢ o → (chain : Chain) → links .first (number p chain) ≡ represents .links .first (number p chain)
       other-first p away chain =
-          first-head links (lists-of (update (lists .objects) o new)) stands (number p chain)
+          first-head links (lists-of (update (lists .objects) o new)) represented (number p chain)
           ∙ (ap head
           (list-at (update (lists .objects) o new) p chain
           ∙ (ap (chain-of chain) (update-other (lists .objects) o new p away) ∙ sym (list-at (lists .objects) p chain)))
@@ -201,7 +201,7 @@ module _ (threads objects : ℕ) (t : Table) (lists : ListTable) (represents : R
             object-room = represents .object-room;
             given = represents .given;
             links = links;
-            chains = stands;
+            chains = represented;
             written = record {
               records = threads-of own-written (set-object own-written o object-written) (beside .threads) ∙ threads-after .written .records;
               full = ap length (beside .threads) ∙ threads-after .written .full;

@@ -17,11 +17,11 @@ use Rattle.lock_rules.specs.declared.Answer.the-variants.{NoRule}
 use Rattle.lock_rules.specs.declared.Action.the-variants.{Unruled, Do}
 use Rattle.lock_rules.proofs.Objects.{sight-of}
 use Rattle.lock_rules.proofs.Perform.{perform}
-use Rattle.lock_rules.proofs.Turns.{TurnOf, Kind, turn-on}
+use Rattle.lock_rules.proofs.TableKinds.{TurnOf, Kind, turn-on}
 use Rattle.lock_rules.proofs.Tables.{ListTable, states-at, put-back, begin-at, step-at, turn}
 use Rattle.lock_rules.proofs.ListSound.{SoundTable}
 use Rattle.lock_rules.proofs.SoundKept.{sound-turn}
-use Rattle.lock_rules.proofs.Standing.{Standing, stands-turn}
+use Rattle.lock_rules.proofs.Simulation.{Simulates, simulated-turn}
 use Rattle.lock_table.specs.Access.{thread-at, set-thread, object-at}
 use Rattle.lock_table.specs.Record.{with-activity}
 use Rattle.lock_table.specs.declared.phase.Phase.the-variants.{Look}
@@ -93,10 +93,10 @@ module _ (threads objects : ℕ) (t : Table) (lists : ListTable) (represents : R
         (acts-alike real small (decide n (sight-of (lists .objects home)) doing))
 
 -- W is any predicate that makes tables with lists sound and that every event keeps
-pub records-stand : (threads objects : ℕ) (W : ListTable → Type 0) → ((lists : ListTable) → W lists → SoundTable threads objects lists)
+pub records-simulate : (threads objects : ℕ) (W : ListTable → Type 0) → ((lists : ListTable) → W lists → SoundTable threads objects lists)
     → ((lists : ListTable) (event : Event) → W lists → W (turn threads objects lists event .table))
-    → Standing record-kind threads objects (Represents threads objects) W
-records-stand threads objects W sound keeps =
+    → Simulates record-kind threads objects (Represents threads objects) W
+records-simulate threads objects W sound keeps =
     record {
       state = λ t lists represents w n low high. state-is threads objects t lists represents (sound lists w) n;
       begins = λ t lists represents w operation n o low high real small idle.
@@ -106,9 +106,9 @@ records-stand threads objects W sound keeps =
     }
 
 -- soundness itself is one
-pub sound-stands : (threads objects : ℕ) → Standing record-kind threads objects (Represents threads objects) (SoundTable threads objects)
-sound-stands threads objects =
-    records-stand threads objects (SoundTable threads objects) (λ lists sound. sound) (λ lists event sound. sound-turn threads objects lists sound event)
+pub sound-simulates : (threads objects : ℕ) → Simulates record-kind threads objects (Represents threads objects) (SoundTable threads objects)
+sound-simulates threads objects =
+    records-simulate threads objects (SoundTable threads objects) (λ lists sound. sound) (λ lists event sound. sound-turn threads objects lists sound event)
 
 -- so an event on a represented sound table represents the same event, gives the same reply, and keeps both
 pub turn-represents : (threads objects : ℕ) (t : Table) (lists : ListTable) → Represents threads objects t lists → SoundTable threads objects lists
@@ -117,6 +117,6 @@ pub turn-represents : (threads objects : ℕ) (t : Table) (lists : ListTable) �
     × SoundTable threads objects (turn threads objects lists event .table)
     × (turn-on record-kind threads objects t event .reply ≡ turn threads objects lists event .reply)
 turn-represents threads objects t lists represents sound event =
-    let (after, same) = stands-turn record-kind threads objects (Represents threads objects) (SoundTable threads objects) (sound-stands threads objects)
+    let (after, same) = simulated-turn record-kind threads objects (Represents threads objects) (SoundTable threads objects) (sound-simulates threads objects)
     t lists represents sound event in
     (after, sound-turn threads objects lists sound event, same)

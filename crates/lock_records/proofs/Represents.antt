@@ -3,7 +3,7 @@
 use Prim.Native.Nat.{ℕ, _≤_, _<_}
 use mathlib.Core.Path.{_≡_, ap, fun-ext}
 use lib.ListN.{length}
-use Rattle.chains.proofs.Links.{Links, Stands}
+use Rattle.chains.proofs.Links.{Links, LinksRepresent}
 use Rattle.lock_rules.proofs.Objects.{ListObject}
 use Rattle.lock_rules.proofs.Tables.{ListThread, ListTable}
 use Rattle.chains.specs.declared.named.Chain.{Chain}
@@ -57,7 +57,7 @@ pub record Represents (threads objects : ℕ) (t : Table) (lists : ListTable) : 
   pub object-room : objects ≤ object-limit
   pub given : Given threads objects
   pub links : Links
-  pub chains : Stands links (lists-of (lists .objects))
+  pub chains : LinksRepresent links (lists-of (lists .objects))
   pub written : ThreadsWritten (given .thread) t (lists .threads) (links .next)
   pub objects-full : length (t .objects) ≡ object-limit
   pub object-is : (o : ℕ) → 1 ≤ o → o ≤ objects → object-at t o ≡ object-record o (lists .objects o) links (given .object o)

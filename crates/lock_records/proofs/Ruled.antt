@@ -16,7 +16,7 @@ use Rattle.lock_rules.specs.Operations.{Operation}
 use Rattle.lock_rules.specs.declared.{Doing.Doing, Answer.Answer}
 use Rattle.lock_rules.specs.declared.ThreadState.the-variants.{Running}
 use Rattle.lock_rules.specs.declared.Answer.the-variants.{GoneOn, Finished, Parked, NotOwner, TooDeep, NoRule}
-use Rattle.lock_rules.proofs.Turns.{TurnOf, shown-on, by-event}
+use Rattle.lock_rules.proofs.TableKinds.{TurnOf, shown-on, by-event}
 use Rattle.lock_rules.proofs.Tables.{ListTable, list-kind, turn, step-at, perform-at, shown, fresh}
 use Rattle.lock_rules.proofs.Lift.{World, world-turn, world-fresh}
 use Rattle.lock_table.specs.Fresh.{InRange, fresh-of}

@@ -10,7 +10,7 @@ use Rattle.laws.specs.Count.{count}
 use Rattle.laws.proofs.Choice.{equal?}
 use Rattle.chains.specs.Chain.{members}
 use Rattle.chains.proofs.Chain.{Chain as Linked, head, chain-head, members-none}
-use Rattle.chains.proofs.Links.{Links, Stands}
+use Rattle.chains.proofs.Links.{Links, LinksRepresent}
 use Rattle.lock_word.specs.Read.{read-word}
 use Rattle.lock_rules.proofs.Status.{unfinished}
 use Rattle.lock_rules.specs.declared.ThreadState.{ThreadState}
@@ -91,8 +91,8 @@ module _ (t : Table) (sound : Sound t) where
       let (here, names) = members-at t sound o chain n (rw (list-numbered t o chain) at inside) in
       (chain, names, ap (λ (k : ℕ). number k chain) (sym here)))
 
-  stands : Stands (links-read t) (lists-of (object-read t))
-  stands = record { chain = by-number (λ c. Linked (next-of t) (links-read t .first c) (lists-of (object-read t) c)) linked; apart = apart; loose = loose }
+  represented : LinksRepresent (links-read t) (lists-of (object-read t))
+  represented = record { chain = by-number (λ c. Linked (next-of t) (links-read t .first c) (lists-of (object-read t) c)) linked; apart = apart; loose = loose }
     where
       linked : (o : ℕ) (chain : Chain) → Linked (next-of t) (links-read t .first (number o chain)) (lists-of (object-read t) (number o chain))
       linked o chain = rw (first-read o chain, list-numbered t o chain) (chain-at t sound o chain)
@@ -155,7 +155,7 @@ module _ (t : Table) (sound : Sound t) where
           object-fits = sound .objects;
         };
         links = links-read t;
-        chains = stands;
+        chains = represented;
         written = record { records = fun-ext thread-written; full = threads-full };
         objects-full = objects-full;
         object-is = object-written;

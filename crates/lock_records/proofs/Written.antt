@@ -19,8 +19,8 @@ use Rattle.lock_rules.specs.Numbers.{phase-of-doing, phase-of}
 use Rattle.lock_rules.specs.Rules.{onward}
 use Rattle.lock_rules.proofs.Changes.{seen-after, handed, moved, look-again, sent-back}
 use Rattle.lock_rules.proofs.Status.{unfinished}
-use Rattle.lock_rules.specs.declared.{Carried.Carried, Doing.Doing, ThreadState.ThreadState, WordChange.WordChange}
-use Rattle.lock_rules.specs.declared.Carried.the-variants.{ToCheck, ToTell, ToInflate, ToResume}
+use Rattle.lock_rules.specs.declared.{OnwardStep.OnwardStep, Doing.Doing, ThreadState.ThreadState, WordChange.WordChange}
+use Rattle.lock_rules.specs.declared.OnwardStep.the-variants.{ToCheck, ToTell, ToInflate, ToResume}
 use Rattle.lock_rules.specs.declared.Doing.the-variants.{EnterLook, EnterStore, EnterCancel, EnterGoIn, EnterCheck, EnterTry, ExitLook}
 use Rattle.lock_rules.specs.declared.Doing.the-variants.{ExitStore, ExitGoIn, ExitTest, ExitTell, ExitLeave, WaitLook, WaitCancel, WaitGoIn}
 use Rattle.lock_rules.specs.declared.Doing.the-variants.{WaitInflate, WaitGiveUp, WaitResume, NotifyLook, NotifyAllLook}
@@ -180,7 +180,7 @@ written-doing n o NotifyLook own = record { object = refl; phase = refl; carried
 written-doing n o NotifyAllLook own = record { object = refl; phase = refl; carried = refl; handed-on = refl; unmoved = refl; back = refl }
 
 -- the same for a queued thread, which carries the phase that it takes
-pub record WrittenCarried (n o : ℕ) (carried : Carried) (own : ThreadRecord) : Type 0 where
+pub record WrittenCarried (n o : ℕ) (carried : OnwardStep) (own : ThreadRecord) : Type 0 where
   pub object : carried-activity o carried .object ≡ o
   pub phase : phase-number (carried-activity o carried .phase) ≡ 5
   pub carries : carried-number (carried-activity o carried .phase) ≡ phase-of-doing (onward carried)
@@ -188,7 +188,7 @@ pub record WrittenCarried (n o : ℕ) (carried : Carried) (own : ThreadRecord) :
   pub unmoved : moved-record (with-activity own (carried-activity o carried)) ≡ with-activity own (carried-activity o carried)
   pub back : back-from (with-activity own (carried-activity o carried)) (carried-activity o carried .phase) ≡ with-activity own (carried-activity o carried)
 
-pub written-carried : (n o : ℕ) (carried : Carried) (own : ThreadRecord) → WrittenCarried n o carried own
+pub written-carried : (n o : ℕ) (carried : OnwardStep) (own : ThreadRecord) → WrittenCarried n o carried own
 unfolding carried-activity doing-activity carried-of moved-phase onward-phase back-from phase-number carried-number onward-number
 written-carried n o ToCheck own = record { object = refl; phase = refl; carries = refl; handed-on = refl; unmoved = refl; back = refl }
 written-carried n o ToTell own = record { object = refl; phase = refl; carries = refl; handed-on = refl; unmoved = refl; back = refl }

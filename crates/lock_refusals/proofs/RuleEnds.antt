@@ -12,7 +12,7 @@ use Rattle.laws.proofs.Choice.{Equal, equal, Below, below}
 use Rattle.lock_rules.specs.Actions.{keep-object, finish-depth, become-holder}
 use Rattle.lock_word.specs.Depth.{depth-limit}
 use Rattle.lock_rules.specs.Rules.{owner-only, go-in-again, go-in}
-use Rattle.lock_rules.specs.declared.Carried.the-variants.{ToCheck}
+use Rattle.lock_rules.specs.declared.OnwardStep.the-variants.{ToCheck}
 use Rattle.lock_rules.specs.declared.Doing.the-variants.{EnterCheck}
 use Rattle.lock_rules.specs.declared.ThreadState.the-variants.{Idle, Queued}
 use Rattle.lock_rules.specs.declared.WordChange.the-variants.{Unchanged}

@@ -22,12 +22,12 @@ use Rattle.lock_rules.specs.declared.event.Gate.the-variants.{Shut}
 use Rattle.lock_rules.specs.declared.{Doing.Doing, ThreadState.ThreadState}
 use Rattle.lock_rules.specs.declared.ThreadState.the-variants.{Idle, Running, Queued, Contending, Waiting}
 use Rattle.lock_rules.proofs.Gate.{Passed, by-gate}
-use Rattle.lock_rules.proofs.Turns.{status-of}
+use Rattle.lock_rules.proofs.TableKinds.{status-of}
 use Rattle.lock_table.specs.Limits.{thread-limit, object-limit}
 use Rattle.lock_table.specs.Operation.{operation-number}
 use Rattle.lock_table.specs.Phase.{phase-number}
 use Rattle.lock_table.specs.Access.{thread-at, object-at}
-use Rattle.lock_table.specs.Whole.{Whole}
+use Rattle.lock_table.specs.WellTyped.{WellTyped}
 use Rattle.lock_table.specs.Record.{activity}
 use Rattle.lock_table.specs.declared.record.{ThreadRecord.ThreadRecord, Activity.Activity, Table.Table}
 use Rattle.lock_table.specs.Ownership.{ownership-in, ownership-at}
@@ -45,13 +45,13 @@ use Rattle.lock_engine.proofs.Refused.{refused-stays, handle-shut}
 use Rattle.lock_engine.proofs.Narrow.{sizes}
 use Rattle.lock_records.proofs.ReadBack.{IsWritten, state-back}
 use Rattle.lock_records.proofs.EveryNumber.{written-at}
-use Rattle.lock_schedule.proofs.Turns.{status-read, home-inside}
+use Rattle.lock_schedule.proofs.EngineKind.{status-read, home-inside}
 use Rattle.lock_refusals.specs.Refusals.{first-applies, no-rule-seeing, no-rule, rule-rows, refusals}
 use Rattle.lock_refusals.proofs.Rows.{by-gate-number, first-gated}
 use Rattle.lock_refusals.proofs.StepEnds.{rule-refusals, decide-ends}
 use Rattle.lock_refusals.proofs.Ended.{Ended, refuse-ended, action-ended}
 
-module _ (table : Table) (whole : Whole table) (sound : sound-of table ≡ true) (thread : ℕ) (some : thread ≢ 0) where
+module _ (table : Table) (typed : WellTyped table) (sound : sound-of table ≡ true) (thread : ℕ) (some : thread ≢ 0) where
   abbrev own : ThreadRecord
   own = thread-at table thread
 
@@ -77,7 +77,7 @@ module _ (table : Table) (whole : Whole table) (sound : sound-of table ≡ true)
   word-ended doing Invalid never = absurd never
   word-ended doing (Valid word) fits =
       action-ended table thread word (decide thread (sight-at table (object-at table home) word) doing) _
-      (decide-ends table (object-at table home) word thread some (whole .depths home) home doing)
+      (decide-ends table (object-at table home) word thread some (typed .depths home) home doing)
 
   -- its record is the state that it is read as, written
   ready-ended : (state : ThreadState) → read-thread own ≡ state → status-of state ≡ Ready
@@ -109,7 +109,7 @@ module _ (table : Table) (whole : Whole table) (sound : sound-of table ≡ true)
   unfolding step-turn
   step-ended ready = ready-ended (read-thread own) refl (sym (status-read table sound thread) ∙ ready)
 
-module _ (table : Table) (whole : Whole table) where
+module _ (table : Table) (typed : WellTyped table) where
   -- what the gate lets through
   open-ended : sound-of table ≡ true → (event : Event)
       → Passed (table .threadcount) (table .objectcount) event (thread-status (thread-at table (event-thread event) .phase))
@@ -120,7 +120,7 @@ module _ (table : Table) (whole : Whole table) where
       (first-applies (rule-rows table event))
   unfolding open-turn reply-returned
   open-ended sound (Begin operation thread object) passed = record { refused = refl; left = λ high. absurd (omega (arith, high)) }
-  open-ended sound (Step thread) (low, high, ready) = step-ended table whole sound thread (λ none. omega (arith, none, low)) ready
+  open-ended sound (Step thread) (low, high, ready) = step-ended table typed sound thread (λ none. omega (arith, none, low)) ready
 
   -- on a sound table
   sound-ended : sound-of table ≡ true → (event : Event)

@@ -14,7 +14,7 @@ use Rattle.lock_table.specs.declared.record.Table.{Table}
 use Rattle.lock_engine.specs.Outcome.{reply-returned}
 use Rattle.lock_engine.specs.declared.outcome.Outcome.{Outcome}
 use Rattle.lock_engine.specs.Handle.{handle}
-use Rattle.lock_table.specs.Whole.{Whole}
+use Rattle.lock_table.specs.WellTyped.{WellTyped}
 use Rattle.lock_refusals.specs.Refusals.{Row, IsFirst, NoneApplies, refusals}
 
 abbrev pub returned : Outcome → ℕ
@@ -40,5 +40,5 @@ Leaves table thread outcome = first-refusal ≤ returned outcome → outcome .ta
 -- every event on every table that the code can have
 abbrev pub DemandOne : Type 0
 DemandOne =
-    (table : Table) → Whole table → (event : Event)
+    (table : Table) → WellTyped table → (event : Event)
     → RefusedByFirst (refusals table event) (handle table event) × Leaves table (event-thread event) (handle table event)

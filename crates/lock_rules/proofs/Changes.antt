@@ -2,7 +2,7 @@
 use Prim.Native.Nat.{ℕ}
 use Rattle.lock_word.specs.Meaning.{cancelled}
 use Rattle.lock_rules.specs.Rules.{onward}
-use Rattle.lock_rules.specs.declared.Carried.the-variants.{ToCheck, ToResume}
+use Rattle.lock_rules.specs.declared.OnwardStep.the-variants.{ToCheck, ToResume}
 use Rattle.lock_rules.specs.declared.{Doing.Doing, ThreadState.ThreadState, WordChange.WordChange}
 use Rattle.lock_rules.specs.declared.Doing.the-variants.{EnterLook, EnterCancel, EnterGoIn, EnterCheck, EnterTry, ExitLook}
 use Rattle.lock_rules.specs.declared.Doing.the-variants.{ExitGoIn, ExitTest, ExitTell, ExitLeave, WaitLook, WaitCancel, WaitGoIn}

@@ -3,8 +3,8 @@
 use Prim.Native.Nat.{ℕ}
 use Rattle.chains.specs.declared.named.Chain.{Chain}
 use Rattle.lock_rules.specs.Operations.{Operation, Enter, Exit, Wait, Notify, NotifyAll}
-use Rattle.lock_rules.specs.declared.{Suspension.Suspension, Carried.Carried, Doing.Doing, ThreadState.ThreadState}
-use Rattle.lock_rules.specs.declared.Carried.the-variants.{ToCheck, ToTell, ToInflate, ToResume}
+use Rattle.lock_rules.specs.declared.{Suspension.Suspension, OnwardStep.OnwardStep, Doing.Doing, ThreadState.ThreadState}
+use Rattle.lock_rules.specs.declared.OnwardStep.the-variants.{ToCheck, ToTell, ToInflate, ToResume}
 use Rattle.lock_rules.specs.declared.Doing.the-variants.{EnterLook, EnterStore, EnterCancel, EnterGoIn, EnterCheck, EnterTry, ExitLook}
 use Rattle.lock_rules.specs.declared.Doing.the-variants.{ExitStore}
 use Rattle.lock_rules.specs.declared.Doing.the-variants.{ExitGoIn, ExitTest, ExitTell, ExitLeave, WaitLook, WaitCancel, WaitGoIn, WaitInflate}
@@ -48,7 +48,7 @@ each-doing P all NotifyLook = all .3
 each-doing P all NotifyAllLook = all .4
 
 abbrev States {ℓ} : (ThreadState → Type ℓ) → Type ℓ
-States P = P Idle × ((doing : Doing) → P (Running doing)) × ((carried : Carried) → P (Queued carried)) × P Contending × ((saved : Suspension) → P (Waiting saved))
+States P = P Idle × ((doing : Doing) → P (Running doing)) × ((carried : OnwardStep) → P (Queued carried)) × P Contending × ((saved : Suspension) → P (Waiting saved))
 
 abbrev pub each-state {ℓ} : (P : ThreadState → Type ℓ) → States P → (state : ThreadState) → P state
 each-state P all Idle = all .0
@@ -57,10 +57,10 @@ each-state P all (Queued carried) = all .2 carried
 each-state P all Contending = all .3
 each-state P all (Waiting saved) = all .4 saved
 
-abbrev Carrieds {ℓ} : (Carried → Type ℓ) → Type ℓ
+abbrev Carrieds {ℓ} : (OnwardStep → Type ℓ) → Type ℓ
 Carrieds P = P ToCheck × P ToTell × P ToInflate × ((saved : Suspension) → P (ToResume saved))
 
-abbrev pub each-carried {ℓ} : (P : Carried → Type ℓ) → Carrieds P → (carried : Carried) → P carried
+abbrev pub each-carried {ℓ} : (P : OnwardStep → Type ℓ) → Carrieds P → (carried : OnwardStep) → P carried
 each-carried P all ToCheck = all .0
 each-carried P all ToTell = all .1
 each-carried P all ToInflate = all .2

@@ -15,8 +15,8 @@ use Rattle.lock_rules.specs.Actions.{keep-object, inflate, become-holder
 use Rattle.lock_rules.specs.Rules.{onward, go-in-again, go-in, enter-check, enter-try}
 use Rattle.lock_rules.specs.Operations.{Operation}
 use Rattle.lock_rules.specs.Operations.{Enter, Exit, Wait}
-use Rattle.lock_rules.specs.declared.{Carried.Carried, Doing.Doing}
-use Rattle.lock_rules.specs.declared.Carried.the-variants.{ToCheck, ToTell, ToInflate}
+use Rattle.lock_rules.specs.declared.{OnwardStep.OnwardStep, Doing.Doing}
+use Rattle.lock_rules.specs.declared.OnwardStep.the-variants.{ToCheck, ToTell, ToInflate}
 use Rattle.lock_rules.specs.declared.Doing.the-variants.{EnterGoIn, EnterCheck, EnterTry, ExitGoIn, WaitGoIn}
 use Rattle.lock_rules.specs.declared.ThreadState.the-variants.{Idle, Running, Queued, Contending}
 use Rattle.lock_word.specs.declared.meaning.WordSeen.{WordSeen}
@@ -58,7 +58,7 @@ module _ (actor : Actor) where
       })
 
   -- another holds it: the thread joins the entry chain
-  join-refines : (operation : Operation) (o : ListObject) (carried : Carried) → Invariant (actor .states) o (actor .ghost) → o .holder ≢ 0
+  join-refines : (operation : Operation) (o : ListObject) (carried : OnwardStep) → Invariant (actor .states) o (actor .ghost) → o .holder ≢ 0
       → Self actor (Queued carried) (with-entry o (enter-queue (o .entry) (actor .thread)))
       → Right actor operation o (keep-object (sight-of o) (Join Chain.Entry) (Queued carried) Parked false)
   join-refines operation o carried inv q self =
@@ -85,7 +85,7 @@ module _ (actor : Actor) where
       }
 
   -- 4 go in, whatever is carried: only the case that the thread is the holder already is left
-  go-in-refines : (o : ListObject) (doing : Doing) (carried : Carried)
+  go-in-refines : (o : ListObject) (doing : Doing) (carried : OnwardStep)
       → Stepping actor doing o → phase-row (onward carried) .seat ≡ holding → phase-row (onward carried) .saved ≡ nothing-saved
       → phase-row doing .saved ≡ nothing-saved → phase-row (onward carried) .operation ≡ phase-row doing .operation
       → phase-row (onward carried) .stage ≡ phase-row doing .stage

@@ -17,8 +17,8 @@ use Rattle.lock_rules.specs.Rules.{onward, exit-test, exit-tell, exit-le
 use Rattle.lock_rules.proofs.Each.{each-word}
 use Rattle.lock_rules.proofs.Changes.{handed, moved}
 use Rattle.lock_rules.specs.Operations.{Exit}
-use Rattle.lock_rules.specs.declared.Carried.{Carried}
-use Rattle.lock_rules.specs.declared.Carried.the-variants.{ToCheck, ToTell, ToInflate, ToResume}
+use Rattle.lock_rules.specs.declared.OnwardStep.{OnwardStep}
+use Rattle.lock_rules.specs.declared.OnwardStep.the-variants.{ToCheck, ToTell, ToInflate, ToResume}
 use Rattle.lock_rules.specs.declared.Doing.the-variants.{ExitGoIn, ExitTest, ExitTell, ExitLeave}
 use Rattle.lock_rules.specs.declared.ThreadState.the-variants.{Idle, Running}
 use Rattle.lock_word.specs.declared.meaning.WordSeen.{WordSeen}
@@ -128,7 +128,7 @@ module _ (actor : Actor) where
   exit-tell-refines it false contention step = tell-nobody _ step (flag-down (it .word) contention (step .inv .whole .flag))
 
   -- a thread that is handed the monitor does not leave it at once
-  onward-stays : (carried : Carried) → T (leaving? (phase-row (onward carried) .seat)) → ⊥
+  onward-stays : (carried : OnwardStep) → T (leaving? (phase-row (onward carried) .seat)) → ⊥
   onward-stays ToCheck k = k
   onward-stays ToTell k = k
   onward-stays ToInflate k = k

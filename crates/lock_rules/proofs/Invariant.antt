@@ -15,7 +15,7 @@ use Rattle.lock_rules.specs.Rules.{onward}
 use Rattle.lock_rules.specs.Operations.{Operation}
 use Rattle.lock_rules.specs.Operations.{Enter, Exit, Wait, Notify, NotifyAll}
 use Rattle.lock_rules.specs.declared.{Suspension.Suspension, Doing.Doing, ThreadState.ThreadState}
-use Rattle.lock_rules.specs.declared.Carried.the-variants.{ToCheck, ToTell, ToInflate, ToResume}
+use Rattle.lock_rules.specs.declared.OnwardStep.the-variants.{ToCheck, ToTell, ToInflate, ToResume}
 use Rattle.lock_rules.specs.declared.Doing.the-variants.{EnterLook, EnterStore, EnterCancel, EnterGoIn, EnterCheck, EnterTry, ExitLook}
 use Rattle.lock_rules.specs.declared.Doing.the-variants.{ExitStore}
 use Rattle.lock_rules.specs.declared.Doing.the-variants.{ExitGoIn, ExitTest, ExitTell, ExitLeave, WaitLook, WaitCancel, WaitGoIn, WaitInflate}

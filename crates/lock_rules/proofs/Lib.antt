@@ -6,7 +6,7 @@ pub mod Commits
 pub mod Objects
 pub mod Perform
 pub mod Gate
-pub mod Turns
+pub mod TableKinds
 pub mod Tables
 pub mod Invariant
 pub mod Reliances
@@ -31,4 +31,4 @@ pub mod SoundEffects
 pub mod SoundPerform
 pub mod ListChains
 pub mod SoundKept
-pub mod Standing
+pub mod Simulation

@@ -26,7 +26,7 @@ use Rattle.lock_rules.specs.Feed.{OperationLog, Plain, new-log, log-afte
 use Rattle.lock_rules.proofs.Each.{each-operation}
 use Rattle.lock_rules.proofs.Objects.{ListObject, empty}
 use Rattle.lock_rules.proofs.Perform.{Performed}
-use Rattle.lock_rules.proofs.Turns.{by-event}
+use Rattle.lock_rules.proofs.TableKinds.{by-event}
 use Rattle.lock_rules.proofs.Tables.{ListThread, ListTable, seen-from, states-at, put-back, perform-at, begin-at, list-kind, turn, final}
 use Rattle.lock_rules.proofs.Tables.{shown, fresh-object, fresh, seen-idle, seen-here, seen-elsewhere}
 use Rattle.lock_rules.proofs.Invariant.{phase-row, leaving?, Ghost, ThreadOk, ObjectOk, Invariant, monitor-of, Refines}

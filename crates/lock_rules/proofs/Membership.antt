@@ -9,7 +9,7 @@ use Rattle.laws.proofs.Choice.{equal?, either-way}
 use Rattle.laws.proofs.Count.{count-none, count-same, count-other}
 use Rattle.chains.specs.declared.named.Chain.{Chain}
 use Rattle.lock_rules.proofs.Changes.{sent-back}
-use Rattle.lock_rules.specs.declared.{Suspension.Suspension, Carried.Carried, ThreadState.ThreadState, Taken.Taken, ChainWork.ChainWork}
+use Rattle.lock_rules.specs.declared.{Suspension.Suspension, OnwardStep.OnwardStep, ThreadState.ThreadState, Taken.Taken, ChainWork.ChainWork}
 use Rattle.lock_rules.specs.declared.ThreadState.the-variants.{Queued, Contending, Waiting}
 use Rattle.lock_rules.specs.declared.Taken.the-variants.{First}
 use Rattle.lock_rules.specs.declared.ChainWork.the-variants.{Stay, Join, JoinAndHand, Hand, Move, SendBack}
@@ -40,7 +40,7 @@ PlacedAt t state o = Placed state t (o .entry) (o .contention) (o .waiting)
 
 -- the state of a thread that is in the chain
 abbrev pub ParkedIn : Chain → ThreadState → Type 0
-ParkedIn Chain.Entry state = (carried : Carried) × (state ≡ Queued carried)
+ParkedIn Chain.Entry state = (carried : OnwardStep) × (state ≡ Queued carried)
 ParkedIn Chain.Contention state = state ≡ Contending
 ParkedIn Chain.Waiting state = (suspension : Suspension) × (state ≡ Waiting suspension)
 

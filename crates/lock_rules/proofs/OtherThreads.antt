@@ -14,7 +14,7 @@ use Rattle.chains.specs.declared.named.Chain.{Chain}
 use Rattle.lock_rules.specs.Rules.{onward}
 use Rattle.lock_rules.proofs.Each.{each-state, each-carried, each-chain}
 use Rattle.lock_rules.proofs.Changes.{sent-back}
-use Rattle.lock_rules.specs.declared.{Suspension.Suspension, Carried.Carried, ThreadState.ThreadState, Taken.Taken}
+use Rattle.lock_rules.specs.declared.{Suspension.Suspension, OnwardStep.OnwardStep, ThreadState.ThreadState, Taken.Taken}
 use Rattle.lock_rules.specs.declared.ThreadState.the-variants.{Idle, Running, Queued, Contending, Waiting}
 use Rattle.lock_rules.specs.declared.Taken.the-variants.{First, All}
 use Rattle.lock_word.specs.declared.meaning.WordSeen.{WordSeen}
@@ -57,7 +57,7 @@ abbrev pub inflated : ListObject → ℕ → ListObject
 inflated o depth = with-depth (with-flag (with-word (moved-object Chain.Contention All o) Fat) false) depth
 
 -- a queued thread that is handed the monitor
-handed-ok : (t : ℕ) (o : ListObject) (log : OperationLog) (woken : Bool) (suspension : Suspension) → t ≢ 0 → first-of (o .entry) ≡ t → (carried : Carried)
+handed-ok : (t : ℕ) (o : ListObject) (log : OperationLog) (woken : Bool) (suspension : Suspension) → t ≢ 0 → first-of (o .entry) ≡ t → (carried : OnwardStep)
     → ThreadOk t (Queued carried) o log woken suspension → PlacedAt t (Running (onward carried)) (handed-object o)
     → ThreadOk t (Running (onward carried)) (handed-object o) log woken suspension
 handed-ok t o log woken suspension real first =

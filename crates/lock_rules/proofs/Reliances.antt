@@ -6,8 +6,8 @@ use mathlib.Core.Bool.{Bool, true, false}
 use native.Mathlib.Omega.{arith}
 use Rattle.lock_rules.proofs.Each.{each-doing, each-state, each-carried, each-word}
 use Rattle.lock_rules.proofs.Changes.{look-again}
-use Rattle.lock_rules.specs.declared.{Suspension.Suspension, Carried.Carried, Doing.Doing, ThreadState.ThreadState}
-use Rattle.lock_rules.specs.declared.Carried.the-variants.{ToCheck, ToTell, ToInflate, ToResume}
+use Rattle.lock_rules.specs.declared.{Suspension.Suspension, OnwardStep.OnwardStep, Doing.Doing, ThreadState.ThreadState}
+use Rattle.lock_rules.specs.declared.OnwardStep.the-variants.{ToCheck, ToTell, ToInflate, ToResume}
 use Rattle.lock_rules.specs.declared.ThreadState.the-variants.{Idle, Running, Queued, Contending, Waiting}
 use Rattle.lock_word.specs.declared.meaning.WordSeen.{WordSeen}
 use Rattle.lock_word.specs.declared.meaning.WordSeen.the-variants.{Fat, Reserved}
@@ -148,7 +148,7 @@ sent-back-row = each-doing _ (search)
 no-more : {A : Type 0} {n : ℕ} → 0 ≡ suc n → A
 no-more e = absurd (omega arith)
 
-pub is-queued : (state : ThreadState) (n : ℕ) → in-entry state ≡ suc n → (carried : Carried) × (state ≡ Queued carried) × (n ≡ 0)
+pub is-queued : (state : ThreadState) (n : ℕ) → in-entry state ≡ suc n → (carried : OnwardStep) × (state ≡ Queued carried) × (n ≡ 0)
 is-queued = each-state _ (search no-more, search no-more, λ carried n e. (carried, refl, omega arith), search no-more, search no-more)
 
 pub is-contending : (state : ThreadState) (n : ℕ) → in-contention state ≡ suc n → (state ≡ Contending) × (n ≡ 0)

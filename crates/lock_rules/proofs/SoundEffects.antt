@@ -17,9 +17,9 @@ use Rattle.lock_rules.specs.Rules.{onward, owner-seen, enter-look, exit-
 use Rattle.lock_rules.specs.Rules.{enter-store, exit-store, cancel, go-in-again, go-in, holder-only, enter-check, enter-try, exit-test}
 use Rattle.lock_rules.specs.Rules.{exit-tell}
 use Rattle.lock_rules.specs.Rules.{exit-leave, wait-inflate, wait-give-up, wait-resume, decide}
-use Rattle.lock_rules.specs.declared.{Carried.Carried, Doing.Doing, ThreadState.ThreadState, WordChange.WordChange, Sight.Sight}
+use Rattle.lock_rules.specs.declared.{OnwardStep.OnwardStep, Doing.Doing, ThreadState.ThreadState, WordChange.WordChange, Sight.Sight}
 use Rattle.lock_rules.specs.declared.{ChainWork.ChainWork, Answer.Answer, Effect.Effect, Action.Action}
-use Rattle.lock_rules.specs.declared.Carried.the-variants.{ToCheck, ToTell, ToInflate}
+use Rattle.lock_rules.specs.declared.OnwardStep.the-variants.{ToCheck, ToTell, ToInflate}
 use Rattle.lock_rules.specs.declared.Doing.the-variants.{EnterLook, EnterStore, EnterCancel, EnterGoIn, EnterCheck, EnterTry, ExitLook}
 use Rattle.lock_rules.specs.declared.Doing.the-variants.{ExitStore}
 use Rattle.lock_rules.specs.declared.Doing.the-variants.{ExitGoIn, ExitTest, ExitTell, ExitLeave, WaitLook, WaitCancel, WaitGoIn, WaitInflate}
@@ -133,13 +133,13 @@ module _ (threads thread : ℕ) (sight : Sight) (real : thread ≢ 0) (deep : si
   reserved-above : (owner c : ℕ) → owner-of (Reserved owner c) (sight .holder) (sight .depth) ≡ thread → 0 < c
   reserved-above owner c own = reserved-owned owner c thread real own .0
 
-  go-in-fine : (carried : Carried) → DoingFine (onward carried) → Fine (go-in thread sight carried)
+  go-in-fine : (carried : OnwardStep) → DoingFine (onward carried) → Fine (go-in thread sight carried)
   unfolding go-in go-in-again
   go-in-fine carried fine =
       equal-fine (sight .holder) 0 _ _ (λ free. search inr)
       (λ held. either-fine (eqb (sight .holder) thread) _ _ (again carried held) (search inl))
     where
-      again : (carried : Carried) → sight .holder ≢ 0 → Fine (go-in-again sight carried)
+      again : (carried : OnwardStep) → sight .holder ≢ 0 → Fine (go-in-again sight carried)
       again =
           each-carried _ (
             λ held. either-fine (eqb (sight .depth) 0) _ _ tt (below-fine (sight .depth) depth-limit _ _ (λ l. search (inl, arith)) (λ l. search inl)),

@@ -19,7 +19,7 @@ use Rattle.lock_rules.specs.declared.event.Event.{Event}
 use Rattle.lock_rules.proofs.Each.{each-operation}
 use Rattle.lock_rules.proofs.Objects.{empty, sight-of}
 use Rattle.lock_rules.proofs.Perform.{Performed}
-use Rattle.lock_rules.proofs.Turns.{by-event}
+use Rattle.lock_rules.proofs.TableKinds.{by-event}
 use Rattle.lock_rules.proofs.Tables.{ListThread, ListTable, seen-from, states-at, perform-at, begin-at, step-at, list-kind, turn, final}
 use Rattle.lock_rules.proofs.Tables.{fresh-word}
 use Rattle.lock_rules.proofs.Tables.{fresh, seen-idle, seen-here, seen-elsewhere}

@@ -18,7 +18,7 @@ use Rattle.lock_rules.specs.declared.event.Event.{Event}
 use Rattle.lock_rules.specs.Events.{Answered, Shown}
 use Rattle.lock_rules.proofs.Objects.{ListObject, object-of, sight-of}
 use Rattle.lock_rules.proofs.Perform.{Performed, perform}
-use Rattle.lock_rules.proofs.Turns.{TurnOf, Kind, turn-on, final-on, shown-on}
+use Rattle.lock_rules.proofs.TableKinds.{TurnOf, Kind, turn-on, final-on, shown-on}
 
 -- a thread's object and state; the object of an idle thread is its last one
 pub record ListThread : Type 0 where

@@ -11,8 +11,8 @@ use Rattle.lock_word.specs.Meaning.{owner-of}
 use Rattle.lock_rules.specs.Operations.{Operation}
 use Rattle.lock_rules.specs.Operations.{Enter, Exit, Wait, Notify, NotifyAll}
 use Rattle.lock_rules.specs.declared.Suspension.{Suspension}
-use Rattle.lock_rules.specs.declared.Carried.{Carried}
-use Rattle.lock_rules.specs.declared.Carried.the-variants.{ToCheck, ToTell, ToInflate, ToResume}
+use Rattle.lock_rules.specs.declared.OnwardStep.{OnwardStep}
+use Rattle.lock_rules.specs.declared.OnwardStep.the-variants.{ToCheck, ToTell, ToInflate, ToResume}
 use Rattle.lock_rules.specs.declared.Doing.{Doing}
 use Rattle.lock_rules.specs.declared.Doing.the-variants.{EnterLook, EnterStore, EnterCancel, EnterGoIn, EnterCheck, EnterTry, ExitLook}
 use Rattle.lock_rules.specs.declared.Doing.the-variants.{ExitStore, ExitGoIn, ExitTest, ExitTell, ExitLeave, WaitLook, WaitCancel, WaitGoIn}
@@ -39,7 +39,7 @@ begun Notify = NotifyLook
 begun NotifyAll = NotifyAllLook
 
 -- what a queued thread does when the monitor is handed to it
-abbrev pub onward : Carried → Doing
+abbrev pub onward : OnwardStep → Doing
 onward ToCheck = EnterCheck
 onward ToTell = ExitTell
 onward ToInflate = WaitInflate
@@ -121,7 +121,7 @@ cancel sight look (Flat owner count) = go-on sight look
 cancel sight look (Reserved owner count) = cancel-word sight (SendBack owner) look
 
 -- 4 go in, the holder itself: enter, depth above 0, depth + 1, finish (c), or 19 (c); else 20
-unfoldable pub go-in-again : Sight → Carried → Action
+unfoldable pub go-in-again : Sight → OnwardStep → Action
 go-in-again sight ToCheck =
     pick (eqb (sight .depth) 0) Unruled
     (pick (ltb (sight .depth) depth-limit) (finish-depth sight (sight .depth + 1)) (keep-object sight Stay Idle TooDeep true))
@@ -130,7 +130,7 @@ go-in-again sight ToInflate = Unruled
 go-in-again sight (ToResume suspension) = Unruled
 
 -- 4 go in: holder 0, become holder; to 6, 10 or 12 for enter, exit, wait. Holder another: join entry, phase 5, carrying that same 6, 10 or 12.
-unfoldable pub go-in : ℕ → Sight → Carried → Action
+unfoldable pub go-in : ℕ → Sight → OnwardStep → Action
 go-in thread sight carried =
     pick (eqb (sight .holder) 0) (become-holder thread sight (onward carried))
     (pick (eqb (sight .holder) thread) (go-in-again sight carried) (keep-object sight (Join Chain.Entry) (Queued carried) Parked false))

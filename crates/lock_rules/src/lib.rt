@@ -16,7 +16,7 @@ pub struct Suspension {
 }
 
 // What a queued thread goes on with when the monitor is handed to it.
-pub enum Carried {
+pub enum OnwardStep {
     ToCheck, // 6, an enter
     ToTell, // 10, an exit
     ToInflate, // 12, a wait
@@ -51,7 +51,7 @@ pub enum Doing {
 pub enum ThreadState {
     Idle, // 0
     Running(Doing), // every other phase
-    Queued(Carried), // 5, in the entry chain
+    Queued(OnwardStep), // 5, in the entry chain
     Contending, // 8, in the contention chain
     Waiting(Suspension), // 14, in the waiting chain
 }

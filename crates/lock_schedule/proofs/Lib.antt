@@ -1,5 +1,5 @@
 -- Demand 3 of the engine, from demand 3 over tables with lists; that a sound table stays sound; and the runs of encoded schedules.
-pub mod Turns
-pub mod FreshWhole
+pub mod EngineKind
+pub mod FreshWellTyped
 pub mod Theorem
 pub mod Runs

@@ -6,11 +6,11 @@ use mathlib.Core.List.{List, [], _∷_}
 use Rattle.lock_rules.specs.declared.event.Event.{Event}
 use Rattle.lock_rules.specs.Events.{Shown}
 use Rattle.lock_rules.specs.Feed.{feed-all, blank}
-use Rattle.lock_rules.proofs.Turns.{TurnOf, turn-on, final-on, shown-on}
+use Rattle.lock_rules.proofs.TableKinds.{TurnOf, turn-on, final-on, shown-on}
 use Rattle.lock_rules.proofs.Tables.{ListTable, turn, fresh}
 use Rattle.lock_rules.proofs.ListSound.{SoundTable}
 use Rattle.lock_rules.proofs.SoundKept.{sound-fresh}
-use Rattle.lock_table.specs.Whole.{Whole}
+use Rattle.lock_table.specs.WellTyped.{WellTyped}
 use Rattle.lock_table.specs.Fresh.{InRange, fresh-of}
 use Rattle.lock_table.specs.declared.fresh_table.FreshRequest.{FreshRequest}
 use Rattle.lock_table.specs.declared.record.Table.{Table}
@@ -27,8 +27,8 @@ use Rattle.lock_records.proofs.RepresentedSound.{represented-sound}
 use Rattle.lock_records.proofs.SoundRepresents.{sound-represents}
 use Rattle.lock_schedule.specs.Schedule.{final-of, shown-of}
 use Rattle.lock_schedule.specs.Demand.{DemandThree, SoundKept}
-use Rattle.lock_schedule.proofs.Turns.{turn-of, event-is-turn}
-use Rattle.lock_schedule.proofs.FreshWhole.{represented-whole}
+use Rattle.lock_schedule.proofs.EngineKind.{turn-of, event-is-turn}
+use Rattle.lock_schedule.proofs.FreshWellTyped.{represented-well-typed}
 
 module _ (threads objects : ℕ) (some-threads : 1 ≤ threads) (some-objects : 1 ≤ objects) where
   -- one event of the engine, on a table that represents a sound one
@@ -73,10 +73,10 @@ demand-three request in-range events =
     )
 
 -- what an event makes of a sound table represents sound lists again
-event-represents : (t : Table) → Whole t → sound-of t ≡ true → (event : Event)
+event-represents : (t : Table) → WellTyped t → sound-of t ≡ true → (event : Event)
     → (lists : ListTable) × Represents (t .threadcount) (t .objectcount) (handle t event .table) lists × SoundTable (t .threadcount) (t .objectcount) lists
-event-represents t whole sound event =
-    let (lists, represents, fine) = sound-represents t (whole .threads) (whole .objects) (λ o real inside. whole .depths o) sound in
+event-represents t typed sound event =
+    let (lists, represents, fine) = sound-represents t (typed .threads) (typed .objects) (λ o real inside. typed .depths o) sound in
     let (after, fine-after, reply) = turn-represents (t .threadcount) (t .objectcount) t lists represents fine event in (
       turn (t .threadcount) (t .objectcount) lists event .table,
       rw (ap (λ (x : TurnOf Table). x .table) (event-is-turn t sound event)) after,
@@ -85,13 +85,13 @@ event-represents t whole sound event =
 
 -- a sound table stays sound
 pub sound-kept : SoundKept
-sound-kept t whole sound event =
-    let (lists, represents, fine) = event-represents t whole sound event in
+sound-kept t typed sound event =
+    let (lists, represents, fine) = event-represents t typed sound event in
     let (threads, objects) = sound-reads t sound .sizes in
     represented-sound (t .threadcount) (t .objectcount) (handle t event .table) lists (threads .0) (objects .0) represents fine
 
 -- and whole
-pub whole-kept : (t : Table) → Whole t → sound-of t ≡ true → (event : Event) → Whole (handle t event .table)
-whole-kept t whole sound event =
-    let (lists, represents, fine) = event-represents t whole sound event in
-    represented-whole (t .threadcount) (t .objectcount) (handle t event .table) lists represents fine
+pub well-typed-kept : (t : Table) → WellTyped t → sound-of t ≡ true → (event : Event) → WellTyped (handle t event .table)
+well-typed-kept t typed sound event =
+    let (lists, represents, fine) = event-represents t typed sound event in
+    represented-well-typed (t .threadcount) (t .objectcount) (handle t event .table) lists represents fine

@@ -4,7 +4,7 @@ use mathlib.Core.Bool.{true}
 use mathlib.Core.List.{List}
 use Rattle.lock_rules.specs.declared.event.Event.{Event}
 use Rattle.lock_rules.specs.Feed.{feed-all, blank}
-use Rattle.lock_table.specs.Whole.{Whole}
+use Rattle.lock_table.specs.WellTyped.{WellTyped}
 use Rattle.lock_table.specs.Fresh.{InRange, fresh-of}
 use Rattle.lock_table.specs.declared.fresh_table.FreshRequest.{FreshRequest}
 use Rattle.lock_table.specs.declared.record.Table.{Table}
@@ -26,4 +26,4 @@ DemandThree =
 
 -- Every event on any sound table, reached by a schedule or not, gives a sound table.
 abbrev pub SoundKept : Type 0
-SoundKept = (table : Table) → Whole table → sound-of table ≡ true → (event : Event) → sound-of (handle table event .table) ≡ true
+SoundKept = (table : Table) → WellTyped table → sound-of table ≡ true → (event : Event) → sound-of (handle table event .table) ≡ true

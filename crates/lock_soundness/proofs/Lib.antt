@@ -2,6 +2,6 @@
 pub mod Chained
 pub mod Reading
 pub mod Marks
-pub mod Turns
+pub mod OnePassTurns
 pub mod OnePass
 pub mod Exactly

@@ -35,7 +35,7 @@ use Rattle.laws.proofs.Facts.{Reads, reads-map, reads-as, reads-eqb, reads-then
 use Rattle.laws.proofs.Facts.{reads-used-and-past, reads-same}
 use Rattle.lock_soundness.proofs.Chained.{follow, reads-chain, members-real}
 use Rattle.lock_soundness.proofs.Reading.{Each, threads-in-chain, Sound, reads-sizes, sound-is}
-use Rattle.lock_soundness.proofs.Turns.{empty-passes}
+use Rattle.lock_soundness.proofs.OnePassTurns.{empty-passes}
 use Rattle.lock_soundness.proofs.Marks.{either-no, either-yes, IsMarked, reads-more, reads-right, marked-length, reads-marked}
 
 -- a first test that says more than the second asks

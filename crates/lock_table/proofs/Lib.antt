@@ -3,6 +3,6 @@ pub mod Records
 pub mod Places
 pub mod Walks
 pub mod FreshTables
-pub mod Owned
+pub mod OwnedTables
 pub mod Operations
 pub mod Narrowed

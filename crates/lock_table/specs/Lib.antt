@@ -5,7 +5,7 @@ pub mod Phase
 pub mod Record
 pub mod Access
 pub mod Place
-pub mod Whole
+pub mod WellTyped
 pub mod Parked
 pub mod Monitor
 pub mod Chain

@@ -3,4 +3,4 @@ pub mod Counts
 pub mod Draining
 pub mod Taking
 pub mod Running
-pub mod Whole
+pub mod EndedRuns

@@ -2,6 +2,6 @@
 pub mod Turn
 pub mod Taken
 pub mod Passing
-pub mod Whole
+pub mod AnySplit
 pub mod MovedDown
 pub mod Kept

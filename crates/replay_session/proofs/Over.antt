@@ -8,7 +8,7 @@ use Rattle.laws.proofs.Choice.{false≢true}
 use Rattle.lock_table.specs.declared.record.Table.{Table}
 use Rattle.replay_text.specs.Text.{answer-text}
 use Rattle.replay_parts.specs.Replay.{rest-output}
-use Rattle.replay_parts.proofs.Whole.{over-silent}
+use Rattle.replay_parts.proofs.AnySplit.{over-silent}
 use Rattle.replay_session.specs.Session.{react-at-stage, closing-by, closing-of, over-by, session-over, session-replay}
 use Rattle.replay_session.specs.declared.session.{Stage.Stage, Session.Session}
 use Rattle.replay_session.specs.declared.session.Stage.the-variants.{Opening, Running, Over}

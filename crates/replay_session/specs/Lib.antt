@@ -1,3 +1,3 @@
 -- What each line of a replay does and prints.
 pub mod Session
-pub mod Known
+pub mod Trusting

@@ -27,7 +27,7 @@ use replay_text::Answer;
 ghost use mathlib.Core.Path.{_≡_};
 ghost use Rattle.lock_rules.specs.Numbers.{first-refusal};
 ghost use Rattle.replay_session.specs.Session.{staying, opened-by, open-by, phase-of, word-of, answer-from, answer-with, after-event, closing-by, closing-of};
-ghost use Rattle.replay_session.specs.Known.{event-known, line-event, is-event, runs-event, turn-answer, run-by, react-by, react-trusting};
+ghost use Rattle.replay_session.specs.Trusting.{event-known, line-event, is-event, runs-event, turn-answer, run-by, react-by, react-trusting};
 
 pub struct Reaction {
     pub session: Session,
@@ -208,7 +208,7 @@ fn react_by(stage: Stage, table: Table, line: Line, issound: bool) -> Reaction
 }
 
 // A line is taken by a caller that is trusted to know whether the session's table is sound: with `issound` as session_sound has it this is
-// what document 01 says of the line (replay_stream/proofs/Known.antt).
+// what document 01 says of the line (replay_stream/proofs/SoundSession.antt).
 pub fn react_trusting(session: Session, line: Line, issound: bool) -> Reaction
     ensures { λ r. ⌜ r ≡ react-trusting session line issound ⌝ }
 {

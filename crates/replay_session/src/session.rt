@@ -2,7 +2,7 @@
 use lock_table::Table;
 ghost use mathlib.Core.Path.{_≡_};
 ghost use Rattle.replay_session.specs.Session.{no-table, fresh-session, over-by, session-over};
-ghost use Rattle.replay_session.specs.Known.{sound-by, session-sound};
+ghost use Rattle.replay_session.specs.Trusting.{sound-by, session-sound};
 
 pub enum Stage {
     // the header is to come

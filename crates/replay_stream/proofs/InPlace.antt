@@ -10,7 +10,7 @@ use Rattle.lock_rules.specs.Gate.{event-thread}
 use Rattle.lock_rules.specs.declared.event.Event.{Event}
 use Rattle.lock_table.specs.Phase.{phase-number}
 use Rattle.lock_table.specs.Access.{thread-at, object-at}
-use Rattle.lock_table.specs.Whole.{Whole}
+use Rattle.lock_table.specs.WellTyped.{WellTyped}
 use Rattle.lock_table.specs.declared.record.{ThreadRecord.ThreadRecord, Table.Table}
 use Rattle.lock_soundness.specs.Sound.{sound-of}
 use Rattle.lock_engine.specs.Outcome.{reply-returned, reply-woken}
@@ -24,10 +24,10 @@ use Rattle.replay_lines.specs.declared.reading.Line.{Line}
 use Rattle.replay_lines.specs.declared.reading.Line.the-variants.{Header, Begin, Step, Malformed}
 use Rattle.replay_text.specs.declared.answer.Answer.{Answer}
 use Rattle.replay_session.specs.Session.{answer-from, answer-with}
-use Rattle.replay_session.specs.Known.{sound-by, event-known, line-event, is-event, runs-event, turn-answer, run-by, react-by, react-trusting}
+use Rattle.replay_session.specs.Trusting.{sound-by, event-known, line-event, is-event, runs-event, turn-answer, run-by, react-by, react-trusting}
 use Rattle.replay_session.specs.declared.session.Stage.{Stage}
 use Rattle.replay_session.specs.declared.session.Stage.the-variants.{Opening, Running, Over}
-use Rattle.replay_stream.proofs.Known.{WholeBy}
+use Rattle.replay_stream.proofs.SoundSession.{WellTypedBy}
 
 -- a refusal prints its number, whatever else there is to print
 refused-alike : (number phase woken word phase′ word′ : ℕ) → leb first-refusal number ≡ true
@@ -35,7 +35,7 @@ refused-alike : (number phase woken word phase′ word′ : ℕ) → leb first-r
 unfolding answer-from
 refused-alike number phase woken word phase′ word′ high = rw high refl
 
-module _ (t : Table) (event : Event) (issound : Bool) (known : issound ≡ sound-of t) (whole : Whole t) where
+module _ (t : Table) (event : Event) (issound : Bool) (known : issound ≡ sound-of t) (typed : WellTyped t) where
   abbrev outcome : Outcome
   outcome = handle-trusting t event issound
 
@@ -50,7 +50,7 @@ module _ (t : Table) (event : Event) (issound : Bool) (known : issound ≡ sound
       (λ high. refused-alike (reply-returned (turned .reply)) _ (reply-woken (turned .reply)) _ _ _ high)
       (λ low.
       let accepted : reply-returned (turned .reply) < first-refusal = leb-false first-refusal (reply-returned (turned .reply)) low in
-      let full : Full t = record { threads = whole .threads; objects = whole .objects } in
+      let full : Full t = record { threads = typed .threads; objects = typed .objects } in
       let (phase, word) = event-leaves t event issound known full accepted in
       let own = own-here t event issound (has-thread t event issound known accepted) in
       sym
@@ -60,10 +60,10 @@ module _ (t : Table) (event : Event) (issound : Bool) (known : issound ≡ sound
       ∙ (λ j. answer-with (reply-returned (turned .reply)) (phase-number (phase j)) (reply-woken (turned .reply)) (word j)))))
 
 module _ {t : Table} {event : Event} {issound : Bool} {thread place number home : ℕ} {turn : Turn}
-    (taken : Taken t event issound thread place number home turn) (known : issound ≡ sound-of t) (whole : Whole t) where
+    (taken : Taken t event issound thread place number home turn) (known : issound ≡ sound-of t) (typed : WellTyped t) where
   prints-so : turn-answer (turn .reply) (turn .own .phase) (turn .object .word) ≡ event-known t event issound .answer
   prints-so =
-      rw (taken .turn-is, taken .home-is, taken .number-is, taken .place-is, taken .thread-is) (prints-here t event issound known whole)
+      rw (taken .turn-is, taken .home-is, taken .number-is, taken .place-is, taken .thread-is) (prints-here t event issound known typed)
 
   -- so the event is what was to be known of it
   pub event-so : {after : Table} {answer : Answer} → record { table = after; reply = turn .reply; commits = turn .commits } ≡ handle-trusting t event issound
@@ -84,15 +84,15 @@ event-line table Malformed issound is = false≢true is
 pub line-in-place : (stage : Stage) {table : Table} {line said : Line} {event : Event} {issound : Bool}
     {thread place number home : ℕ} {turn : Turn} {after : Table} {answer : Answer}
     → Taken table event issound thread place number home turn → runs-event stage line ≡ true → line ≡ said → event ≡ line-event line
-    → issound ≡ sound-by stage table → WholeBy stage table
+    → issound ≡ sound-by stage table → WellTypedBy stage table
     → record { table = after; reply = turn .reply; commits = turn .commits } ≡ handle-trusting table event issound
     → answer ≡ turn-answer (turn .reply) (turn .own .phase) (turn .object .word)
     → record { session = record { stage = stage; table = after }; answer = answer }
     ≡ react-trusting (record { stage = stage; table = table }) said issound
 unfolding runs-event react-by sound-by
-line-in-place Opening taken runs read asks known whole handled is = false≢true runs
-line-in-place Running {table} {line} {issound = issound} taken runs read asks known whole handled is =
-    event-so taken known whole handled is
+line-in-place Opening taken runs read asks known typed handled is = false≢true runs
+line-in-place Running {table} {line} {issound = issound} taken runs read asks known typed handled is =
+    event-so taken known typed handled is
     ∙ (ap (λ (event : Event). event-known table event issound) asks
     ∙ (event-line table line issound runs ∙ ap (λ (line : Line). run-by table line issound) read))
-line-in-place Over taken runs read asks known whole handled is = false≢true runs
+line-in-place Over taken runs read asks known typed handled is = false≢true runs

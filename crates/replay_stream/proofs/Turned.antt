@@ -15,17 +15,17 @@ use Rattle.replay_parts.proofs.Turn.{Going, going-next}
 use Rattle.replay_session.specs.declared.session.Session.{Session}
 use Rattle.replay_session.specs.declared.reacting.Reaction.{Reaction}
 use Rattle.replay_session.specs.Session.{react-of, closing-of, session-replay}
-use Rattle.replay_session.specs.Known.{session-sound, react-trusting}
-use Rattle.replay_stream.proofs.Known.{WholeBy, react-known, session-kept}
+use Rattle.replay_session.specs.Trusting.{session-sound, react-trusting}
+use Rattle.replay_stream.proofs.SoundSession.{WellTypedBy, react-known, session-kept}
 use Rattle.replay_session.proofs.Over.{closed-silent}
 use Rattle.replay_stream.specs.Stream.{Turned, Closed}
 
 module _ {before after : List ℕ} {at wrote : ℕ} (session : Session) (fits : at + line-room ≤ length before) where
-  pub turned : WholeBy (session .stage) (session .table) → (line : List ℕ) {issound : Bool} → issound ≡ session-sound session
+  pub turned : WellTypedBy (session .stage) (session .table) → (line : List ℕ) {issound : Bool} → issound ≡ session-sound session
       → {reaction : Reaction} → reaction ≡ react-trusting session (read-line line) issound
       → Put before after at wrote (answer-text (reaction .answer))
       → Turned session line before after at (record { session = reaction .session; wrote = wrote })
-  turned whole line known {reaction} gave put =
+  turned typed line known {reaction} gave put =
       let short = answer-fits (reaction .answer) in
       let reacted : reaction ≡ react-of session (read-line line) = gave ∙ react-known session (read-line line) known in
       record {
@@ -33,7 +33,7 @@ module _ {before after : List ℕ} {at wrote : ℕ} (session : Session) (fits : 
         front = put-front fits short put ∙ ap (λ (x : Reaction). take at before ++ answer-text (x .answer)) reacted;
         most = put-most fits short put;
         within = put-within fits short put;
-        sound-kept = ap (λ (x : Reaction). session-sound (x .session)) reacted ∙ session-kept session whole (read-line line) .0;
+        sound-kept = ap (λ (x : Reaction). session-sound (x .session)) reacted ∙ session-kept session typed (read-line line) .0;
       }
 
   pub closed : {reaction : Reaction} → reaction ≡ closing-of session → Put before after at wrote (answer-text (reaction .answer))
@@ -47,25 +47,25 @@ module _ {before after : List ℕ} {at wrote : ℕ} (session : Session) (fits : 
       }
 
 -- the table stays whole
-pub still-whole : (session : Session) → WholeBy (session .stage) (session .table) → (line : List ℕ) {issound : Bool} → issound ≡ session-sound session
-    → {reaction : Reaction} → reaction ≡ react-trusting session (read-line line) issound → WholeBy (reaction .session .stage) (reaction .session .table)
-still-whole session whole line known gave =
-    subst (λ (x : Reaction). WholeBy (x .session .stage) (x .session .table)) (sym (gave ∙ react-known session (read-line line) known))
-    (session-kept session whole (read-line line) .1)
+pub still-well-typed : (session : Session) → WellTypedBy (session .stage) (session .table) → (line : List ℕ) {issound : Bool} → issound ≡ session-sound session
+    → {reaction : Reaction} → reaction ≡ react-trusting session (read-line line) issound → WellTypedBy (reaction .session .stage) (reaction .session .table)
+still-well-typed session typed line known gave =
+    subst (λ (x : Reaction). WellTypedBy (x .session .stage) (x .session .table)) (sym (gave ∙ react-known session (read-line line) known))
+    (session-kept session typed (read-line line) .1)
 
 -- a turn of the loop over lines: what holds between two lines, of a session whose soundness is known
 abbrev pub Between : Session → List ℕ → List ℕ → Bool → List ℕ → Session → List ℕ → ℕ → Type 0
 Between start input out₀ issound out session rest wrote =
-    Going session-replay start input out₀ out session rest wrote × (issound ≡ session-sound session) × WholeBy (session .stage) (session .table)
+    Going session-replay start input out₀ out session rest wrote × (issound ≡ session-sound session) × WellTypedBy (session .stage) (session .table)
 
 pub next-line : {start session : Session} {input out₀ out out′ rest : List ℕ} {issound : Bool} {wrote wrote′ n : ℕ} {reaction : Reaction}
     → Between start input out₀ issound out session rest wrote → n ≡ line-end rest → (n ≡ 0 → ⊥) → line-room ≤ length out - wrote
     → reaction ≡ react-trusting session (read-line (take n rest)) issound → Put out out′ wrote wrote′ (answer-text (reaction .answer)) → length out′ ≡ length out
     → Between start input out₀ issound out′ (reaction .session) (take (length rest - n) (drop n rest)) wrote′
-next-line {session = session} {rest = rest} {n = n} (going, known, whole) end some room gave put kept =
+next-line {session = session} {rest = rest} {n = n} (going, known, typed) end some room gave put kept =
     let line = take n rest in
-    let fits = turned session (omega (arith, room, going .wrote-within)) whole line known gave put in (
+    let fits = turned session (omega (arith, room, going .wrote-within)) typed line known gave put in (
       going-next going end some (fits .moved) (fits .front) (fits .within) kept,
       known ∙ sym (fits .sound-kept),
-      still-whole session whole line known gave,
+      still-well-typed session typed line known gave,
     )

@@ -11,7 +11,7 @@ use Rattle.lock_table.specs.declared.record.Table.{Table}
 use Rattle.replay_session.specs.declared.session.Stage.{Stage}
 use Rattle.replay_session.specs.declared.session.Session.{Session}
 use Rattle.replay_session.specs.Session.{fresh-session, session-replay}
-use Rattle.replay_session.specs.Known.{session-sound}
+use Rattle.replay_session.specs.Trusting.{session-sound}
 use Rattle.replay_stream.specs.declared.turn.Turn.{Turn}
 use Rattle.replay_stream.specs.declared.feeding.Stream.{Stream}
 use Rattle.replay_stream.specs.declared.feeding.Progress.{Progress}

@@ -18,7 +18,7 @@ ghost use lib.ListN.{length};
 ghost use Rattle.replay_lines.specs.Cutting.{line-end, line-limit};
 ghost use Rattle.replay_text.specs.Text.{line-room};
 ghost use Rattle.replay_parts.specs.Part.{HasLine};
-ghost use Rattle.replay_session.specs.Known.{turn-answer, react-trusting};
+ghost use Rattle.replay_session.specs.Trusting.{turn-answer, react-trusting};
 ghost use Rattle.replay_stream.specs.Stream.{fresh-stream, progressed, FedFrom, FedLines};
 use replay_lines::LINE_LIMIT;
 use replay_lines::Line;

@@ -3,7 +3,7 @@ ghost use mathlib.Core.Path.{_≡_};
 ghost use Prim.Native.Nat.{_+_, _≤_};
 ghost use lib.ListN.{length};
 ghost use Rattle.replay_text.specs.Text.{line-room};
-ghost use Rattle.replay_session.specs.Known.{session-sound};
+ghost use Rattle.replay_session.specs.Trusting.{session-sound};
 ghost use Rattle.replay_stream.specs.Stream.{Turned, Closed};
 use replay_session::Session;
 

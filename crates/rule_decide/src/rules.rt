@@ -1,7 +1,7 @@
 // The step of a thread that is neither idle nor parked: its phase's rule.
 use lock_rules::Action;
-use lock_rules::Carried;
 use lock_rules::Doing;
+use lock_rules::OnwardStep;
 use lock_rules::Sight;
 use rule_look::cancel;
 use rule_look::enter_look;
@@ -34,18 +34,18 @@ pub fn decide(thread: u8, sight: Sight, doing: Doing) -> Action
         Doing::EnterLook => enter_look(thread, sight, word),
         Doing::EnterStore(count) => enter_store(sight, count),
         Doing::EnterCancel => cancel(sight, Doing::EnterLook, word),
-        Doing::EnterGoIn => go_in(thread, sight, Carried::ToCheck),
+        Doing::EnterGoIn => go_in(thread, sight, OnwardStep::ToCheck),
         Doing::EnterCheck => holder_only(thread, sight, enter_check(thread, sight, word)),
         Doing::EnterTry => holder_only(thread, sight, enter_try(thread, sight, word)),
         Doing::ExitLook => owner_only(thread, sight, owner_seen(sight), exit_owned(sight, word)),
         Doing::ExitStore(count) => exit_store(sight, count),
-        Doing::ExitGoIn => go_in(thread, sight, Carried::ToTell),
+        Doing::ExitGoIn => go_in(thread, sight, OnwardStep::ToTell),
         Doing::ExitTest => exit_test(sight),
         Doing::ExitTell => holder_only(thread, sight, exit_tell(sight)),
         Doing::ExitLeave => holder_only(thread, sight, exit_leave(sight)),
         Doing::WaitLook => owner_only(thread, sight, owner_seen(sight), wait_owned(sight, word)),
         Doing::WaitCancel => cancel(sight, Doing::WaitLook, word),
-        Doing::WaitGoIn => go_in(thread, sight, Carried::ToInflate),
+        Doing::WaitGoIn => go_in(thread, sight, OnwardStep::ToInflate),
         Doing::WaitInflate => holder_only(thread, sight, wait_inflate(thread, sight, word)),
         Doing::WaitGiveUp => holder_only(thread, sight, wait_give_up(sight, word)),
         Doing::WaitResume(suspension) => holder_only(

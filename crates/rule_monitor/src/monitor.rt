@@ -2,9 +2,9 @@
 use chains::Chain;
 use lock_rules::Action;
 use lock_rules::Answer;
-use lock_rules::Carried;
 use lock_rules::ChainWork;
 use lock_rules::Doing;
+use lock_rules::OnwardStep;
 use lock_rules::Sight;
 use lock_rules::Suspension;
 use lock_rules::Taken;
@@ -21,23 +21,23 @@ use rule_actions::raise_flag;
 ghost use mathlib.Core.Path.{_≡_};
 ghost use Rattle.lock_rules.specs.Rules.{onward, go-in-again, go-in, holder-only, enter-check, enter-try, exit-test, exit-tell, exit-leave, wait-inflate, wait-give-up, wait-resume};
 
-fn onward(carried: Carried) -> Doing
+fn onward(carried: OnwardStep) -> Doing
     ensures { λ r. ⌜ r ≡ onward carried ⌝ }
 {
     match carried {
-        Carried::ToCheck => Doing::EnterCheck,
-        Carried::ToTell => Doing::ExitTell,
-        Carried::ToInflate => Doing::WaitInflate,
-        Carried::ToResume(suspension) => Doing::WaitResume(suspension),
+        OnwardStep::ToCheck => Doing::EnterCheck,
+        OnwardStep::ToTell => Doing::ExitTell,
+        OnwardStep::ToInflate => Doing::WaitInflate,
+        OnwardStep::ToResume(suspension) => Doing::WaitResume(suspension),
     }
 }
 
 // 4 go in, by the holder itself.
-fn go_in_again(sight: Sight, carried: Carried) -> Action
+fn go_in_again(sight: Sight, carried: OnwardStep) -> Action
     ensures { λ r. ⌜ r ≡ go-in-again sight carried ⌝ }
 {
     match carried {
-        Carried::ToCheck => {
+        OnwardStep::ToCheck => {
             if sight.depth == 0 {
                 return Action::Unruled;
             }
@@ -52,14 +52,14 @@ fn go_in_again(sight: Sight, carried: Carried) -> Action
                 true,
             )
         }
-        Carried::ToTell => Action::Unruled,
-        Carried::ToInflate => Action::Unruled,
-        Carried::ToResume(_) => Action::Unruled,
+        OnwardStep::ToTell => Action::Unruled,
+        OnwardStep::ToInflate => Action::Unruled,
+        OnwardStep::ToResume(_) => Action::Unruled,
     }
 }
 
 // 4 go in; `carried` is what the thread goes on with as holder.
-pub fn go_in(thread: u8, sight: Sight, carried: Carried) -> Action
+pub fn go_in(thread: u8, sight: Sight, carried: OnwardStep) -> Action
     ensures { λ r. ⌜ r ≡ go-in thread sight carried ⌝ }
 {
     if sight.holder == 0 {

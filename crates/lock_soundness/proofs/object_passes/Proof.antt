@@ -1,7 +1,7 @@
 -- `lock_soundness::object_passes` meets its contract: an empty record passes and marks nobody.
 use mathlib.Core.Path.{refl, sym, _∙_}
 use Rattle.lock_soundness.specs.OnePass.{object-passes}
-use Rattle.lock_soundness.proofs.Turns.{empty-object-turn}
+use Rattle.lock_soundness.proofs.OnePassTurns.{empty-object-turn}
 use Rattle.lock_soundness.proofs.object_passes.Statement.{statement}
 use Rattle.lock_soundness.proofs.object_passes.Tie as tie
 

@@ -9,7 +9,7 @@ use Rattle.laws.proofs.Every.{all-step, all-end}
 use Rattle.lock_table.specs.Limits.{object-limit}
 use Rattle.lock_table.proofs.Records.{object-in}
 use Rattle.lock_soundness.specs.OnePass.{object-turn, objects-marks}
-use Rattle.lock_soundness.proofs.Turns.{objects-marks-step, objects-marks-end}
+use Rattle.lock_soundness.proofs.OnePassTurns.{objects-marks-step, objects-marks-end}
 use Rattle.lock_soundness.proofs.objects_pass.Statement.{statement}
 use Rattle.lock_soundness.proofs.objects_pass.Tie as tie
 

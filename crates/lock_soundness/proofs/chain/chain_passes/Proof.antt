@@ -2,7 +2,7 @@
 use mathlib.Core.Path.{refl}
 use borrow.Author.Needs.{needs}
 use Rattle.lock_soundness.specs.OnePass.{chain-passes, chain-marks}
-use Rattle.lock_soundness.proofs.Turns.{empty-passes}
+use Rattle.lock_soundness.proofs.OnePassTurns.{empty-passes}
 use Rattle.lock_soundness.proofs.Marks.{marked-none}
 use Rattle.lock_soundness.proofs.chain.chain_passes.Statement.{statement}
 use Rattle.lock_soundness.proofs.chain.chain_passes.Tie as tie

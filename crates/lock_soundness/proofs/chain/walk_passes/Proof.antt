@@ -6,7 +6,7 @@ use native.Mathlib.Omega.{arith}
 use Rattle.chains.specs.Chain.{chain-test}
 use Rattle.chains.proofs.Turn.{chain-test-step, chain-test-end}
 use Rattle.lock_soundness.specs.OnePass.{next-in, member-fits, chain-passes, marked, chain-marks}
-use Rattle.lock_soundness.proofs.Turns.{next-here, member-here}
+use Rattle.lock_soundness.proofs.OnePassTurns.{next-here, member-here}
 use Rattle.lock_soundness.proofs.Marks.{marked-step, marked-end}
 use Rattle.lock_soundness.proofs.chain.walk_passes.Statement.{statement}
 use Rattle.lock_soundness.proofs.chain.walk_passes.Tie as tie

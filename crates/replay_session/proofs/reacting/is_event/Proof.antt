@@ -1,6 +1,6 @@
 -- `replay_session::reacting::is_event` meets its contract: each way through the code is that of the definition.
 use borrow.Author.Needs.{needs}
-use Rattle.replay_session.specs.Known.{is-event}
+use Rattle.replay_session.specs.Trusting.{is-event}
 use Rattle.replay_session.proofs.reacting.is_event.Statement.{statement}
 use Rattle.replay_session.proofs.reacting.is_event.Tie as tie
 

@@ -1,6 +1,6 @@
 -- `replay_session::reacting::line_event` meets its contract: each way through the code is that of the definition.
 use borrow.Author.Needs.{needs}
-use Rattle.replay_session.specs.Known.{line-event}
+use Rattle.replay_session.specs.Trusting.{line-event}
 use Rattle.replay_session.proofs.reacting.line_event.Statement.{statement}
 use Rattle.replay_session.proofs.reacting.line_event.Tie as tie
 

@@ -1,6 +1,6 @@
 -- `replay_session::reacting::react_by` meets its contract: each way through the code is that of the definition.
 use borrow.Author.Needs.{needs}
-use Rattle.replay_session.specs.Known.{react-by}
+use Rattle.replay_session.specs.Trusting.{react-by}
 use Rattle.replay_session.proofs.reacting.react_by.Statement.{statement}
 use Rattle.replay_session.proofs.reacting.react_by.Tie as tie
 

@@ -1,6 +1,6 @@
 -- `replay_session::reacting::run_by` meets its contract: each way through the code is that of the definition.
 use borrow.Author.Needs.{needs}
-use Rattle.replay_session.specs.Known.{run-by}
+use Rattle.replay_session.specs.Trusting.{run-by}
 use Rattle.replay_session.proofs.reacting.run_by.Statement.{statement}
 use Rattle.replay_session.proofs.reacting.run_by.Tie as tie
 

@@ -1,6 +1,6 @@
 -- `replay_session::reacting::runs_event` meets its contract: each way through the code is that of the definition.
 use borrow.Author.Needs.{needs}
-use Rattle.replay_session.specs.Known.{runs-event}
+use Rattle.replay_session.specs.Trusting.{runs-event}
 use Rattle.replay_session.proofs.reacting.runs_event.Statement.{statement}
 use Rattle.replay_session.proofs.reacting.runs_event.Tie as tie
 

@@ -1,6 +1,6 @@
 -- `replay_session::session::sound_by` meets its contract: each way through the code is that of the definition.
 use borrow.Author.Needs.{needs}
-use Rattle.replay_session.specs.Known.{sound-by}
+use Rattle.replay_session.specs.Trusting.{sound-by}
 use Rattle.replay_session.proofs.session.sound_by.Statement.{statement}
 use Rattle.replay_session.proofs.session.sound_by.Tie as tie
 

@@ -7,7 +7,7 @@ use borrow.Author.Needs.{needs}
 use Rattle.replay_lines.specs.Grammar.{read-line}
 use Rattle.replay_session.specs.declared.session.Session.{Session}
 use Rattle.replay_session.specs.Session.{session-replay}
-use Rattle.replay_parts.proofs.Whole.{end-inside, end-empty, end-piece, end-part}
+use Rattle.replay_parts.proofs.AnySplit.{end-inside, end-empty, end-piece, end-part}
 use Rattle.replay_stream.proofs.ending.take_end.Statement.{statement}
 use Rattle.replay_stream.proofs.ending.take_end.Tie as tie
 

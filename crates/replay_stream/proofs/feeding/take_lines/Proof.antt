@@ -9,9 +9,9 @@ use Rattle.lock_table.specs.Limits.{thread-limit, object-limit}
 use Rattle.lock_engine.proofs.InPlace.{Taken, stored-so, worked-so}
 use Rattle.lock_table.proofs.Places.{place-inside}
 use Rattle.replay_lines.proofs.Lines.{line-fits, line-length, rest-shorter}
-use Rattle.replay_session.proofs.OwnedSession.{session-whole}
+use Rattle.replay_session.proofs.OwnedSession.{session-well-typed}
 use Rattle.replay_parts.proofs.Turn.{going-first, going-stops}
-use Rattle.replay_stream.proofs.Known.{whole-by}
+use Rattle.replay_stream.proofs.SoundSession.{well-typed-by}
 use Rattle.replay_stream.proofs.InPlace.{line-in-place}
 use Rattle.replay_stream.proofs.Turned.{Between, next-line}
 use Rattle.replay_stream.proofs.feeding.take_lines.Statement.{statement}
@@ -29,7 +29,7 @@ loop-holds c =
     let start = c .before .before .before .before in (
       going-first _ _ _ _,
       c .before .session-sound .ensures,
-      whole-by (start .args .start .stage) (session-whole (start .args .start) _ (start .good .0)),
+      well-typed-by (start .args .start .stage) (session-well-typed (start .args .start) _ (start .good .0)),
     )
 
 returns : tie.Need-returns Inv-loop μ-loop

@@ -1,4 +1,4 @@
--- What a line does where it is known whether the session's table is sound. No line changes that (replay_stream/proofs/Known.antt), so a run over many lines
+-- What a line does where it is known whether the session's table is sound. No line changes that (replay_stream/proofs/SoundSession.antt), so a run over many lines
 -- tests once and not at every event.
 use Prim.Native.Nat.{ℕ}
 use mathlib.Core.Bool.{Bool, true, false}

@@ -13,7 +13,7 @@ use Rattle.lock_rules.specs.declared.event.Event.the-variants.{Begin as BeginEv
 use Rattle.lock_table.specs.Limits.{thread-limit, object-limit}
 use Rattle.lock_table.specs.Access.{thread-at}
 use Rattle.lock_table.specs.Fresh.{sized-request, fresh-of}
-use Rattle.lock_table.specs.Whole.{Whole}
+use Rattle.lock_table.specs.WellTyped.{WellTyped}
 use Rattle.lock_table.specs.declared.record.Table.{Table}
 use Rattle.lock_table.specs.declared.fresh_table.{FreshRequest.FreshRequest, FreshTable.FreshTable}
 use Rattle.lock_table.specs.Narrow.{narrow-of}
@@ -25,13 +25,13 @@ use Rattle.lock_gate.specs.Status.{thread-status}
 use Rattle.lock_engine.specs.Handle.{handle-trusting, handle}
 use Rattle.lock_engine.specs.declared.outcome.Outcome.{Outcome}
 use Rattle.lock_engine.proofs.Refused.{handle-shut}
-use Rattle.lock_schedule.proofs.FreshWhole.{fresh-whole}
-use Rattle.lock_schedule.proofs.Theorem.{reached-sound, sound-kept, whole-kept}
+use Rattle.lock_schedule.proofs.FreshWellTyped.{fresh-well-typed}
+use Rattle.lock_schedule.proofs.Theorem.{reached-sound, sound-kept, well-typed-kept}
 use Rattle.replay_lines.specs.declared.reading.Line.{Line}
 use Rattle.replay_lines.specs.declared.reading.Line.the-variants.{Header, Begin, Step, Malformed}
 use Rattle.replay_stream.proofs.Numbers.{narrow-begun, narrow-stepped}
 use Rattle.replay_session.specs.Session.{opened-by, open-by, after-event, run-of, react-at-stage, react-of}
-use Rattle.replay_session.specs.Known.{sound-by, session-sound, run-by, react-by, react-trusting}
+use Rattle.replay_session.specs.Trusting.{sound-by, session-sound, run-by, react-by, react-trusting}
 use Rattle.replay_session.specs.declared.session.{Stage.Stage, Session.Session}
 use Rattle.replay_session.specs.declared.session.Stage.the-variants.{Opening, Running, Over}
 
@@ -74,24 +74,24 @@ refused-same table event unsound = rw unsound (ap (λ (outcome : Outcome). outco
     shut (BeginEvent operation thread object) = refl
     shut (StepEvent thread) = refl
 
-event-same : (table : Table) → Whole table → (event : Event) (issound : Bool) → sound-of table ≡ issound → sound-of (handle table event .table) ≡ sound-of table
-event-same table whole event true sound = sound-kept table whole sound event ∙ sym sound
-event-same table whole event false unsound = ap sound-of (refused-same table event unsound)
+event-same : (table : Table) → WellTyped table → (event : Event) (issound : Bool) → sound-of table ≡ issound → sound-of (handle table event .table) ≡ sound-of table
+event-same table typed event true sound = sound-kept table typed sound event ∙ sym sound
+event-same table typed event false unsound = ap sound-of (refused-same table event unsound)
 
 -- the table of a session that has one is whole
-abbrev pub WholeBy : Stage → Table → Type 0
-WholeBy Opening table = Unit {0}
-WholeBy Running table = Whole table
-WholeBy Over table = Unit {0}
+abbrev pub WellTypedBy : Stage → Table → Type 0
+WellTypedBy Opening table = Unit {0}
+WellTypedBy Running table = WellTyped table
+WellTypedBy Over table = Unit {0}
 
-pub whole-by : (stage : Stage) {table : Table} → Whole table → WholeBy stage table
-whole-by Opening whole = tt
-whole-by Running whole = whole
-whole-by Over whole = tt
+pub well-typed-by : (stage : Stage) {table : Table} → WellTyped table → WellTypedBy stage table
+well-typed-by Opening typed = tt
+well-typed-by Running typed = typed
+well-typed-by Over typed = tt
 
 -- a header opens the session with a sound table, which is whole, or ends it
 abbrev Opens : FreshTable → Type 0
-Opens made = let session = opened-by (made .answer) (made .table) .session in (session-sound session ≡ true) × WholeBy (session .stage) (session .table)
+Opens made = let session = opened-by (made .answer) (made .table) .session in (session-sound session ≡ true) × WellTypedBy (session .stage) (session .table)
 
 opens : (request : FreshRequest) → Opens (fresh-of request)
 unfolding fresh-of opened-by sound-by
@@ -108,10 +108,10 @@ opens request =
     let real : 1 ≤ objects = let e = eqb-false objects 0 some-objects in omega (arith, e) in
     let small : objects ≤ object-limit = ltb-false object-limit objects fewer in
     let sound = reached-sound request (low, high, real, small) [] in
-    let whole = fresh-whole request (low, high, real, small) in
-    (rw (some, few, some-objects, fewer) at sound, rw (some, few, some-objects, fewer) at whole)))))
+    let typed = fresh-well-typed request (low, high, real, small) in
+    (rw (some, few, some-objects, fewer) at sound, rw (some, few, some-objects, fewer) at typed)))))
 
-open-kept : (table : Table) (line : Line) → let session = open-by table line .session in (session-sound session ≡ true) × WholeBy (session .stage) (session .table)
+open-kept : (table : Table) (line : Line) → let session = open-by table line .session in (session-sound session ≡ true) × WellTypedBy (session .stage) (session .table)
 unfolding open-by sound-by
 open-kept table (Header threads objects reserved) = opens (sized-request threads objects reserved)
 open-kept table (Begin operation thread object) = (refl, tt)
@@ -119,32 +119,32 @@ open-kept table (Step thread) = (refl, tt)
 open-kept table Malformed = (refl, tt)
 
 -- an event keeps the table whole, too
-event-whole : (table : Table) → Whole table → (event : Event) (issound : Bool) → sound-of table ≡ issound → Whole (handle table event .table)
-event-whole table whole event true sound = whole-kept table whole sound event
-event-whole table whole event false unsound = subst Whole (sym (refused-same table event unsound)) whole
+event-well-typed : (table : Table) → WellTyped table → (event : Event) (issound : Bool) → sound-of table ≡ issound → WellTyped (handle table event .table)
+event-well-typed table typed event true sound = well-typed-kept table typed sound event
+event-well-typed table typed event false unsound = subst WellTyped (sym (refused-same table event unsound)) typed
 
 abbrev Kept : Table → Session → Type 0
-Kept table session = (session-sound session ≡ sound-of table) × WholeBy (session .stage) (session .table)
+Kept table session = (session-sound session ≡ sound-of table) × WellTypedBy (session .stage) (session .table)
 
-run-kept : (table : Table) → Whole table → (line : Line) → Kept table (run-of table line .session)
+run-kept : (table : Table) → WellTyped table → (line : Line) → Kept table (run-of table line .session)
 unfolding run-of sound-by
-run-kept table whole (Header threads objects reserved) = (refl, whole)
-run-kept table whole (Begin operation thread object) =
+run-kept table typed (Header threads objects reserved) = (refl, typed)
+run-kept table typed (Begin operation thread object) =
     let event = BeginEvent operation thread object in
-    (event-same table whole event (sound-of table) refl, event-whole table whole event (sound-of table) refl)
-run-kept table whole (Step thread) =
-    (event-same table whole (StepEvent thread) (sound-of table) refl, event-whole table whole (StepEvent thread) (sound-of table) refl)
-run-kept table whole Malformed = (refl, whole)
+    (event-same table typed event (sound-of table) refl, event-well-typed table typed event (sound-of table) refl)
+run-kept table typed (Step thread) =
+    (event-same table typed (StepEvent thread) (sound-of table) refl, event-well-typed table typed (StepEvent thread) (sound-of table) refl)
+run-kept table typed Malformed = (refl, typed)
 
-react-kept : (stage : Stage) (table : Table) → WholeBy stage table → (line : Line)
+react-kept : (stage : Stage) (table : Table) → WellTypedBy stage table → (line : Line)
     → let session = react-at-stage stage table line .session in
-    (session-sound session ≡ sound-by stage table) × WholeBy (session .stage) (session .table)
+    (session-sound session ≡ sound-by stage table) × WellTypedBy (session .stage) (session .table)
 unfolding react-at-stage sound-by
-react-kept Opening table whole line = open-kept table line
-react-kept Running table whole line = run-kept table whole line
-react-kept Over table whole line = (refl, tt)
+react-kept Opening table typed line = open-kept table line
+react-kept Running table typed line = run-kept table typed line
+react-kept Over table typed line = (refl, tt)
 
 -- no line changes whether the table is sound, and it stays whole
-pub session-kept : (session : Session) → WholeBy (session .stage) (session .table) → (line : Line)
-    → let after = react-of session line .session in (session-sound after ≡ session-sound session) × WholeBy (after .stage) (after .table)
-session-kept session whole line = react-kept (session .stage) (session .table) whole line
+pub session-kept : (session : Session) → WellTypedBy (session .stage) (session .table) → (line : Line)
+    → let after = react-of session line .session in (session-sound after ≡ session-sound session) × WellTypedBy (after .stage) (after .table)
+session-kept session typed line = react-kept (session .stage) (session .table) typed line

@@ -15,7 +15,7 @@ use Rattle.lock_table.specs.Limits.{object-limit}
 use Rattle.lock_word.specs.Depth.{depth-limit}
 use Rattle.lock_table.specs.Record.{no-object}
 use Rattle.lock_table.specs.Access.{object-at}
-use Rattle.lock_table.specs.Whole.{Whole}
+use Rattle.lock_table.specs.WellTyped.{WellTyped}
 use Rattle.lock_table.specs.declared.record.{ObjectRecord.ObjectRecord, Table.Table}
 use Rattle.lock_table.proofs.record.ThreadRecord.{the-field as thread-field}
 use Rattle.lock_table.proofs.record.ObjectRecord.{the-field as object-field}
@@ -39,9 +39,9 @@ object-depth object vs owned =
     let depth : object .monitor .depth < 65536 = monitor .1 .1 .0 .1 in
     omega arith
 
-pub owned-whole : (table : Table) (vs : List Val) → Is table-row table vs → Whole table
+pub owned-well-typed : (table : Table) (vs : List Val) → Is table-row table vs → WellTyped table
 unfolding object-at
-owned-whole table vs owned =
+owned-well-typed table vs owned =
     let arrays = owned .1 .1 .1 .1 in
     let objects = arrays .1 .0 in
     record {

@@ -20,7 +20,7 @@ use Rattle.lock_rules.specs.declared.event.Event.the-variants.{Begin, Step}
 use Rattle.lock_rules.specs.declared.event.ThreadStatus.the-variants.{Ready}
 use Rattle.lock_rules.specs.declared.event.Refusal.the-variants.{NotSound}
 use Rattle.lock_rules.specs.declared.event.Gate.the-variants.{Open}
-use Rattle.lock_rules.specs.declared.Carried.the-variants.{ToCheck, ToTell, ToInflate, ToResume}
+use Rattle.lock_rules.specs.declared.OnwardStep.the-variants.{ToCheck, ToTell, ToInflate, ToResume}
 use Rattle.lock_rules.specs.declared.{Doing.Doing, ThreadState.ThreadState, Action.Action}
 use Rattle.lock_rules.specs.declared.Doing.the-variants.{EnterLook, EnterStore, EnterCancel, EnterGoIn, EnterCheck, EnterTry, ExitLook}
 use Rattle.lock_rules.specs.declared.Doing.the-variants.{ExitStore, ExitGoIn, ExitTest, ExitTell, ExitLeave, WaitLook, WaitCancel, WaitGoIn}
@@ -28,7 +28,7 @@ use Rattle.lock_rules.specs.declared.Doing.the-variants.{WaitInflate, WaitGiveU
 use Rattle.lock_rules.specs.declared.ThreadState.the-variants.{Idle, Running, Queued, Contending, Waiting}
 use Rattle.lock_rules.specs.declared.Action.the-variants.{Unruled, Do}
 use Rattle.lock_rules.proofs.Gate.{Passed, by-gate}
-use Rattle.lock_rules.proofs.Turns.{TurnOf, status-of, begin-asked, step-thread, through, turn-on}
+use Rattle.lock_rules.proofs.TableKinds.{TurnOf, status-of, begin-asked, step-thread, through, turn-on}
 use Rattle.lock_table.specs.Limits.{thread-limit, object-limit}
 use Rattle.lock_table.specs.Operation.{operation-from}
 use Rattle.lock_table.specs.Access.{thread-at, set-thread, object-at, set-object}

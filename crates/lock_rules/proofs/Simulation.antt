@@ -15,11 +15,11 @@ use Rattle.lock_rules.specs.declared.event.Event.the-variants.{Begin, St
 use Rattle.lock_rules.specs.declared.event.Gate.the-variants.{Open}
 use Rattle.lock_rules.specs.Gate.{event-thread}
 use Rattle.lock_rules.proofs.Gate.{Passed, within-says, by-gate, gate-same}
-use Rattle.lock_rules.proofs.Turns.{TurnOf, Kind, status-of, status-idle, begin-asked, step-thread, through, turn-on, final-on, shown-on}
+use Rattle.lock_rules.proofs.TableKinds.{TurnOf, Kind, status-of, status-idle, begin-asked, step-thread, through, turn-on, final-on, shown-on}
 use Rattle.lock_rules.proofs.Tables.{ListTable, begin-at, step-at, list-kind, turn, final, shown}
 
 -- R relates a table of the kind to the table with lists that it stands for; W holds of every table with lists that matters
-pub record Standing (kind : Kind) (threads objects : ℕ) (R : kind .Table → ListTable → Type 0) (W : ListTable → Type 0) : Type 0 where
+pub record Simulates (kind : Kind) (threads objects : ℕ) (R : kind .Table → ListTable → Type 0) (W : ListTable → Type 0) : Type 0 where
   pub state : (x : kind .Table) (table : ListTable) → R x table → W table → (t : ℕ) → 1 ≤ t → t ≤ threads → kind .state x t ≡ table .threads t .state
   pub begins : (x : kind .Table) (table : ListTable) → R x table → W table → (operation : Operation) (t o : ℕ) → 1 ≤ t → t ≤ threads → 1 ≤ o → o ≤ objects
       → table .threads t .state ≡ Idle → R (kind .begins x operation t o) (begin-at table operation t o)
@@ -28,29 +28,29 @@ pub record Standing (kind : Kind) (threads objects : ℕ) (R : kind .Table → L
       → R (kind .steps x t doing .table) (step-at table t doing .table) × (kind .steps x t doing .reply ≡ step-at table t doing .reply)
   pub keeps : (table : ListTable) (event : Event) → W table → W (turn threads objects table event .table)
 
-module _ (kind : Kind) (threads objects : ℕ) (R : kind .Table → ListTable → Type 0) (W : ListTable → Type 0) (standing : Standing kind threads objects R W)
+module _ (kind : Kind) (threads objects : ℕ) (R : kind .Table → ListTable → Type 0) (W : ListTable → Type 0) (simulates : Simulates kind threads objects R W)
   where
     abbrev SameTurn : TurnOf (kind .Table) → TurnOf ListTable → Type 0
     SameTurn a b = R (a .table) (b .table) × (a .reply ≡ b .reply)
 
-    pub stands-turn : (x : kind .Table) (table : ListTable) → R x table → W table → (event : Event)
+    pub simulated-turn : (x : kind .Table) (table : ListTable) → R x table → W table → (event : Event)
         → R (turn-on kind threads objects x event .table) (turn threads objects table event .table)
         × (turn-on kind threads objects x event .reply ≡ turn threads objects table event .reply)
-    stands-turn x table r w event =
+    simulated-turn x table r w event =
         rw (gate-same true threads objects event (status-of (kind .state x (event-thread event))) (status-of (table .threads (event-thread event) .state))
-        (λ inside. let (low, high) = within-says inside in ap status-of (standing .state x table r w (event-thread event) low high)))
+        (λ inside. let (low, high) = within-says inside in ap status-of (simulates .state x table r w (event-thread event) low high)))
         (by-gate true threads objects (λ gate. SameTurn (through kind gate x event) (through list-kind gate table event)) (λ unsound. false≢true (sym unsound))
         (λ refusal sound high. (r, refl)) event (status-of (table .threads (event-thread event) .state)) (λ sound. at event))
       where
         known : (thread object : ℕ) (asked : Asked) → 1 ≤ thread → thread ≤ threads → 1 ≤ object → object ≤ objects → table .threads thread .state ≡ Idle
             → SameTurn (begin-asked kind x asked thread object) (begin-asked list-kind table asked thread object)
         known thread object Unknown low high real small idle = (r, refl)
-        known thread object (Known operation) low high real small idle = (standing .begins x table r w operation thread object low high real small idle, refl)
+        known thread object (Known operation) low high real small idle = (simulates .begins x table r w operation thread object low high real small idle, refl)
 
         running : (thread : ℕ) (state : ThreadState) → table .threads thread .state ≡ state → 1 ≤ thread → thread ≤ threads
             → SameTurn (step-thread kind x thread state) (step-thread list-kind table thread state)
         running thread Idle is low high = (r, refl)
-        running thread (Running doing) is low high = standing .steps x table r w thread doing low high is
+        running thread (Running doing) is low high = simulates .steps x table r w thread doing low high is
         running thread (Queued carried) is low high = (r, refl)
         running thread Contending is low high = (r, refl)
         running thread (Waiting suspension) is low high = (r, refl)
@@ -60,15 +60,15 @@ module _ (kind : Kind) (threads objects : ℕ) (R : kind .Table → ListTable �
         at (Begin number thread object) (low, high, operation, real, small, idle) =
             known thread object (asked-for number) low high real small (status-idle (table .threads thread .state) idle)
         at (Step thread) (low, high, ready) =
-            rw (standing .state x table r w thread low high) (running thread (table .threads thread .state) refl low high)
+            rw (simulates .state x table r w thread low high) (running thread (table .threads thread .state) refl low high)
 
-    -- over a whole schedule it goes on standing for it, and the same is shown
-    pub stands-run : (events : List Event) (x : kind .Table) (table : ListTable) → R x table → W table
+    -- over a whole schedule it goes on simulates for it, and the same is shown
+    pub simulated-run : (events : List Event) (x : kind .Table) (table : ListTable) → R x table → W table
         → R (final-on kind threads objects x events) (final threads objects table events) × W (final threads objects table events)
         × (shown-on kind threads objects x events ≡ shown threads objects table events)
-    stands-run [] x table r w = (r, w, refl)
-    stands-run (event ∷ rest) x table r w =
-        let (r′, same) = stands-turn x table r w event in
-        let (a, b, c) = stands-run rest (turn-on kind threads objects x event .table) (turn threads objects table event .table) r′
-        (standing .keeps table event w) in
+    simulated-run [] x table r w = (r, w, refl)
+    simulated-run (event ∷ rest) x table r w =
+        let (r′, same) = simulated-turn x table r w event in
+        let (a, b, c) = simulated-run rest (turn-on kind threads objects x event .table) (turn threads objects table event .table) r′
+        (simulates .keeps table event w) in
         (a, b, λ j. record { event = event; reply = same j } ∷ c j)

@@ -13,7 +13,7 @@ use Rattle.lock_word.specs.Depth.{depth-limit}
 use Rattle.lock_table.specs.Access.{object-at}
 use Rattle.lock_table.specs.Fresh.{InRange, fresh-of}
 use Rattle.lock_table.specs.declared.fresh_table.FreshRequest.{FreshRequest}
-use Rattle.lock_table.specs.Whole.{Whole}
+use Rattle.lock_table.specs.WellTyped.{WellTyped}
 use Rattle.lock_table.specs.declared.record.{ObjectRecord.ObjectRecord, Table.Table}
 use Rattle.lock_records.proofs.Represents.{Represents}
 use Rattle.lock_records.proofs.FreshRecords.{fresh-represents}
@@ -25,8 +25,8 @@ none-fits : (t : Table) → DepthFits (object-at t 0)
 unfolding object-at
 none-fits t = omega arith
 
-pub represented-whole : (threads objects : ℕ) (t : Table) (lists : ListTable) → Represents threads objects t lists → SoundTable threads objects lists → Whole t
-represented-whole threads objects t lists represents sound =
+pub represented-well-typed : (threads objects : ℕ) (t : Table) (lists : ListTable) → Represents threads objects t lists → SoundTable threads objects lists → WellTyped t
+represented-well-typed threads objects t lists represents sound =
     record { threads = represents .written .full; objects = represents .objects-full; depths = λ o. at o (equal? o 0) (leb o objects) (at-most o objects) }
   where
     at : (o : ℕ) → (o ≡ 0) ⊎ (o ≢ 0) → (used : Bool) → AtMost used o objects → DepthFits (object-at t o)
@@ -34,7 +34,7 @@ represented-whole threads objects t lists represents sound =
     at o (inr some) true inside = subst DepthFits (sym (represents .object-is o (omega (arith, some)) inside)) (sound .sound o .deep)
     at o (inr some) false past = subst DepthFits (sym (represents .object-past o past)) (omega arith)
 
-pub fresh-whole : (request : FreshRequest) → InRange request → Whole (fresh-of request .table)
-fresh-whole request in-range =
-    represented-whole (request .threads) (request .objects) (fresh-of request .table) (fresh (request .reserved)) (fresh-represents request in-range)
+pub fresh-well-typed : (request : FreshRequest) → InRange request → WellTyped (fresh-of request .table)
+fresh-well-typed request in-range =
+    represented-well-typed (request .threads) (request .objects) (fresh-of request .table) (fresh (request .reserved)) (fresh-represents request in-range)
     (sound-fresh (request .threads) (request .objects) (request .reserved))
