@@ -8,6 +8,7 @@ use Rattle.lock_table.specs.Fresh.{first-word}
 use Rattle.lock_table.specs.Operation.{operation-number}
 use Rattle.lock_table.specs.Phase.{phase-number}
 use Rattle.lock_table.specs.Parked.{chain-named}
+use Rattle.lock_perform.specs.Moving.{thread-set}
 use Rattle.sound_records.specs.Records.{names-chain, unused-fits, saves-depth}
 use Rattle.lock_rules.specs.Rules.{exit-tell}
 use Rattle.replay_lines.specs.Number.{is-digit, read-digits, read-number, read-field}
@@ -35,9 +36,22 @@ word-examples =
     }
 
 pub record-examples : RecordExamples
-unfolding tabulate object-at first-word operation-number phase-number chain-named names-chain unused-fits saves-depth
+unfolding tabulate object-at first-word operation-number phase-number chain-named names-chain unused-fits saves-depth thread-set
 record-examples =
-    record { free = refl; reserved = refl; kept-used = refl; kept-unused = refl; own-chain = refl; other-object = refl; other-chain = refl; handed-holder = refl; handed-entry = refl; flag-place = refl; holder-place = refl }
+    record {
+      free = refl;
+      reserved = refl;
+      kept-used = refl;
+      kept-unused = refl;
+      own-chain = refl;
+      other-object = refl;
+      other-chain = refl;
+      handed-holder = refl;
+      handed-entry = refl;
+      handed-set = refl;
+      flag-place = refl;
+      holder-place = refl;
+    }
 
 pub rule-examples : RuleExamples
 unfolding exit-tell

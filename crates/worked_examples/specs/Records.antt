@@ -4,7 +4,7 @@ use mathlib.Core.Bool.{true, false}
 use mathlib.Core.List.{[], _∷_, _++_}
 use Prim.Native.Nat.{ℕ, _+_}
 use lib.ListN.{replicate}
-use Rattle.lock_table.specs.Record.{no-thread, with-activity}
+use Rattle.lock_table.specs.Record.{no-thread, with-activity, with-next}
 use Rattle.lock_table.specs.Access.{object-at}
 use Rattle.lock_table.specs.Fresh.{first-word}
 use Rattle.lock_table.specs.Monitor.{hand-of}
@@ -14,6 +14,7 @@ use Rattle.lock_table.specs.declared.phase.Phase.the-variants.{Look, Queued}
 use Rattle.lock_table.specs.declared.phase.Onward.the-variants.{ToCheck}
 use Rattle.lock_table.specs.declared.record.ThreadRecord.{ThreadRecord}
 use Rattle.lock_table.specs.declared.record.Monitor.{Monitor}
+use Rattle.lock_perform.specs.Moving.{plan-hand}
 use Rattle.sound_records.specs.Records.{names-chain, unused-fits}
 use Rattle.table_bytes.specs.Layout.{objects-start}
 use Rattle.table_bytes.specs.Reading.{table-of}
@@ -44,6 +45,8 @@ pub record RecordExamples : Type 0 where
   -- the monitor is handed to thread 2, behind which thread 3 stands
   pub handed-holder : hand-of held 3 .monitor .holder ≡ 2
   pub handed-entry : hand-of held 3 .monitor .entry ≡ 3
+  -- which unparks thread 2 alone: bit 1 of the set
+  pub handed-set : plan-hand held (with-next no-thread 3) .unparked ≡ 2
   -- object 1 in bytes: four of its word, one of its flag, one of its holder
   pub flag-place : holder-by (objects-start + 4) ≡ 0
   pub holder-place : holder-by (objects-start + 5) ≡ 3
