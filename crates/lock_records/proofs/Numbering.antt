@@ -14,7 +14,8 @@ use Rattle.laws.specs.Count.{count}
 use Rattle.laws.proofs.Choice.{equal?, Equal, equal}
 use Rattle.laws.proofs.Update.{update-same, update-other}
 use Rattle.chains.proofs.Chain.{head}
-use Rattle.chains.proofs.Links.{Links, LinksRepresent, leave-links, leave-lists, join-links, join-lists, move-links, move-lists, shift-links, shift-lists}
+use Rattle.chains.proofs.Links.{Links, LinksRepresent, leave-links, leave-lists, join-links, join-lists, move-links, move-lists, shift-links}
+use Rattle.chains.proofs.Links.{shift-lists}
 use Rattle.chains.proofs.Links.{leave-within, leave-short, represent-leave, represent-join, represent-move, represent-shift}
 use Rattle.chains.specs.declared.named.Chain.{Chain}
 use Rattle.lock_rules.specs.declared.{Taken.Taken, ChainWork.ChainWork, Effect.Effect}

@@ -1,4 +1,4 @@
--- What represents a sound table with lists is whole; so a fresh table is.
+-- What represents a sound table with lists is well typed; so a fresh table is.
 use Prim.Native.Nat.{ℕ, _≤_}
 use mathlib.Core.Path.{_≡_, sym, subst}
 use mathlib.Core.Logic.{_≢_, _⊎_, inl, inr}

@@ -1,4 +1,4 @@
--- Demand 3, and that every event on any sound table gives a sound table, whole as the code's tables are.
+-- Demand 3, and that every event on any sound table gives a sound table, well typed as the code's tables are.
 use Prim.Native.Nat.{ℕ, _≤_}
 use mathlib.Core.Path.{_≡_, refl, sym, ap, _∙_, subst, subst₂}
 use mathlib.Core.Bool.{true}
@@ -90,7 +90,7 @@ sound-kept t typed sound event =
     let (threads, objects) = sound-reads t sound .sizes in
     represented-sound (t .threadcount) (t .objectcount) (handle t event .table) lists (threads .0) (objects .0) represents fine
 
--- and whole
+-- and well typed
 pub well-typed-kept : (t : Table) → WellTyped t → sound-of t ≡ true → (event : Event) → WellTyped (handle t event .table)
 well-typed-kept t typed sound event =
     let (lists, represents, fine) = event-represents t typed sound event in

@@ -1,19 +1,20 @@
 -- A fresh table, record by record.
 use Prim.Native.Nat.{ℕ, _-_, _≤_, _<_}
 use mathlib.Core.Path.{_≡_, refl, _∙_}
+use mathlib.Core.Logic.{_⊎_, inl, inr}
 use mathlib.Core.Bool.{Bool, true, false}
 use native.Mathlib.Omega.{arith}
 use lib.Dec.{eqb, ltb}
 use lib.ListN.{getD}
-use borrow.Author.Tests.{ne-eqb, le-ltb, lt-ltb}
+use borrow.Author.Tests.{ne-eqb, le-ltb, lt-ltb, eqb-false, ltb-false}
 use Rattle.laws.specs.Choice.{pick}
 use Rattle.laws.specs.Sequence.{tabulate}
-use Rattle.laws.proofs.Choice.{Equal, equal, Below, below}
+use Rattle.laws.proofs.Choice.{Equal, equal, Below, below, split}
 use Rattle.laws.proofs.Sequence.{tabulate-at}
 use Rattle.lock_table.specs.Limits.{thread-limit, object-limit}
 use Rattle.lock_table.specs.Record.{no-thread, no-object, with-word}
 use Rattle.lock_table.specs.Access.{thread-at, object-at}
-use Rattle.lock_table.specs.Fresh.{first-word, fresh-thread, fresh-object, table-of, InRange, fresh-of}
+use Rattle.lock_table.specs.Fresh.{first-word, fresh-thread, fresh-object, table-of, refused-of, InRange, fresh-of}
 use Rattle.lock_table.specs.declared.fresh_table.FreshRequest.{FreshRequest}
 use Rattle.lock_table.specs.declared.fresh_table.FreshAnswer.the-variants.{Made}
 use Rattle.lock_table.proofs.Records.{object-in, object-beyond}
@@ -28,6 +29,19 @@ module _ (request : FreshRequest) where
         ne-eqb (request .objects) 0 (λ e. omega (arith, e, some)),
         le-ltb object-limit (request .objects) fewer,
       )
+
+  -- what cannot be made is refused
+  pub fresh-either : InRange request ⊎ (fresh-of request ≡ refused-of)
+  unfolding fresh-of
+  fresh-either =
+      split (eqb (request .threads) 0) (λ none. inr (rw none))
+      (λ some. split (ltb thread-limit (request .threads)) (λ many. inr (rw (some, many)))
+      (λ few. split (eqb (request .objects) 0) (λ none. inr (rw (some, few, none)))
+      (λ real. split (ltb object-limit (request .objects)) (λ many. inr (rw (some, few, real, many)))
+      (λ fewer.
+      let threads = eqb-false (request .threads) 0 some in
+      let objects = eqb-false (request .objects) 0 real in
+      inl (omega (arith, threads), ltb-false thread-limit (request .threads) few, omega (arith, objects), ltb-false object-limit (request .objects) fewer)))))
 
   -- every thread is idle
   pub fresh-thread-at : (n : ℕ) → thread-at (table-of request) n ≡ no-thread

@@ -1,4 +1,4 @@
--- A table of the code is whole: a function that has one by value owns it, and what is owned has the lengths and the ranges of its type.
+-- A table of the code is well typed: a function that has one by value owns it, and what is owned has the lengths and the ranges of its type.
 use Prim.Native.Nat.{ℕ, zero, suc, _≤_, _<_, _-_}
 use mathlib.Core.Path.{sym, _∙_}
 use mathlib.Core.List.{List, [], _∷_, map}

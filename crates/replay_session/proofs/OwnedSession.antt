@@ -1,4 +1,4 @@
--- The table of a session that the code has by value is whole.
+-- The table of a session that the code has by value is well typed.
 use mathlib.Core.List.{List}
 use mir.Val.{Val}
 use denote.Laws.{Is}

@@ -1,19 +1,15 @@
 -- A session's table stays sound, or stays unsound, with every line. So what a line does where soundness is known, with its numbers in eight bits, is
 -- what document 01 says of it.
-use Prim.Native.Nat.{_≤_}
 use mathlib.Core.Path.{_≡_, refl, sym, ap, _∙_, subst}
+use mathlib.Core.Logic.{_⊎_, inl, inr}
 use mathlib.Core.Bool.{Bool, true, false}
 use mathlib.Core.List.{[]}
-use lib.Dec.{eqb, ltb}
-use borrow.Author.Tests.{eqb-false, ltb-false}
-use native.Mathlib.Omega.{arith}
-use Rattle.laws.proofs.Choice.{by-test}
 use Rattle.lock_rules.specs.declared.event.Event.{Event}
 use Rattle.lock_rules.specs.declared.event.Event.the-variants.{Begin as BeginEvent, Step as StepEvent}
-use Rattle.lock_table.specs.Limits.{thread-limit, object-limit}
 use Rattle.lock_table.specs.Access.{thread-at}
-use Rattle.lock_table.specs.Fresh.{sized-request, fresh-of}
+use Rattle.lock_table.specs.Fresh.{sized-request, refused-of, InRange, fresh-of}
 use Rattle.lock_table.specs.WellTyped.{WellTyped}
+use Rattle.lock_table.proofs.FreshTables.{fresh-made, fresh-either}
 use Rattle.lock_table.specs.declared.record.Table.{Table}
 use Rattle.lock_table.specs.declared.fresh_table.{FreshRequest.FreshRequest, FreshTable.FreshTable}
 use Rattle.lock_table.specs.Narrow.{narrow-of}
@@ -78,7 +74,7 @@ event-same : (table : Table) → WellTyped table → (event : Event) (issound : 
 event-same table typed event true sound = sound-kept table typed sound event ∙ sym sound
 event-same table typed event false unsound = ap sound-of (refused-same table event unsound)
 
--- the table of a session that has one is whole
+-- the table of a session that has one is well typed
 abbrev pub WellTypedBy : Stage → Table → Type 0
 WellTypedBy Opening table = Unit {0}
 WellTypedBy Running table = WellTyped table
@@ -89,27 +85,19 @@ well-typed-by Opening typed = tt
 well-typed-by Running typed = typed
 well-typed-by Over typed = tt
 
--- a header opens the session with a sound table, which is whole, or ends it
+-- a header opens the session with a sound table, which is well typed, or ends it
 abbrev Opens : FreshTable → Type 0
 Opens made = let session = opened-by (made .answer) (made .table) .session in (session-sound session ≡ true) × WellTypedBy (session .stage) (session .table)
 
 opens : (request : FreshRequest) → Opens (fresh-of request)
-unfolding fresh-of opened-by sound-by
-opens request =
-    let threads = request .threads in
-    let objects = request .objects in
-    by-test Opens (eqb threads 0) (λ none. (refl, tt))
-    (λ some. by-test Opens (ltb thread-limit threads) (λ many. (refl, tt))
-    (λ few. by-test Opens (eqb objects 0) (λ none. (refl, tt))
-    (λ some-objects. by-test Opens (ltb object-limit objects) (λ many. (refl, tt))
-    (λ fewer.
-    let low : 1 ≤ threads = let e = eqb-false threads 0 some in omega (arith, e) in
-    let high : threads ≤ thread-limit = ltb-false thread-limit threads few in
-    let real : 1 ≤ objects = let e = eqb-false objects 0 some-objects in omega (arith, e) in
-    let small : objects ≤ object-limit = ltb-false object-limit objects fewer in
-    let sound = reached-sound request (low, high, real, small) [] in
-    let typed = fresh-well-typed request (low, high, real, small) in
-    (rw (some, few, some-objects, fewer) at sound, rw (some, few, some-objects, fewer) at typed)))))
+unfolding opened-by sound-by
+opens request = at (fresh-either request)
+  where
+    at : InRange request ⊎ (fresh-of request ≡ refused-of) → Opens (fresh-of request)
+    at (inl in-range) =
+        let made = fresh-made request in-range in
+        rw made (rw made at (reached-sound request in-range []), rw made at (fresh-well-typed request in-range))
+    at (inr refused) = rw refused (refl, tt)
 
 open-kept : (table : Table) (line : Line) → let session = open-by table line .session in (session-sound session ≡ true) × WellTypedBy (session .stage) (session .table)
 unfolding open-by sound-by
@@ -118,7 +106,7 @@ open-kept table (Begin operation thread object) = (refl, tt)
 open-kept table (Step thread) = (refl, tt)
 open-kept table Malformed = (refl, tt)
 
--- an event keeps the table whole, too
+-- an event keeps the table well typed, too
 event-well-typed : (table : Table) → WellTyped table → (event : Event) (issound : Bool) → sound-of table ≡ issound → WellTyped (handle table event .table)
 event-well-typed table typed event true sound = well-typed-kept table typed sound event
 event-well-typed table typed event false unsound = subst WellTyped (sym (refused-same table event unsound)) typed
@@ -144,7 +132,7 @@ react-kept Opening table typed line = open-kept table line
 react-kept Running table typed line = run-kept table typed line
 react-kept Over table typed line = (refl, tt)
 
--- no line changes whether the table is sound, and it stays whole
+-- no line changes whether the table is sound, and it stays well typed
 pub session-kept : (session : Session) → WellTypedBy (session .stage) (session .table) → (line : Line)
     → let after = react-of session line .session in (session-sound after ≡ session-sound session) × WellTypedBy (after .stage) (after .table)
 session-kept session typed line = react-kept (session .stage) (session .table) typed line

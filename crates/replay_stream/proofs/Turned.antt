@@ -46,7 +46,7 @@ module _ {before after : List ℕ} {at wrote : ℕ} (session : Session) (fits : 
         within = put-within fits short put;
       }
 
--- the table stays whole
+-- the table stays well typed
 pub still-well-typed : (session : Session) → WellTypedBy (session .stage) (session .table) → (line : List ℕ) {issound : Bool} → issound ≡ session-sound session
     → {reaction : Reaction} → reaction ≡ react-trusting session (read-line line) issound → WellTypedBy (reaction .session .stage) (reaction .session .table)
 still-well-typed session typed line known gave =
