@@ -7,7 +7,7 @@ use mathlib.Core.List.{List}
 use native.Mathlib.Omega.{arith}
 use lib.Dec.{T, eqb}
 use Rattle.laws.specs.Choice.{pick, both, either}
-use Rattle.laws.proofs.Choice.{by-test, both-no, pick-same, false≢true, Equal, equal}
+use Rattle.laws.proofs.Choice.{by-test, both-no, pick-same, Equal, equal}
 use Rattle.chains.specs.Chain.{members}
 use Rattle.chains.proofs.Links.{Links}
 use Rattle.lock_word.specs.declared.reading.Decoded.the-variants.{Valid}
@@ -15,13 +15,11 @@ use Rattle.lock_rules.specs.Numbers.{phase-of-doing, phase-of}
 use Rattle.lock_word.specs.Meaning.{owner-of, depth-of, ownership-of}
 use Rattle.lock_word.proofs.Ownership.{owned-both}
 use Rattle.lock_word.specs.declared.meaning.{Ownership.Ownership, WordSeen.WordSeen}
+use Rattle.lock_rules.proofs.Each.{each-doing, each-state}
 use Rattle.lock_rules.proofs.Status.{is-woken, parked-for-entry, unparked, unfinished}
 use Rattle.lock_rules.specs.declared.event.Event.{Event}
 use Rattle.lock_rules.specs.Feed.{Plain, feed-all, blank}
 use Rattle.lock_rules.specs.declared.{Doing.Doing, ThreadState.ThreadState}
-use Rattle.lock_rules.specs.declared.Doing.the-variants.{EnterLook, EnterStore, EnterCancel, EnterGoIn, EnterCheck, EnterTry, ExitLook}
-use Rattle.lock_rules.specs.declared.Doing.the-variants.{ExitStore, ExitGoIn, ExitTest, ExitTell, ExitLeave, WaitLook, WaitCancel, WaitGoIn}
-use Rattle.lock_rules.specs.declared.Doing.the-variants.{WaitInflate, WaitGiveUp, WaitResume, NotifyLook, NotifyAllLook}
 use Rattle.lock_rules.specs.declared.ThreadState.the-variants.{Idle, Running, Queued, Contending, Waiting}
 use Rattle.lock_word.specs.declared.meaning.WordSeen.the-variants.{Free, Anonymous, Fat, Flat, Reserved}
 use Rattle.lock_rules.proofs.Objects.{object-owner, owned-depth}
@@ -85,46 +83,11 @@ owner-small threads (Flat thread count) holder depth fine small = fine .1
 owner-small threads (Reserved thread count) holder depth fine small = by-test (λ (n : ℕ). n ≤ threads) (eqb count 0) (λ e. omega arith) (λ e. fine .1)
 
 -- a thread that can take a step is neither idle nor parked
-still : ℕ → Bool
-still phase = either (eqb phase 0) (either (eqb phase 5) (either (eqb phase 8) (eqb phase 14)))
-
-not-still : (doing : Doing) → still (phase-of-doing doing) ≡ false
-unfolding still
-not-still EnterLook = refl
-not-still (EnterStore count) = refl
-not-still EnterCancel = refl
-not-still EnterGoIn = refl
-not-still EnterCheck = refl
-not-still EnterTry = refl
-not-still ExitLook = refl
-not-still (ExitStore count) = refl
-not-still ExitGoIn = refl
-not-still ExitTest = refl
-not-still ExitTell = refl
-not-still ExitLeave = refl
-not-still WaitLook = refl
-not-still WaitCancel = refl
-not-still WaitGoIn = refl
-not-still WaitInflate = refl
-not-still WaitGiveUp = refl
-not-still (WaitResume suspension) = refl
-not-still NotifyLook = refl
-not-still NotifyAllLook = refl
-
 abbrev Steps : ℕ → Type 0
 Steps phase = ((phase ≢ 5) × (phase ≢ 8) × (phase ≢ 14)) × (phase ≢ 0)
 
-steps-by : (phase : ℕ) → still phase ≡ false → Steps phase
-unfolding still
-steps-by phase = at (eqb phase 0) (eqb phase 5) (eqb phase 8) (eqb phase 14) (equal phase 0) (equal phase 5) (equal phase 8) (equal phase 14)
-  where
-    at : (a b c d : Bool) → Equal a phase 0 → Equal b phase 5 → Equal c phase 8 → Equal d phase 14
-        → either a (either b (either c d)) ≡ false → Steps phase
-    at false false false false p q r s e = ((q, r, s), p)
-    at false false false true p q r s e = false≢true (sym e)
-    at false false true d p q r s e = false≢true (sym e)
-    at false true c d p q r s e = false≢true (sym e)
-    at true b c d p q r s e = false≢true (sym e)
+doing-steps : (doing : Doing) → Steps (phase-of-doing doing)
+doing-steps = each-doing _ (search arith)
 
 -- what a phase's number says of the state
 neither : (phase : ℕ) → phase ≢ 5 → phase ≢ 8 → (phase ≡ 5) ⊎ (phase ≡ 8) → ⊥
@@ -133,24 +96,16 @@ neither phase a b (inr e) = b e
 
 parked-by : (state : ThreadState) → (phase-of state ≡ 5) ⊎ (phase-of state ≡ 8) → T (parked-for-entry state)
 parked-by Idle e = neither 0 (λ q. omega (arith, q)) (λ q. omega (arith, q)) e
-parked-by (Running doing) e = let steps = steps-by (phase-of-doing doing) (not-still doing) in neither (phase-of-doing doing) (steps .0 .0) (steps .0 .1) e
+parked-by (Running doing) e = let steps = doing-steps doing in neither (phase-of-doing doing) (steps .0 .0) (steps .0 .1) e
 parked-by (Queued carried) e = tt
 parked-by Contending e = tt
 parked-by (Waiting suspension) e = neither 14 (λ q. omega (arith, q)) (λ q. omega (arith, q)) e
 
 busy-parked : (state : ThreadState) → T (parked-for-entry state) → T (unfinished state)
-busy-parked Idle parked = parked
-busy-parked (Running doing) parked = tt
-busy-parked (Queued carried) parked = tt
-busy-parked Contending parked = tt
-busy-parked (Waiting suspension) parked = tt
+busy-parked = each-state _ (search)
 
 steps-unparked : (state : ThreadState) → T (unparked state) → T (unfinished state) → Steps (phase-of state)
-steps-unparked Idle free busy = absurd busy
-steps-unparked (Running doing) free busy = steps-by (phase-of-doing doing) (not-still doing)
-steps-unparked (Queued carried) free busy = absurd free
-steps-unparked Contending free busy = absurd free
-steps-unparked (Waiting suspension) free busy = absurd free
+steps-unparked = each-state _ (search doing-steps)
 
 -- woken by the numbers in a record
 woken-written : (n o : ℕ) (state : ThreadState)
