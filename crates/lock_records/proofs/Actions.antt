@@ -22,6 +22,7 @@ use Rattle.lock_rules.specs.declared.{ThreadState.ThreadState, ChainWork.ChainW
 use Rattle.lock_rules.specs.declared.ThreadState.the-variants.{Idle}
 use Rattle.lock_rules.specs.declared.Taken.the-variants.{First, All}
 use Rattle.lock_rules.specs.declared.ChainWork.the-variants.{Stay, Join, JoinAndHand, Hand, Move, SendBack}
+use Rattle.lock_rules.proofs.Each.{each-chain}
 use Rattle.lock_rules.proofs.Objects.{ListObject, chain-of, with-chain}
 use Rattle.lock_rules.proofs.Perform.{taken, left as left-list, first-of, changed-states, handed-object, states-after, object-after, effected}
 use Rattle.lock_rules.proofs.Tables.{ListThread, ListTable}
@@ -54,9 +55,7 @@ pub record SameScalars (old new : ListObject) : Type 0 where
   pub depth : new .depth ≡ old .depth
 
 scalars-with : (chain : Chain) (o : ListObject) (list : List ℕ) → SameScalars o (with-chain chain o list)
-scalars-with Chain.Entry o list = record { word = refl; flag = refl; holder = refl; depth = refl }
-scalars-with Chain.Contention o list = record { word = refl; flag = refl; holder = refl; depth = refl }
-scalars-with Chain.Waiting o list = record { word = refl; flag = refl; holder = refl; depth = refl }
+scalars-with = each-chain _ (search)
 
 -- no work changes word or flag
 pub word-kept : (work : ChainWork) (thread : ℕ) (o : ListObject)
@@ -76,16 +75,12 @@ pub record Acted (given : ℕ → ThreadRecord) (t : Table) (lists : ListTable) 
 -- the monitor of object o with other links
 module _ (o : ℕ) (links : Links) (holder depth : ℕ) where
   first-recorded : (chain : Chain) → first-in (monitor-record o links holder depth) chain ≡ links .first (number o chain)
-  first-recorded Chain.Entry = refl
-  first-recorded Chain.Contention = refl
-  first-recorded Chain.Waiting = refl
+  first-recorded = each-chain _ (search)
 
   left-recorded : (chain : Chain) (first : ℕ)
       → with-first (monitor-record o links holder depth) chain first
       ≡ monitor-record o (record { next = links .next; first = update (links .first) (number o chain) first }) holder depth
-  left-recorded Chain.Entry first = simp update-number
-  left-recorded Chain.Contention first = simp update-number
-  left-recorded Chain.Waiting first = simp update-number
+  left-recorded = each-chain _ (λ first. simp update-number, λ first. simp update-number, λ first. simp update-number)
 
   joined-recorded : (chain : Chain) (n : ℕ)
       → join (monitor-record o links holder depth) chain n
@@ -208,9 +203,7 @@ module _ (threads objects : ℕ) (t : Table) (lists : ListTable) (represents : R
         monitor = monitor-record o (represents .links) (effect .holder) (effect .depth)
 
         same-list : (chain : Chain) → chain-of chain now ≡ list chain
-        same-list Chain.Entry = refl
-        same-list Chain.Contention = refl
-        same-list Chain.Waiting = refl
+        same-list = each-chain _ (search)
 
         holds : first Chain.Entry ≡ first-of (list Chain.Entry)
         holds = headed Chain.Entry ∙ sym (first-is-head (list Chain.Entry))

@@ -111,16 +111,18 @@ steps-unparked = each-state _ (search doing-steps)
 woken-written : (n o : ℕ) (state : ThreadState)
     → let phase = write-activity n o state .phase in either (eqb (phase-number phase) 15) (eqb (carried-number phase) 15) ≡ is-woken state
 unfolding write-activity phase-number carried-number
-woken-written n o Idle = refl
-woken-written n o (Running doing) =
-    rw (written-doing n o doing no-thread .phase, written-doing n o doing no-thread .carried) (at (eqb (phase-of-doing doing) 15))
+woken-written n o =
+    each-state _ (
+      search,
+      λ doing. rw (written-doing n o doing no-thread .phase, written-doing n o doing no-thread .carried) (at (eqb (phase-of-doing doing) 15)),
+      λ carried. rw (written-carried n o carried no-thread .phase, written-carried n o carried no-thread .carries),
+      search,
+      search,
+    )
   where
     at : (b : Bool) → either b false ≡ b
     at true = refl
     at false = refl
-woken-written n o (Queued carried) = rw (written-carried n o carried no-thread .phase, written-carried n o carried no-thread .carries)
-woken-written n o Contending = refl
-woken-written n o (Waiting suspension) = refl
 
 -- and by its object, as the object sees it
 woken-seen : (n home o : ℕ) (state : ThreadState)

@@ -9,6 +9,7 @@ use Rattle.laws.specs.Count.{count}
 use Rattle.laws.proofs.Choice.{equal?, Below, below, AtMost, at-most}
 use Rattle.laws.proofs.Count.{count-none}
 use Rattle.chains.proofs.Chain.{Chain as Linked, members-none, chain-once}
+use Rattle.lock_rules.proofs.Each.{each-chain}
 use Rattle.lock_rules.specs.Numbers.{phase-of}
 use Rattle.lock_rules.specs.declared.ThreadState.{ThreadState}
 use Rattle.lock_rules.specs.declared.ThreadState.the-variants.{Idle}
@@ -42,9 +43,7 @@ object-none t = refl
 -- no chain of the empty record has a thread
 no-first : (chain : Chain) → first-in no-monitor (chain-number chain) ≡ 0
 unfolding first-in
-no-first Chain.Entry = refl
-no-first Chain.Contention = refl
-no-first Chain.Waiting = refl
+no-first = each-chain _ (search)
 
 -- records by number, of which those in use are 1 to `last`: any other is empty
 by-range : {A : Type 0} (at : ℕ → A) (none : A) (last limit : ℕ) → at 0 ≡ none → ((n : ℕ) → limit < n → at n ≡ none)

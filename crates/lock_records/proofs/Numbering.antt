@@ -20,6 +20,7 @@ use Rattle.chains.specs.declared.named.Chain.{Chain}
 use Rattle.lock_rules.specs.declared.{Taken.Taken, ChainWork.ChainWork, Effect.Effect}
 use Rattle.lock_rules.specs.declared.Taken.the-variants.{First, All}
 use Rattle.lock_rules.specs.declared.ChainWork.the-variants.{Stay, Join, JoinAndHand, Hand, Move, SendBack}
+use Rattle.lock_rules.proofs.Each.{each-chain}
 use Rattle.lock_rules.proofs.Objects.{ListObject, chain-of, with-chain}
 use Rattle.lock_rules.proofs.Perform.{enter-queue-all, join, taken, left, first-of, handed-object, moved-object, object-after, effected}
 use Rattle.lock_table.specs.Limits.{thread-limit}
@@ -44,14 +45,10 @@ unfoldable pub lists-of : (ℕ → ListObject) → ℕ → List ℕ
 lists-of objects c = chain-of (chain-at (c % 3)) (objects (c / 3))
 
 place-small : (chain : Chain) → place-of chain < 3
-place-small Chain.Entry = omega arith
-place-small Chain.Contention = omega arith
-place-small Chain.Waiting = omega arith
+place-small = each-chain _ (search arith)
 
 chain-back : (chain : Chain) → chain-at (place-of chain) ≡ chain
-chain-back Chain.Entry = refl
-chain-back Chain.Contention = refl
-chain-back Chain.Waiting = refl
+chain-back = each-chain _ (search)
 
 place-back : (k : ℕ) → k < 3 → place-of (chain-at k) ≡ k
 place-back zero small = refl
@@ -159,28 +156,16 @@ unfolding enter-queue-all
 entered-all entry threads = refl
 
 joined-end : (chain : Chain) (list : List ℕ) (thread : ℕ) → join chain list thread ≡ list ++ (thread ∷ [])
-joined-end Chain.Entry list thread = entered-all list (thread ∷ [])
-joined-end Chain.Contention list thread = refl
-joined-end Chain.Waiting list thread = refl
+joined-end = each-chain _ (λ list thread. entered-all list (thread ∷ []), search, search)
 
 -- another list for one chain leaves the others
 chain-with : (chain other : Chain) (o : ListObject) (list : List ℕ)
     → chain-of other (with-chain chain o list) ≡ pick (eqb (place-of other) (place-of chain)) list (chain-of other o)
-chain-with Chain.Entry Chain.Entry o list = refl
-chain-with Chain.Entry Chain.Contention o list = refl
-chain-with Chain.Entry Chain.Waiting o list = refl
-chain-with Chain.Contention Chain.Entry o list = refl
-chain-with Chain.Contention Chain.Contention o list = refl
-chain-with Chain.Contention Chain.Waiting o list = refl
-chain-with Chain.Waiting Chain.Entry o list = refl
-chain-with Chain.Waiting Chain.Contention o list = refl
-chain-with Chain.Waiting Chain.Waiting o list = refl
+chain-with = each-chain _ (each-chain _ (search), each-chain _ (search), each-chain _ (search))
 
 chain-handed : (chain : Chain) (o : ListObject)
     → chain-of chain (handed-object o) ≡ pick (eqb (place-of chain) (place-of Chain.Entry)) (tail (o .entry)) (chain-of chain o)
-chain-handed Chain.Entry o = rest-is-tail (o .entry)
-chain-handed Chain.Contention o = refl
-chain-handed Chain.Waiting o = refl
+chain-handed = each-chain _ (search)
 
 -- the works on lists are those on the object, of which the effect changes word, flag, holder and depth
 module _ (objects : ℕ → ListObject) (thread o : ℕ) (effect : Effect) where
@@ -188,9 +173,7 @@ module _ (objects : ℕ → ListObject) (thread o : ℕ) (effect : Effect) where
   now = effected thread effect (objects o)
 
   unmoved : (chain : Chain) → lists-of objects (number o chain) ≡ chain-of chain now
-  unmoved Chain.Entry = list-at objects o Chain.Entry
-  unmoved Chain.Contention = list-at objects o Chain.Contention
-  unmoved Chain.Waiting = list-at objects o Chain.Waiting
+  unmoved = each-chain _ (list-at objects o Chain.Entry, list-at objects o Chain.Contention, list-at objects o Chain.Waiting)
 
   moved-chain : (from : Chain) (which : Taken) (chain : Chain)
       → let threads = chain-of from now in

@@ -15,11 +15,11 @@ use Rattle.lock_word.specs.Read.{read-word}
 use Rattle.lock_rules.proofs.Status.{unfinished}
 use Rattle.lock_rules.specs.declared.ThreadState.{ThreadState}
 use Rattle.lock_rules.specs.declared.ThreadState.the-variants.{Idle}
-use Rattle.lock_rules.proofs.Objects.{ListObject, object-of}
+use Rattle.lock_rules.proofs.Each.{each-chain}
+use Rattle.lock_rules.proofs.Objects.{ListObject, object-of, chain-of}
 use Rattle.lock_rules.proofs.Tables.{ListTable, seen-idle}
 use Rattle.lock_rules.proofs.ListSound.{StateFine, WordFine, InTable, SoundTable}
 use Rattle.chains.specs.declared.named.Chain.{Chain}
-use Rattle.lock_rules.proofs.Objects.{chain-of}
 use Rattle.lock_table.specs.Limits.{thread-limit, object-limit}
 use Rattle.lock_word.specs.Depth.{depth-limit}
 use Rattle.lock_table.specs.Record.{no-thread, no-object, with-word, with-monitor}
@@ -51,9 +51,7 @@ abbrev pub lists-read : Table → ListTable
 lists-read t = record { threads = thread-read t; objects = object-read t }
 
 list-read : (t : Table) (o : ℕ) (chain : Chain) → chain-of chain (object-read t o) ≡ threads-in-chain t o (chain-number chain)
-list-read t o Chain.Entry = refl
-list-read t o Chain.Contention = refl
-list-read t o Chain.Waiting = refl
+list-read t o = each-chain _ (search)
 
 list-numbered : (t : Table) (o : ℕ) (chain : Chain) → lists-of (object-read t) (number o chain) ≡ threads-in-chain t o (chain-number chain)
 list-numbered t o chain = list-at (object-read t) o chain ∙ list-read t o chain
