@@ -10,7 +10,7 @@ use lib.ListN.{length}
 use Rattle.laws.specs.Choice.{pick}
 use Rattle.laws.specs.Update.{update}
 use Rattle.laws.specs.Count.{count}
-use Rattle.laws.proofs.Choice.{Equal, equal}
+use Rattle.laws.proofs.Choice.{by-equal}
 use Rattle.laws.proofs.Count.{count-none, count-same}
 use Rattle.chains.specs.Chain.{first-with, linked}
 use Rattle.chains.specs.declared.named.Chain.{Chain}
@@ -43,7 +43,7 @@ use Rattle.lock_perform.specs.Moving.{CarriedOut, sent-back-of, relink, after-w
 use Rattle.lock_records.proofs.Numbering.{number, place-of, lists-of, list-at, update-number, work-links, first-is-head}
 use Rattle.lock_records.proofs.Written.{handed-written, moved-written}
 use Rattle.lock_records.proofs.Represents.{monitor-record, Represents, next-is}
-use Rattle.lock_records.proofs.Readings.{nobody, past-idle, first-is}
+use Rattle.lock_records.proofs.Readings.{nobody, past-idle, first-is, chained as chained-in}
 use Rattle.lock_records.proofs.Moves.{change, Moves, Inside, moves-hang, moves-first, moves-send, moves-all}
 use Rattle.lock_records.proofs.Placing.{sees, placed, placed-none, placed-first, placed-all, placed-sent}
 
@@ -121,7 +121,7 @@ module _ (threads objects : ℕ) (t : Table) (lists : ListTable) (represents : R
 
       -- any chain of object o: its members have records and are at o
       chained : (chain : Chain) → ChainOf (represents .links .next) (first chain) (list chain)
-      chained chain = rw (list-at (lists .objects) o chain) at (represents .chains .chain (number o chain))
+      chained = chained-in threads objects t lists represents sound o
 
       brief : (chain : Chain) → length (list chain) ≤ thread-limit
       brief chain = omega (arith, short threads objects lists sound chain o, represents .thread-room)
@@ -222,14 +222,9 @@ module _ (threads objects : ℕ) (t : Table) (lists : ListTable) (represents : R
         whole-moved : (whole : ℕ) (work : ChainWork)
             → after-whole t whole monitor work i o ≡ relink (move-all thread-limit t whole) monitor work i o
         unfolding after-whole
-        whole-moved whole work = at (eqb whole 0) (equal whole 0)
-          where
-            after : Table → CarriedOut
-            after table = relink table monitor work i o
-
-            at : (b : Bool) → Equal b whole 0 → pick b (after t) (after (move-all thread-limit t whole)) ≡ after (move-all thread-limit t whole)
-            at true e = ap after (sym (ap (move-all thread-limit t) e ∙ move-none thread-limit t))
-            at false e = refl
+        whole-moved whole work =
+            let after : Table → CarriedOut = λ table. relink table monitor work i o in
+            by-equal (λ out. out ≡ after (move-all thread-limit t whole)) whole 0 (λ e. ap after (sym (ap (move-all thread-limit t) e ∙ move-none thread-limit t))) (λ e. refl)
 
         moved-first : (from : Chain) → carry-out t monitor (Move from All) i o ≡ relink (move-all thread-limit t (first from)) monitor (Move from All) i o
         moved-first from =

@@ -29,9 +29,8 @@ use Rattle.lock_table.specs.Record.{with-activity, with-next}
 use Rattle.lock_perform.specs.State.{doing-activity, carried-activity, write-activity, write-thread}
 use Rattle.sound_records.specs.Records.{uses-phase, carries-phase, operation-fits, kept-count-fits, reserved-for, kept-fits, saves-depth}
 use Rattle.sound_records.specs.Records.{saved-fits, unused-fits, used-thread-fits}
-use Rattle.sound_records.proofs.Reading.{Within, ThreadFits}
+use Rattle.sound_records.proofs.Reading.{Within, ThreadFits, reads-thread}
 use Rattle.laws.proofs.Facts.{reads-within}
-use Rattle.sound_records.proofs.Reading.{reads-thread}
 use Rattle.lock_records.proofs.Naming.{running-names-none}
 
 -- the clauses that are about one thread's record, as one test that computes on a record that is written

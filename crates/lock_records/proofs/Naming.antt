@@ -6,7 +6,7 @@ use native.Mathlib.Omega.{arith}
 use lib.Dec.{T, eqb}
 use borrow.Author.Tests.{eq-eqb, ne-eqb}
 use Rattle.laws.specs.Count.{one-if}
-use Rattle.laws.proofs.Choice.{equal?}
+use Rattle.laws.proofs.Choice.{either-way, equal?}
 use Rattle.lock_rules.specs.Numbers.{phase-of-doing, phase-of}
 use Rattle.lock_rules.proofs.Each.{each-doing, each-state, each-chain}
 use Rattle.lock_rules.proofs.Status.{unfinished}
@@ -40,18 +40,10 @@ by-chain P each (suc (suc (suc (suc k)))) low high = absurd (omega (arith, high)
 pub one-chain : (a b : Chain) → chain-number a ≡ chain-number b → a ≡ b
 one-chain = each-chain _ (each-chain _ (search, λ e. cc, λ e. cc), each-chain _ (λ e. cc, search, λ e. cc), each-chain _ (λ e. cc, λ e. cc, search))
 
--- a thread that can take a step is in no phase 0 and in none that names a chain
-doing-phase : (doing : Doing) → (1 ≤ phase-of-doing doing) × (chain-named (phase-of-doing doing) ≡ 0)
-unfolding chain-named
-doing-phase = each-doing _ (search arith)
-
+-- a thread that can take a step is in no phase that names a chain
 pub running-names-none : (doing : Doing) → chain-named (phase-of-doing doing) ≡ 0
-running-names-none doing = doing-phase doing .1
-
--- phase 0 is that of an idle thread alone
-pub idle-by-phase : (state : ThreadState) → phase-of state ≡ 0 → state ≡ Idle
-idle-by-phase =
-    each-state _ (search, λ doing e. absurd (omega (arith, e, doing-phase doing .0)), λ carried e. cc, λ e. cc, λ saved e. cc)
+unfolding chain-named
+running-names-none = each-doing _ (search)
 
 -- a thread is in the chain that its phase names, once, and in no other
 pub state-names : (chain : Chain) (state : ThreadState) → times-in chain state ≡ one-if (eqb (chain-named (phase-of state)) (chain-number chain))
@@ -69,12 +61,8 @@ pub unnamed-never : (chain : Chain) (state : ThreadState) → chain-named (phase
 unnamed-never chain state away = state-names chain state ∙ ap one-if (ne-eqb (chain-named (phase-of state)) (chain-number chain) away)
 
 pub in-named : (chain : Chain) (state : ThreadState) → 0 < times-in chain state → chain-named (phase-of state) ≡ chain-number chain
-in-named chain state inside = at (equal? (chain-named (phase-of state)) (chain-number chain))
-  where
-    at : (chain-named (phase-of state) ≡ chain-number chain) ⊎ (chain-named (phase-of state) ≢ chain-number chain)
-        → chain-named (phase-of state) ≡ chain-number chain
-    at (inl e) = e
-    at (inr away) = absurd (omega (arith, inside, unnamed-never chain state away))
+in-named chain state inside =
+    either-way (equal? (chain-named (phase-of state)) (chain-number chain)) (λ e. e) (λ away. absurd (omega (arith, inside, unnamed-never chain state away)))
 
 -- a thread that is in a chain is not idle
 pub named-busy : (state : ThreadState) → chain-named (phase-of state) ≢ 0 → T (unfinished state)

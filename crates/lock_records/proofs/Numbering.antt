@@ -2,8 +2,7 @@
 -- does to the lists and to the links that stand for them.
 use Prim.Native.Nat.{ℕ, zero, suc, _+_, _*_, _/_, _%_, _≤_, _<_}
 use mathlib.Core.Path.{_≡_, refl, sym, _∙_, subst, fun-ext}
-use mathlib.Core.Logic.{_≢_, _⊎_, inl, inr}
-use mathlib.Core.Bool.{Bool, true, false}
+use mathlib.Core.Logic.{_≢_}
 use mathlib.Core.List.{List, [], _∷_, _++_, tail}
 use native.Mathlib.Omega.{arith}
 use lib.Dec.{eqb}
@@ -11,7 +10,7 @@ use lib.ListN.{length, take}
 use Rattle.laws.specs.Choice.{pick}
 use Rattle.laws.specs.Update.{update}
 use Rattle.laws.specs.Count.{count}
-use Rattle.laws.proofs.Choice.{equal?, Equal, equal}
+use Rattle.laws.proofs.Choice.{by-equal, either-way, equal?}
 use Rattle.laws.proofs.Update.{update-same, update-other}
 use Rattle.chains.proofs.Chain.{head}
 use Rattle.chains.proofs.Links.{Links, LinksRepresent, leave-links, leave-lists, join-links, join-lists, move-links, move-lists, shift-links, shift-lists}
@@ -71,15 +70,13 @@ by-number P each c =
     subst P whole (each (c / 3) (chain-at (c % 3)))
 
 -- two numbers are the same for the same chain of the same object only
-pub update-number {ℓ} : {A : Type ℓ} (f : ℕ → A) (o : ℕ) (a b : Chain) (value : A)
+pub update-number : {A : Type 0} (f : ℕ → A) (o : ℕ) (a b : Chain) (value : A)
     → update f (number o a) value (number o b) ≡ pick (eqb (place-of b) (place-of a)) value (f (number o b))
 unfolding number
-update-number f o a b value = at (eqb (place-of b) (place-of a)) (equal (place-of b) (place-of a))
-  where
-    at : (same : Bool) → Equal same (place-of b) (place-of a)
-        → update f (3 * o + place-of a) value (3 * o + place-of b) ≡ pick same value (f (3 * o + place-of b))
-    at true e = rw (e, update-same f (3 * o + place-of a) value)
-    at false away = update-other f (3 * o + place-of a) value (3 * o + place-of b) (λ q. away (omega (arith, q)))
+update-number f o a b value =
+    by-equal (λ x. update f (3 * o + place-of a) value (3 * o + place-of b) ≡ x) (place-of b) (place-of a)
+    (λ e. rw (e, update-same f (3 * o + place-of a) value))
+    (λ away. update-other f (3 * o + place-of a) value (3 * o + place-of b) (λ q. away (omega (arith, q))))
 
 pub objects-apart : (o p : ℕ) (a b : Chain) → p ≢ o → number p a ≢ number o b
 unfolding number
@@ -90,13 +87,11 @@ pub lists-replaced : (objects : ℕ → ListObject) (o : ℕ) (new : ListObject)
     → ((chain : Chain) → list (number o chain) ≡ chain-of chain new)
     → ((c : ℕ) → ((chain : Chain) → c ≢ number o chain) → list c ≡ lists-of objects c) → list ≡ lists-of (update objects o new)
 lists-replaced objects o new list own others =
-    fun-ext (by-number (λ c. list c ≡ lists-of (update objects o new) c) (λ p chain. at p chain (equal? p o)))
-  where
-    at : (p : ℕ) (chain : Chain) → (p ≡ o) ⊎ (p ≢ o) → list (number p chain) ≡ lists-of (update objects o new) (number p chain)
-    at p chain (inl q) = rw (q, list-at (update objects o new) o chain, update-same objects o new) (own chain)
-    at p chain (inr away) =
-        others (number p chain) (λ chain′. objects-apart o p chain chain′ away)
-        ∙ rw (list-at (update objects o new) p chain, list-at objects p chain, update-other objects o new p away)
+    fun-ext
+    (by-number (λ c. list c ≡ lists-of (update objects o new) c)
+    (λ p chain. either-way (equal? p o) (λ q. rw (q, list-at (update objects o new) o chain, update-same objects o new) (own chain))
+    (λ away. others (number p chain) (λ chain′. objects-apart o p chain chain′ away)
+    ∙ rw (list-at (update objects o new) p chain, list-at objects p chain, update-other objects o new p away))))
 
 -- What the work of `thread` at object o on chains does to the lists, and to the links.
 abbrev pub work-lists : ℕ → ℕ → ChainWork → (ℕ → List ℕ) → ℕ → List ℕ

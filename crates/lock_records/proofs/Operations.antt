@@ -7,9 +7,8 @@ use Rattle.laws.specs.Choice.{pick}
 use Rattle.lock_rules.proofs.Each.{each-operation}
 use Rattle.lock_rules.specs.Numbers.{asked-for}
 use Rattle.lock_rules.specs.Rules.{begun}
-use Rattle.lock_rules.specs.Operations.{Operation as AskedOperation}
-use Rattle.lock_rules.specs.Operations.{Enter as AskEnter, Exit as AskExit, Wait as AskWait, Notify as AskNotify, NotifyAll as AskNotifyAll}
-use Rattle.lock_rules.specs.Operations.{Asked, Unknown, Known}
+use Rattle.lock_rules.specs.Operations.{Operation as AskedOperation, Enter as AskEnter, Exit as AskExit, Wait as AskWait, Notify as AskNotify}
+use Rattle.lock_rules.specs.Operations.{NotifyAll as AskNotifyAll, Asked, Unknown, Known}
 use Rattle.lock_rules.specs.declared.ThreadState.the-variants.{Running}
 use Rattle.lock_table.specs.Operation.{operation-from}
 use Rattle.lock_table.specs.declared.operation.Operation.{Operation}

@@ -13,7 +13,7 @@ use Rattle.chains.proofs.Chain.{head}
 use Rattle.chains.proofs.Links.{Links, LinksRepresent, first-head}
 use Rattle.lock_rules.proofs.Changes.{seen-after}
 use Rattle.lock_rules.specs.declared.{Doing.Doing, ThreadState.ThreadState, Effect.Effect}
-use Rattle.lock_rules.specs.declared.ThreadState.the-variants.{Idle, Running}
+use Rattle.lock_rules.specs.declared.ThreadState.the-variants.{Running}
 use Rattle.lock_rules.specs.declared.Action.the-variants.{Unruled, Do}
 use Rattle.lock_rules.proofs.Each.{each-chain}
 use Rattle.lock_rules.proofs.Objects.{ListObject, chain-of}
@@ -52,9 +52,6 @@ Unchained state = (chain : Chain) → times-in chain state ≡ 0
 
 pub running-unchained : (doing : Doing) → Unchained (Running doing)
 running-unchained doing = each-chain _ (search)
-
-pub idle-unchained : Unchained Idle
-idle-unchained = each-chain _ (search)
 
 module _ (threads objects : ℕ) (t : Table) (lists : ListTable) (represents : Represents threads objects t lists) (sound : SoundTable threads objects lists)
     (i : ℕ) (low : 1 ≤ i) (high : i ≤ threads) where

@@ -17,8 +17,7 @@ use Rattle.lock_word.proofs.RoundTrip.{word-of-meaning}
 use Rattle.lock_rules.specs.Numbers.{phase-of}
 use Rattle.lock_rules.proofs.Status.{unfinished}
 use Rattle.lock_rules.specs.declared.{Doing.Doing, ThreadState.ThreadState}
-use Rattle.lock_rules.specs.declared.Doing.the-variants.{EnterStore}
-use Rattle.lock_rules.specs.declared.Doing.the-variants.{ExitStore}
+use Rattle.lock_rules.specs.declared.Doing.the-variants.{EnterStore, ExitStore}
 use Rattle.lock_rules.specs.declared.ThreadState.the-variants.{Idle, Running}
 use Rattle.lock_rules.proofs.ListSound.{SuspensionFine, DoingFine, StateFine}
 use Rattle.lock_table.specs.Phase.{onward-number, phase-number, carried-number}

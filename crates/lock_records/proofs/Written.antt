@@ -1,13 +1,12 @@
 -- What a rule's view of a word and a thread's state are written as, how they are read back, and what the changes of words and records make of them.
-use Prim.Native.Nat.{ℕ, _-_, _≤_}
+use Prim.Native.Nat.{ℕ, _≤_}
 use mathlib.Core.Path.{_≡_, refl, sym, ap, _∙_}
 use mathlib.Core.Logic.{_⊎_, inl, inr}
-use mathlib.Core.Bool.{Bool, true, false}
 use native.Mathlib.Omega.{arith}
 use native.Mathlib.Nat.{le-of-lt}
 use lib.Dec.{T, eqb}
 use Rattle.laws.specs.Choice.{pick}
-use Rattle.laws.proofs.Choice.{pick-same}
+use Rattle.laws.proofs.Choice.{by-test, either-way, split, pick-same}
 use Rattle.lock_word.specs.Layout.{count-limit}
 use Rattle.lock_word.specs.Read.{read-word, thread-number, monitor-number}
 use Rattle.lock_word.specs.Write.{write-word, IsNumber, InRange, reserved-word}
@@ -35,8 +34,7 @@ use Rattle.lock_table.specs.Record.{no-thread, with-activity, with-next}
 use Rattle.lock_table.specs.Chain.{carried-of, handed-of, moved-phase, moved as moved-record}
 use Rattle.lock_table.specs.declared.record.ThreadRecord.{ThreadRecord}
 use Rattle.lock_perform.specs.State.{look-of, store-of, cancel-of as cancel-state-of, go-in-of, carried-of as carried-state-of, state-by}
-use Rattle.lock_perform.specs.State.{read-activity}
-use Rattle.lock_perform.specs.State.{doing-activity, carried-activity, write-activity, write-thread}
+use Rattle.lock_perform.specs.State.{read-activity, doing-activity, carried-activity, write-activity, write-thread}
 use Rattle.lock_perform.specs.Moving.{back-from, sent-back-of}
 use Rattle.lock_perform.specs.Perform.{word-after}
 
@@ -71,17 +69,14 @@ module _ (threads o : ℕ) (thread-room : threads ≤ thread-limit) (real : 1 �
   cancel-written seen fine = rw (word-read seen fine) (at seen)
     where
       at : (seen : WordSeen) → cancel-read (word-written o seen) (Valid (lock-word o seen)) ≡ word-written o (cancelled seen)
-      at SeenFree = refl
-      at SeenAnonymous = refl
-      at SeenFat = refl
-      at (SeenFlat thread count) = refl
-      at (SeenReserved thread count) = by (eqb count 0)
-        where
-          by : (none : Bool)
-              → rewritten-of (word-written o (SeenReserved thread count)) (pick none SeenFree (SeenFlat thread (count - 1)))
-              ≡ write-word (lock-word o (pick none SeenFree (SeenFlat thread (count - 1))))
-          by true = refl
-          by false = refl
+      at =
+          each-word _ (
+            search,
+            search,
+            search,
+            search,
+            λ thread count. by-test (λ word. rewritten-of (word-written o (SeenReserved thread count)) word ≡ word-written o word) (eqb count 0) (λ e. refl) (λ e. refl),
+          )
 
   -- a change of the bits by thread n writes the word that the change makes
   pub word-changed : (n : ℕ) (seen : WordSeen) → WordFine threads seen → (change : WordChange)
@@ -159,11 +154,7 @@ idle-or-written n o = each-state _ (
 )
 
 pub object-written : (n o : ℕ) (state : ThreadState) → T (unfinished state) → write-activity n o state .object ≡ o
-object-written n o state busy = at (idle-or-written n o state)
-  where
-    at : (state ≡ Idle) ⊎ (write-activity n o state .object ≡ o) → write-activity n o state .object ≡ o
-    at (inl idle) = absurd (rw idle at busy)
-    at (inr same) = same
+object-written n o state busy = either-way (idle-or-written n o state) (λ idle. absurd (rw idle at busy)) (λ same. same)
 
 -- and the phase, by its number
 pub phase-written : (n o : ℕ) (state : ThreadState) → phase-number (write-activity n o state .phase) ≡ phase-of state
@@ -195,19 +186,9 @@ pub sent-back-written : (o n home : ℕ) (state : ThreadState) (own : ThreadReco
 unfolding sent-back-of
 sent-back-written o n home state own =
     ap (λ (back : ThreadRecord). pick (eqb (write-activity n home state .object) o) back (write-thread n home state own)) (back-written n home state own)
-    ∙ at (idle-or-written n home state)
-  where
-    here : (there : Bool) → pick there (write-thread n home (sent-back state) own) (write-thread n home state own)
-        ≡ write-thread n home (pick there (sent-back state) state) own
-    here true = refl
-    here false = refl
-
-    at : (state ≡ Idle) ⊎ (write-activity n home state .object ≡ home)
-        → pick (eqb (write-activity n home state .object) o) (write-thread n home (sent-back state) own) (write-thread n home state own)
-        ≡ write-thread n home (pick (eqb home o) (sent-back state) state) own
-    at (inl idle) =
-        rw idle
-        (pick-same (eqb (write-activity n home Idle .object) o) (write-thread n home Idle own)
-        ∙ ap (λ (s : ThreadState). write-thread n home s own) (sym (pick-same (eqb home o) Idle)))
-    at (inr same) =
-        ap (λ (b : ℕ). pick (eqb b o) (write-thread n home (sent-back state) own) (write-thread n home state own)) same ∙ here (eqb home o)
+    ∙ either-way (idle-or-written n home state)
+    (λ idle. rw idle
+    (pick-same (eqb (write-activity n home Idle .object) o) (write-thread n home Idle own)
+    ∙ ap (λ (s : ThreadState). write-thread n home s own) (sym (pick-same (eqb home o) Idle))))
+    (λ same. ap (λ (b : ℕ). pick (eqb b o) (write-thread n home (sent-back state) own) (write-thread n home state own)) same
+    ∙ split (eqb home o) (λ e. rw e) (λ e. rw e))

@@ -32,7 +32,7 @@ use Rattle.lock_table.specs.Access.{thread-at, set-thread, object-at, set-objec
 use Rattle.lock_table.specs.declared.operation.Operation.{Operation}
 use Rattle.lock_table.specs.declared.operation.Operation.the-variants.{Idle as NoOperation, Enter, Exit, Wait, Notify, NotifyAll}
 use Rattle.lock_table.specs.declared.record.{ThreadRecord.ThreadRecord, ObjectRecord.ObjectRecord, Table.Table}
-use Rattle.lock_table.proofs.Records.{object-unchanged}
+use Rattle.lock_table.proofs.Records.{object-unchanged, thread-unchanged, object-beside-thread}
 use Rattle.lock_perform.specs.State.{read-thread, write-activity, doing-activity, carried-activity}
 use Rattle.lock_perform.specs.Sight.{sight-at}
 use Rattle.lock_perform.specs.Perform.{stays}
@@ -48,7 +48,6 @@ use Rattle.lock_gate.specs.Status.{thread-status}
 use Rattle.lock_engine.specs.Handle.{event-object, waiters-of, outcome-of, handle-trusting, handle}
 use Rattle.lock_engine.specs.declared.outcome.Outcome.{Outcome}
 use Rattle.lock_engine.proofs.Refused.{refused-stays}
-use Rattle.lock_table.proofs.Records.{thread-unchanged, object-beside-thread}
 use Rattle.lock_engine.proofs.Narrow.{sizes}
 use Rattle.lock_schedule.specs.Schedule.{reply-shown}
 
