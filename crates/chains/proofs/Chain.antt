@@ -2,20 +2,22 @@
 -- The arguments of a law stand in the order of the definitions: fuel, next indexes, first thread, list.
 use Prim.Native.Nat.{ℕ, zero, suc, _≤_, _<_}
 use mathlib.Core.Path.{_≡_, refl, sym, ap, _∙_}
-use mathlib.Core.Logic.{_≢_, _⊎_, inl, inr}
-use mathlib.Core.Bool.{Bool, true, false}
+use mathlib.Core.Logic.{_≢_}
 use mathlib.Core.List.{List, [], _∷_, _++_}
 use native.Mathlib.Omega.{arith}
-use lib.Dec.{eqb}
 use lib.ListN.{length}
 use borrow.Author.Tests.{eq-eqb, ne-eqb}
-use Rattle.laws.specs.Choice.{pick}
 use Rattle.laws.specs.Update.{update}
 use Rattle.laws.specs.Count.{count}
-use Rattle.laws.proofs.Choice.{equal?, Equal, equal}
+use Rattle.laws.proofs.Choice.{by-equal, either-way, equal?}
 use Rattle.laws.proofs.Update.{update-same, update-other, update-id}
 use Rattle.laws.proofs.Count.{count-none, count-same, count-other}
 use Rattle.chains.specs.Chain.{members, last-of, first-with, linked}
+
+-- what holds of the new value at its place, and of the old ones elsewhere, holds of each
+pub by-update : {A : Type 0} (P : A → Type 0) (f : ℕ → A) (place : ℕ) (value : A) (n : ℕ) → (n ≡ place → P value) → (n ≢ place → P (f n)) → P (update f place value n)
+unfolding update
+by-update P f place value n = by-equal P n place
 
 -- from `first`, by the next indexes, the chain's threads are these, in order
 abbrev pub Chain : (ℕ → ℕ) → ℕ → List ℕ → Type 0
@@ -83,12 +85,9 @@ behind-member : (next : ℕ → ℕ) (first : ℕ) (list : List ℕ) (n : ℕ) �
     → (rest : List ℕ) × Chain next (next n) rest × (length rest < length list)
 unfolding count
 behind-member next first [] n chain h = absurd (omega arith)
-behind-member next first (x ∷ xs) n chain h = at (equal? n x) (behind-member next (next x) xs n (chain .2))
-  where
-    at : (n ≡ x) ⊎ (n ≢ x) → (0 < count n xs → (rest : List ℕ) × Chain next (next n) rest × (length rest < length xs))
-        → (rest : List ℕ) × Chain next (next n) rest × (length rest < suc (length xs))
-    at (inl e) later = (xs, rw e (chain .2), omega arith)
-    at (inr away) later = let (rest, c, s) = later (omega (arith, count-other n x xs away)) in (rest, c, omega arith)
+behind-member next first (x ∷ xs) n chain h =
+    either-way (equal? n x) (λ e. (xs, rw e (chain .2), omega arith))
+    (λ away. let (rest, c, s) = behind-member next (next x) xs n (chain .2) (omega (arith, count-other n x xs away)) in (rest, c, omega arith))
 
 -- a chain that ends does not come back to its first thread
 pub chain-first-once : (next : ℕ → ℕ) (first x : ℕ) (rest : List ℕ) → Chain next first (x ∷ rest) → count x rest ≡ 0
@@ -102,11 +101,9 @@ chain-first-once next first x rest chain = let never : 0 < count x rest → ⊥ 
 -- nor to any other: no thread is in it twice
 pub chain-once : (next : ℕ → ℕ) (first : ℕ) (list : List ℕ) (n : ℕ) → Chain next first list → count n list ≤ 1
 chain-once next first [] n chain = omega (arith, count-none n)
-chain-once next first (x ∷ rest) n chain = at (equal? n x) (chain-once next (next x) rest n (chain .2))
-  where
-    at : (n ≡ x) ⊎ (n ≢ x) → count n rest ≤ 1 → count n (x ∷ rest) ≤ 1
-    at (inl e) later = rw e (omega (arith, count-same x rest, chain-first-once next first x rest chain))
-    at (inr away) later = omega (arith, count-other n x rest away)
+chain-once next first (x ∷ rest) n chain =
+    either-way (equal? n x) (λ e. rw e (omega (arith, count-same x rest, chain-first-once next first x rest chain)))
+    (λ away. omega (arith, count-other n x rest away, chain-once next (next x) rest n (chain .2)))
 
 -- the last is a member
 pub last-member : (x : ℕ) (rest : List ℕ) → 0 < count (last x rest) (x ∷ rest)
@@ -154,11 +151,7 @@ linked-none fuel next front (x ∷ rest) chain short =
 
 -- nor the first thread
 pub first-with-none : (front : ℕ) → first-with front 0 ≡ front
-first-with-none front = at (eqb front 0) (equal front 0)
-  where
-    at : (b : Bool) → Equal b front 0 → pick b 0 front ≡ front
-    at true e = sym e
-    at false e = refl
+first-with-none front = by-equal (λ n. n ≡ front) front 0 sym (λ e. refl)
 
 -- the threads `moved` of chain `back`, none of them in chain `front`, stand behind its last thread then
 hung-behind : (next : ℕ → ℕ) (front x : ℕ) (rest : List ℕ) (back : ℕ) (moved : List ℕ) → Chain next front (x ∷ rest) → Chain next back moved

@@ -2,18 +2,18 @@
 -- Every action on the chains of a table is one of these four or a few of them in a row.
 use Prim.Native.Nat.{ℕ, _≤_}
 use mathlib.Core.Path.{_≡_, refl, sym, ap, _∙_, subst, fun-ext}
-use mathlib.Core.Logic.{_≢_, _⊎_, inl, inr}
+use mathlib.Core.Logic.{_≢_}
 use native.Mathlib.Omega.{arith}
 use mathlib.Core.List.{List, [], _∷_, _++_, tail, append-nil}
 use lib.ListN.{length, take}
 use Rattle.laws.specs.Update.{update}
 use Rattle.laws.specs.Count.{count}
-use Rattle.laws.proofs.Choice.{equal?}
+use Rattle.laws.proofs.Choice.{either-way, equal?}
 use Rattle.laws.proofs.Update.{update-same, update-other, update-id}
 use Rattle.chains.specs.Chain.{first-with, linked}
-use Rattle.chains.proofs.Chain.{Chain, head, chain-head, linked-none, first-with-none}
-use Rattle.chains.proofs.Family.{Chains, chains-zero, chains-move}
-use Rattle.chains.proofs.Relink.{chains-join, chains-leave, chains-left}
+use Rattle.chains.proofs.Chain.{by-update, Chain, head, chain-head, linked-none, first-with-none}
+use Rattle.chains.proofs.Family.{Chains, chains-zero}
+use Rattle.chains.proofs.Relink.{chains-join, chains-leave, chains-left, chains-move}
 
 -- the threads' next indexes, and the first thread of each chain by the chain's number
 pub record Links : Type 0 where
@@ -66,12 +66,9 @@ abbrev pub move-lists : ℕ → ℕ → (ℕ → List ℕ) → ℕ → List ℕ
 move-lists from to list = let rest = update list from [] in update rest to (rest to ++ list from)
 
 -- a place emptied and filled again
-update-back {ℓ} : {A : Type ℓ} (f : ℕ → A) (place : ℕ) (value : A) → update (update f place value) place (f place) ≡ f
-update-back f place value = fun-ext (λ n. at n (equal? n place))
-  where
-    at : (n : ℕ) → (n ≡ place) ⊎ (n ≢ place) → update (update f place value) place (f place) n ≡ f n
-    at n (inl e) = rw (e, update-same (update f place value) place (f place))
-    at n (inr away) = update-other (update f place value) place (f place) n away ∙ update-other f place value n away
+update-back : {A : Type 0} (f : ℕ → A) (place : ℕ) (value : A) → update (update f place value) place (f place) ≡ f
+update-back f place value =
+    fun-ext (λ n. by-update (λ x. x ≡ f n) (update f place value) place (f place) n (λ e. ap f (sym e)) (update-other f place value n))
 
 -- who leaves a chain is no longer in it, and all others are
 tail-count : (n : ℕ) (list : List ℕ) → count n (tail list) ≤ count n list
@@ -84,18 +81,10 @@ tail-length [] = omega arith
 tail-length (x ∷ rest) = omega arith
 
 pub leave-within : (list : ℕ → List ℕ) (c d n : ℕ) → count n (leave-lists c list d) ≤ count n (list d)
-leave-within list c d n = at (equal? d c)
-  where
-    at : (d ≡ c) ⊎ (d ≢ c) → count n (leave-lists c list d) ≤ count n (list d)
-    at (inl e) = rw (e, update-same list c (tail (list c))) (tail-count n (list c))
-    at (inr away) = rw (update-other list c (tail (list c)) d away) (omega arith)
+leave-within list c d n = by-update (λ l. count n l ≤ count n (list d)) list c (tail (list c)) d (λ e. rw e (tail-count n (list c))) (λ away. omega arith)
 
 pub leave-short : (list : ℕ → List ℕ) (c d : ℕ) → length (leave-lists c list d) ≤ length (list d)
-leave-short list c d = at (equal? d c)
-  where
-    at : (d ≡ c) ⊎ (d ≢ c) → length (leave-lists c list d) ≤ length (list d)
-    at (inl e) = rw (e, update-same list c (tail (list c))) (tail-length (list c))
-    at (inr away) = rw (update-other list c (tail (list c)) d away) (omega arith)
+leave-short list c d = by-update (λ l. length l ≤ length (list d)) list c (tail (list c)) d (λ e. rw e (tail-length (list c))) (λ away. omega arith)
 
 module _ (links : Links) (list : ℕ → List ℕ) (represented : LinksRepresent links list) where
   -- a chain's first thread is its list's
@@ -173,11 +162,8 @@ module _ (links : Links) (list : ℕ → List ℕ) (represented : LinksRepresent
   -- all threads of a chain move to the end of another
   pub represent-move : (fuel from to : ℕ) → length (list to) ≤ fuel → LinksRepresent (move-links fuel from to links) (move-lists from to list)
   unfolding linked
-  represent-move fuel from to short = at (equal? from to)
-    where
-      at : (from ≡ to) ⊎ (from ≢ to) → LinksRepresent (move-links fuel from to links) (move-lists from to list)
-      at (inl e) =
-          rw (← e, update-same list from [], update-same (links .first) from 0, update-back list from [], update-back (links .first) from 0) represented
-      at (inr apart) =
-          rw (update-other list from [] to (λ e. apart (sym e)), update-other (links .first) from 0 to (λ e. apart (sym e)))
-          (chains-move (links .next) (links .first) list represented fuel from to apart short)
+  represent-move fuel from to short =
+      either-way (equal? from to)
+      (λ e. rw (← e, update-same list from [], update-same (links .first) from 0, update-back list from [], update-back (links .first) from 0) represented)
+      (λ apart. rw (update-other list from [] to (λ e. apart (sym e)), update-other (links .first) from 0 to (λ e. apart (sym e)))
+      (chains-move (links .next) (links .first) list represented from fuel to apart short))

@@ -12,13 +12,13 @@ use borrow.Author.Tests.{eq-eqb, ne-eqb}
 use Rattle.laws.specs.Choice.{pick}
 use Rattle.laws.specs.Update.{update}
 use Rattle.laws.specs.Count.{count}
-use Rattle.laws.proofs.Choice.{equal?}
+use Rattle.laws.proofs.Choice.{either-way, equal?}
 use Rattle.laws.proofs.Update.{update-same, update-other}
 use Rattle.laws.proofs.Count.{count-none, count-same, count-other, count-append}
 use Rattle.chains.specs.Chain.{first-with, linked}
-use Rattle.chains.proofs.Chain.{Chain, head, chain-frame, chain-without-zero, chain-first-once, chain-once, chain-leave, chain-link}
+use Rattle.chains.proofs.Chain.{by-update, Chain, head, chain-frame, chain-without-zero, chain-first-once, chain-once, chain-leave, chain-link}
 use Rattle.chains.proofs.Chain.{linked-other}
-use Rattle.chains.proofs.Family.{Chains, others}
+use Rattle.chains.proofs.Family.{Chains, Aside, others}
 
 -- the next indexes, with those of a list's threads set so that they stand in its order
 abbrev pub follow : List ℕ → (ℕ → ℕ) → ℕ → ℕ
@@ -70,45 +70,45 @@ pub record Relinked (next first : ℕ → ℕ) (list : ℕ → List ℕ) (c : �
   -- nobody else is touched
   pub kept : (n : ℕ) → count n new ≡ 0 → count n (list c) ≡ 0 → next′ n ≡ next n
 
-module _ (next first : ℕ → ℕ) (list : ℕ → List ℕ) (chains : Chains next first list) (c : ℕ) (next′ : ℕ → ℕ) (start : ℕ) (new : List ℕ)
-    (relinked : Relinked next first list c next′ start new) where
+-- who was aside comes in
+module _ (next first : ℕ → ℕ) (list : ℕ → List ℕ) (moved : List ℕ) (aside : Aside next first list moved) (c : ℕ) (next′ : ℕ → ℕ) (start : ℕ) (new : List ℕ)
+    (relinked : Relinked next first list c next′ start new) (comes : (n : ℕ) → count n moved ≤ count n new) where
   -- a thread of another chain is neither in the new list nor was it in the old one
   foreign : (d n : ℕ) → d ≢ c → 0 < count n (list d) → (count n new ≡ 0) × (count n (list c) ≡ 0)
   foreign d n away h =
-      let old : count n (list c) ≡ 0 = others list (chains .apart) d c n (λ e. away (sym e)) h in
+      let old : count n (list c) ≡ 0 = others list (aside .apart) d c n (λ e. away (sym e)) h in
       let never : 0 < count n new → ⊥ = λ k. omega (arith, h, relinked .came n d k old) in
       (omega arith, old)
 
-  pub chains-relink : Chains next′ (update first c start) (update list c new)
-  chains-relink = record { chain = λ d. chain d (equal? d c); apart = λ a b n. apart a b n (equal? a c) (equal? b c); loose = λ n out. loose n out }
+  relink-aside : Chains next′ (update first c start) (update list c new)
+  relink-aside = record { chain = chain; apart = apart; loose = loose }
     where
-      chain : (d : ℕ) → (d ≡ c) ⊎ (d ≢ c) → Chain next′ (update first c start d) (update list c new d)
-      chain d (inl e) = rw (e, update-same first c start, update-same list c new) (relinked .chain)
-      chain d (inr away) =
-          rw (update-other first c start d away, update-other list c new d away)
-          (chain-frame next next′ (first d) (list d) (λ n h. let (out, old) = foreign d n away h in relinked .kept n out old) (chains .chain d))
+      chain : (d : ℕ) → Chain next′ (update first c start d) (update list c new d)
+      chain d =
+          either-way (equal? d c) (λ e. rw (e, update-same first c start, update-same list c new) (relinked .chain))
+          (λ away. rw (update-other first c start d away, update-other list c new d away)
+          (chain-frame next next′ (first d) (list d) (λ n h. let (out, old) = foreign d n away h in relinked .kept n out old) (aside .chain d)))
 
-      apart : (a b n : ℕ) → (a ≡ c) ⊎ (a ≢ c) → (b ≡ c) ⊎ (b ≢ c) → 0 < count n (update list c new a) → 0 < count n (update list c new b) → a ≡ b
-      apart a b n (inl e) (inl q) h k = e ∙ sym q
-      apart a b n (inl e) (inr q) h k =
-          absurd (omega (arith, foreign b n q (rw (update-other list c new b q) at k) .0, rw (e, update-same list c new) at h))
-      apart a b n (inr e) (inl q) h k =
-          absurd (omega (arith, foreign a n e (rw (update-other list c new a e) at h) .0, rw (q, update-same list c new) at k))
-      apart a b n (inr e) (inr q) h k = chains .apart a b n (rw (update-other list c new a e) at h) (rw (update-other list c new b q) at k)
+      apart : (a b n : ℕ) → 0 < count n (update list c new a) → 0 < count n (update list c new b) → a ≡ b
+      apart a b n =
+          by-update (λ l. 0 < count n l → 0 < count n (update list c new b) → a ≡ b) list c new a
+          (λ e h. by-update (λ l. 0 < count n l → a ≡ b) list c new b (λ q k. e ∙ sym q) (λ q k. absurd (omega (arith, foreign b n q k .0, h))))
+          (λ e h. by-update (λ l. 0 < count n l → a ≡ b) list c new b (λ q k. absurd (omega (arith, foreign a n e h .0, k))) (λ q. aside .apart a b n h))
 
       loose : (n : ℕ) → ((d : ℕ) → count n (update list c new d) ≡ 0) → next′ n ≡ 0
-      loose n out = at (equal? (count n (list c)) 0)
-        where
-          absent : count n new ≡ 0
-          absent = rw (update-same list c new) at (out c)
+      loose n out =
+          let absent : count n new ≡ 0 = rw (update-same list c new) at (out c) in
+          either-way (equal? (count n (list c)) 0)
+          (λ old. relinked .kept n absent old
+          ∙ aside .loose n (λ d. either-way (equal? d c) (λ e. rw e old) (λ away. rw (update-other list c new d away) at (out d))) (omega (arith, absent, comes n)))
+          (λ some. relinked .gone n absent (omega (arith, some)))
 
-          elsewhere : count n (list c) ≡ 0 → (d : ℕ) → (d ≡ c) ⊎ (d ≢ c) → count n (list d) ≡ 0
-          elsewhere old d (inl e) = rw e old
-          elsewhere old d (inr away) = rw (update-other list c new d away) at (out d)
-
-          at : (count n (list c) ≡ 0) ⊎ (count n (list c) ≢ 0) → next′ n ≡ 0
-          at (inl old) = relinked .kept n absent old ∙ chains .loose n (λ d. elsewhere old d (equal? d c))
-          at (inr some) = relinked .gone n absent (omega (arith, some))
+-- with nobody aside
+pub chains-relink : (next first : ℕ → ℕ) (list : ℕ → List ℕ) → Chains next first list → (c : ℕ) (next′ : ℕ → ℕ) (start : ℕ) (new : List ℕ)
+    → Relinked next first list c next′ start new → Chains next′ (update first c start) (update list c new)
+chains-relink next first list chains c next′ start new relinked =
+    relink-aside next first list [] (record { chain = chains .chain; apart = chains .apart; loose = λ n out none. chains .loose n out }) c next′ start new relinked
+    (λ n. omega (arith, count-none n))
 
 -- the threads of a list that pass a test, and those that do not, each in order
 abbrev pub passing : (ℕ → Bool) → List ℕ → List ℕ
@@ -144,7 +144,7 @@ module _ (next first : ℕ → ℕ) (list : ℕ → List ℕ) (chains : Chains n
       (record {
         chain = chain-leave next (first c) x rest (rw is at (chains .chain c));
         came = λ n d h old. absurd (omega (arith, h, old, fewer n));
-        gone = λ n out h. gone n out h (equal? n x);
+        gone = λ n out h. by-update (λ m. m ≡ 0) next x 0 n (λ e. refl) (λ away. absurd (omega (arith, out, rw is at h, count-other n x rest away)));
         kept = λ n out old. update-other next x 0 n (λ e. omega (arith, old, ap (λ (m : ℕ). count m (list c)) e, here));
       })
     where
@@ -154,17 +154,11 @@ module _ (next first : ℕ → ℕ) (list : ℕ → List ℕ) (chains : Chains n
       fewer : (n : ℕ) → count n rest ≤ count n (list c)
       fewer n = rw is (omega (arith, count-append n (x ∷ []) rest))
 
-      gone : (n : ℕ) → count n rest ≡ 0 → 0 < count n (list c) → (n ≡ x) ⊎ (n ≢ x) → update next x 0 n ≡ 0
-      gone n out h (inl e) = rw (e, update-same next x 0)
-      gone n out h (inr away) = absurd (omega (arith, out, rw is at h, count-other n x rest away))
-
   -- and is then in no chain
   pub chains-left : (x : ℕ) (rest : List ℕ) → list c ≡ x ∷ rest → (d : ℕ) → count x (update list c rest d) ≡ 0
-  chains-left x rest is d = at (equal? d c)
-    where
-      at : (d ≡ c) ⊎ (d ≢ c) → count x (update list c rest d) ≡ 0
-      at (inl e) = rw (e, update-same list c rest) (chain-first-once next (first c) x rest (rw is at (chains .chain c)))
-      at (inr away) = rw (update-other list c rest d away) (others list (chains .apart) c d x away (rw is (omega (arith, count-same x rest))))
+  chains-left x rest is d =
+      by-update (λ l. count x l ≡ 0) list c rest d (λ e. chain-first-once next (first c) x rest (rw is at (chains .chain c)))
+      (λ away. others list (chains .apart) c d x away (rw is (omega (arith, count-same x rest))))
 
   -- thread n, in no chain, joins chain c at the end
   pub chains-join : (fuel n : ℕ) → length (list c) ≤ fuel → n ≢ 0 → ((d : ℕ) → count n (list d) ≡ 0)
@@ -172,19 +166,44 @@ module _ (next first : ℕ → ℕ) (list : ℕ → List ℕ) (chains : Chains n
   chains-join fuel n short real out =
       chains-relink next first list chains c (linked fuel next (first c) n) (first-with (first c) n) (list c ++ (n ∷ []))
       (record {
-        chain = chain-link fuel next (first c) (list c) n (n ∷ []) (chains .chain c) (refl, real, chains .loose n out) short (λ m h. apart m h (equal? m n));
-        came = λ m d h old. came m d h old (equal? m n);
+        chain = chain-link fuel next (first c) (list c) n (n ∷ []) (chains .chain c) (refl, real, chains .loose n out) short
+            (λ m h. either-way (new m) (λ e. absurd (omega (arith, h, ap (λ (k : ℕ). count k (list c)) e, out c))) (λ none. none));
+        came = λ m d h old. either-way (new m) (λ e. rw e (out d)) (λ none. absurd (omega (arith, h, old, count-append m (list c) (n ∷ []), none)));
         gone = λ m none h. absurd (omega (arith, none, h, count-append m (list c) (n ∷ [])));
         kept = λ m none old. linked-other fuel next (first c) (list c) n m (chains .chain c) short old;
       })
     where
-      apart : (m : ℕ) → 0 < count m (list c) → (m ≡ n) ⊎ (m ≢ n) → count m (n ∷ []) ≡ 0
-      apart m h (inl e) = absurd (omega (arith, h, ap (λ (k : ℕ). count k (list c)) e, out c))
-      apart m h (inr away) = count-other m n [] away ∙ count-none m
+      new : (m : ℕ) → (m ≡ n) ⊎ (count m (n ∷ []) ≡ 0)
+      new m = either-way (equal? m n) inl (λ away. inr (count-other m n [] away ∙ count-none m))
 
-      came : (m d : ℕ) → 0 < count m (list c ++ (n ∷ [])) → count m (list c) ≡ 0 → (m ≡ n) ⊎ (m ≢ n) → count m (list d) ≡ 0
-      came m d h old (inl e) = rw e (out d)
-      came m d h old (inr away) = absurd (omega (arith, h, old, count-append m (list c) (n ∷ []), count-other m n [] away, count-none m))
+  -- all threads of chain c, in order, move to the end of chain `to`
+  pub chains-move : (fuel to : ℕ) → c ≢ to → length (list to) ≤ fuel
+      → Chains (linked fuel next (first to) (first c)) (update (update first c 0) to (first-with (first to) (first c)))
+      (update (update list c []) to (list to ++ list c))
+  chains-move fuel to apart short =
+      let same : update list c [] to ≡ list to = update-other list c [] to (λ e. apart (sym e)) in
+      relink-aside next (update first c 0) (update list c []) (list c) taken to (linked fuel next (first to) (first c)) (first-with (first to) (first c)) (list to ++ list c)
+      (record {
+        chain = chain-link fuel next (first to) (list to) (first c) (list c) (chains .chain to) (chains .chain c) short (λ n h. others list (chains .apart) to c n apart h);
+        came = λ n d h old. free n (omega (arith, h, old, ap (count n) same, count-append n (list to) (list c))) d;
+        gone = λ n out h. absurd (omega (arith, out, h, ap (count n) same, count-append n (list to) (list c)));
+        kept = λ n out old. linked-other fuel next (first to) (list to) (first c) n (chains .chain to) short (sym (ap (count n) same) ∙ old);
+      }) (λ n. omega (arith, count-append n (list to) (list c)))
+    where
+      free : (n : ℕ) → 0 < count n (list c) → (d : ℕ) → count n (update list c [] d) ≡ 0
+      free n h d = by-update (λ l. count n l ≡ 0) list c [] d (λ e. count-none n) (λ away. others list (chains .apart) c d n away h)
+
+      less : (d n : ℕ) → 0 < count n (update list c [] d) → 0 < count n (list d)
+      less d n = by-update (λ l. 0 < count n l → 0 < count n (list d)) list c [] d (λ e h. absurd (omega (arith, h, count-none n))) (λ away h. h)
+
+      taken : Aside next (update first c 0) (update list c []) (list c)
+      taken =
+          record {
+            chain = λ d. either-way (equal? d c) (λ e. rw (e, update-same first c 0, update-same list c []))
+                (λ away. rw (update-other first c 0 d away, update-other list c [] d away) (chains .chain d));
+            apart = λ a b n h k. chains .apart a b n (less a n h) (less b n k);
+            loose = λ n out none. chains .loose n (λ d. either-way (equal? d c) (λ e. rw e none) (λ away. rw (update-other list c [] d away) at (out d)));
+          }
 
   -- the members of chain c that pass a test leave it; the others stay in order
   pub chains-remove : (test : ℕ → Bool) → let rest = failing test (list c) in
@@ -208,8 +227,9 @@ module _ (next first : ℕ → ℕ) (list : ℕ → List ℕ) (chains : Chains n
       let new = front ++ (n ∷ back) in
       chains-relink next first list chains c (follow new next) (head new) new
       (record {
-        chain = chain-follow new next (more 0 (λ e. real (sym e)) ∙ no-zero) (λ m. at m (equal? m n));
-        came = λ m d h old. came m d h old (equal? m n);
+        chain = chain-follow new next (more 0 (λ e. real (sym e)) ∙ no-zero)
+            (λ m. either-way (equal? m n) (λ e. rw e (omega (arith, counted n, count-same n back, old-count n, out c))) (λ away. omega (arith, more m away, once m)));
+        came = λ m d h old. either-way (equal? m n) (λ e. rw e (out d)) (λ away. absurd (omega (arith, h, old, more m away)));
         gone = λ m none h. absurd (omega (arith, h, none, least m));
         kept = λ m none old. follow-other new next m none;
       })
@@ -224,16 +244,4 @@ module _ (next first : ℕ → ℕ) (list : ℕ → List ℕ) (chains : Chains n
       more m away = omega (arith, counted m, old-count m, count-other m n back away)
 
       least : (m : ℕ) → count m (list c) ≤ count m (front ++ (n ∷ back))
-      least m = by (equal? m n)
-        where
-          by : (m ≡ n) ⊎ (m ≢ n) → count m (list c) ≤ count m (front ++ (n ∷ back))
-          by (inl e) = rw e (omega (arith, out c))
-          by (inr away) = omega (arith, more m away)
-
-      at : (m : ℕ) → (m ≡ n) ⊎ (m ≢ n) → count m (front ++ (n ∷ back)) ≤ 1
-      at m (inl e) = rw e (omega (arith, counted n, count-same n back, old-count n, out c))
-      at m (inr away) = omega (arith, more m away, once m)
-
-      came : (m d : ℕ) → 0 < count m (front ++ (n ∷ back)) → count m (list c) ≡ 0 → (m ≡ n) ⊎ (m ≢ n) → count m (list d) ≡ 0
-      came m d h old (inl e) = rw e (out d)
-      came m d h old (inr away) = absurd (omega (arith, h, old, more m away))
+      least m = either-way (equal? m n) (λ e. rw e (omega (arith, out c))) (λ away. omega (arith, more m away))

@@ -1,7 +1,7 @@
 -- The tests of a chain, read as facts about the list of its threads, and made from them.
 use Prim.Native.Nat.{ℕ, zero, suc, _≤_, _<_}
 use mathlib.Core.Path.{_≡_, refl, sym, ap, _∙_}
-use mathlib.Core.Logic.{_≢_, _⊎_, inl, inr}
+use mathlib.Core.Logic.{_≢_}
 use mathlib.Core.Bool.{Bool, true, false}
 use mathlib.Core.List.{List, [], _∷_}
 use native.Mathlib.Omega.{arith}
@@ -10,7 +10,7 @@ use lib.ListN.{length}
 use borrow.Author.Tests.{eq-eqb, ne-eqb, eqb-true, lt-ltb, le-ltb}
 use Rattle.laws.specs.Choice.{pick}
 use Rattle.laws.specs.Count.{count}
-use Rattle.laws.proofs.Choice.{false≢true, equal?, Equal, equal}
+use Rattle.laws.proofs.Choice.{either-way, false≢true, equal?, Equal, equal}
 use Rattle.laws.proofs.Count.{count-none, count-same, count-other}
 use Rattle.chains.specs.Chain.{members, chain-test, in-chain}
 use Rattle.chains.proofs.Chain.{Chain}
@@ -29,11 +29,11 @@ no-thread fuel next ok first e = record { chain = e; short = omega arith; good =
 one-more : (fuel : ℕ) (next : ℕ → ℕ) (ok : ℕ → Bool) (first : ℕ) (rest : List ℕ) → first ≢ 0 → ok first ≡ true → Passes fuel next ok (next first) rest
     → Passes (suc fuel) next ok first (first ∷ rest)
 one-more fuel next ok first rest real passed passes =
-    record { chain = (refl, real, passes .chain); short = omega (arith, passes .short); good = λ n h. at n (equal? n first) h }
-  where
-    at : (n : ℕ) → (n ≡ first) ⊎ (n ≢ first) → 0 < count n (first ∷ rest) → ok n ≡ true
-    at n (inl e) h = rw e passed
-    at n (inr away) h = passes .good n (omega (arith, count-other n first rest away))
+    record {
+      chain = (refl, real, passes .chain);
+      short = omega (arith, passes .short);
+      good = λ n h. either-way (equal? n first) (λ e. rw e passed) (λ away. passes .good n (omega (arith, count-other n first rest away)));
+    }
 
 -- a chain that passes its test has these members
 pub chain-test-reads : (fuel : ℕ) (next : ℕ → ℕ) (ok : ℕ → Bool) (first : ℕ) → chain-test fuel next ok first ≡ true

@@ -1,7 +1,6 @@
 -- A walk along a chain that changes each member's record once, and no other.
 use Prim.Native.Nat.{ℕ, zero, suc, _≤_}
 use mathlib.Core.Path.{_≡_, _∙_}
-use mathlib.Core.Logic.{_≢_, _⊎_, inl, inr}
 use mathlib.Core.List.{List, [], _∷_}
 use native.Mathlib.Omega.{arith}
 use lib.Dec.{eqb}
@@ -10,7 +9,7 @@ use borrow.Author.Tests.{eq-eqb, ne-eqb}
 use Rattle.laws.specs.Choice.{pick}
 use Rattle.laws.specs.Update.{update}
 use Rattle.laws.specs.Count.{count}
-use Rattle.laws.proofs.Choice.{equal?}
+use Rattle.laws.proofs.Choice.{either-way, equal?}
 use Rattle.laws.proofs.Update.{update-same, update-other}
 use Rattle.laws.proofs.Count.{count-none, count-same, count-other}
 use Rattle.chains.proofs.Chain.{Chain, chain-first-once}
@@ -35,9 +34,6 @@ walk-changes (suc fuel) next change records first [] chain short n = rw (eq-eqb 
 walk-changes zero next change records first (x ∷ rest) chain short n = absurd (omega arith)
 walk-changes (suc fuel) next change records first (x ∷ rest) chain short n =
     rw (chain .0, ne-eqb x 0 (chain .1))
-    (walk-changes fuel next change (update records x (change (records x))) (next x) rest (chain .2) (omega arith) n ∙ at (equal? n x))
-  where
-    at : (n ≡ x) ⊎ (n ≢ x)
-        → if-counted (count n rest) change (update records x (change (records x)) n) ≡ if-counted (count n (x ∷ rest)) change (records n)
-    at (inl e) = rw (e, count-same x rest, chain-first-once next first x rest chain, update-same records x (change (records x)))
-    at (inr away) = rw (count-other n x rest away, update-other records x (change (records x)) n away)
+    (walk-changes fuel next change (update records x (change (records x))) (next x) rest (chain .2) (omega arith) n
+    ∙ either-way (equal? n x) (λ e. rw (e, count-same x rest, chain-first-once next first x rest chain, update-same records x (change (records x))))
+    (λ away. rw (count-other n x rest away, update-other records x (change (records x)) n away)))

@@ -10,7 +10,7 @@ use lib.ListN.{length}
 use Rattle.laws.specs.Choice.{pick}
 use Rattle.laws.specs.Update.{update}
 use Rattle.laws.specs.Count.{count}
-use Rattle.laws.proofs.Choice.{Equal, equal}
+use Rattle.laws.proofs.Choice.{by-equal}
 use Rattle.laws.proofs.Count.{count-none, count-same}
 use Rattle.chains.specs.Chain.{first-with, linked}
 use Rattle.chains.specs.declared.named.Chain.{Chain}
@@ -22,6 +22,7 @@ use Rattle.lock_rules.specs.declared.{ThreadState.ThreadState, ChainWork.ChainW
 use Rattle.lock_rules.specs.declared.ThreadState.the-variants.{Idle}
 use Rattle.lock_rules.specs.declared.Taken.the-variants.{First, All}
 use Rattle.lock_rules.specs.declared.ChainWork.the-variants.{Stay, Join, JoinAndHand, Hand, Move, SendBack}
+use Rattle.lock_rules.proofs.Each.{each-chain}
 use Rattle.lock_rules.proofs.Objects.{ListObject, chain-of, with-chain}
 use Rattle.lock_rules.proofs.Perform.{taken, left as left-list, first-of, changed-states, handed-object, states-after, object-after, effected}
 use Rattle.lock_rules.proofs.Tables.{ListThread, ListTable}
@@ -42,7 +43,7 @@ use Rattle.lock_perform.specs.Moving.{CarriedOut, sent-back-of, relink, after-w
 use Rattle.lock_records.proofs.Numbering.{number, place-of, lists-of, list-at, update-number, work-links, first-is-head}
 use Rattle.lock_records.proofs.Written.{handed-written, moved-written}
 use Rattle.lock_records.proofs.Represents.{monitor-record, Represents, next-is}
-use Rattle.lock_records.proofs.Readings.{nobody, past-idle, first-is}
+use Rattle.lock_records.proofs.Readings.{nobody, past-idle, first-is, chained as chained-in}
 use Rattle.lock_records.proofs.Moves.{change, Moves, Inside, moves-hang, moves-first, moves-send, moves-all}
 use Rattle.lock_records.proofs.Placing.{sees, placed, placed-none, placed-first, placed-all, placed-sent}
 
@@ -54,9 +55,7 @@ pub record SameScalars (old new : ListObject) : Type 0 where
   pub depth : new .depth ≡ old .depth
 
 scalars-with : (chain : Chain) (o : ListObject) (list : List ℕ) → SameScalars o (with-chain chain o list)
-scalars-with Chain.Entry o list = record { word = refl; flag = refl; holder = refl; depth = refl }
-scalars-with Chain.Contention o list = record { word = refl; flag = refl; holder = refl; depth = refl }
-scalars-with Chain.Waiting o list = record { word = refl; flag = refl; holder = refl; depth = refl }
+scalars-with = each-chain _ (search)
 
 -- no work changes word or flag
 pub word-kept : (work : ChainWork) (thread : ℕ) (o : ListObject)
@@ -76,16 +75,12 @@ pub record Acted (given : ℕ → ThreadRecord) (t : Table) (lists : ListTable) 
 -- the monitor of object o with other links
 module _ (o : ℕ) (links : Links) (holder depth : ℕ) where
   first-recorded : (chain : Chain) → first-in (monitor-record o links holder depth) chain ≡ links .first (number o chain)
-  first-recorded Chain.Entry = refl
-  first-recorded Chain.Contention = refl
-  first-recorded Chain.Waiting = refl
+  first-recorded = each-chain _ (search)
 
   left-recorded : (chain : Chain) (first : ℕ)
       → with-first (monitor-record o links holder depth) chain first
       ≡ monitor-record o (record { next = links .next; first = update (links .first) (number o chain) first }) holder depth
-  left-recorded Chain.Entry first = simp update-number
-  left-recorded Chain.Contention first = simp update-number
-  left-recorded Chain.Waiting first = simp update-number
+  left-recorded = each-chain _ (λ first. simp update-number, λ first. simp update-number, λ first. simp update-number)
 
   joined-recorded : (chain : Chain) (n : ℕ)
       → join (monitor-record o links holder depth) chain n
@@ -126,7 +121,7 @@ module _ (threads objects : ℕ) (t : Table) (lists : ListTable) (represents : R
 
       -- any chain of object o: its members have records and are at o
       chained : (chain : Chain) → ChainOf (represents .links .next) (first chain) (list chain)
-      chained chain = rw (list-at (lists .objects) o chain) at (represents .chains .chain (number o chain))
+      chained = chained-in threads objects t lists represents sound o
 
       brief : (chain : Chain) → length (list chain) ≤ thread-limit
       brief chain = omega (arith, short threads objects lists sound chain o, represents .thread-room)
@@ -208,9 +203,7 @@ module _ (threads objects : ℕ) (t : Table) (lists : ListTable) (represents : R
         monitor = monitor-record o (represents .links) (effect .holder) (effect .depth)
 
         same-list : (chain : Chain) → chain-of chain now ≡ list chain
-        same-list Chain.Entry = refl
-        same-list Chain.Contention = refl
-        same-list Chain.Waiting = refl
+        same-list = each-chain _ (search)
 
         holds : first Chain.Entry ≡ first-of (list Chain.Entry)
         holds = headed Chain.Entry ∙ sym (first-is-head (list Chain.Entry))
@@ -229,14 +222,9 @@ module _ (threads objects : ℕ) (t : Table) (lists : ListTable) (represents : R
         whole-moved : (whole : ℕ) (work : ChainWork)
             → after-whole t whole monitor work i o ≡ relink (move-all thread-limit t whole) monitor work i o
         unfolding after-whole
-        whole-moved whole work = at (eqb whole 0) (equal whole 0)
-          where
-            after : Table → CarriedOut
-            after table = relink table monitor work i o
-
-            at : (b : Bool) → Equal b whole 0 → pick b (after t) (after (move-all thread-limit t whole)) ≡ after (move-all thread-limit t whole)
-            at true e = ap after (sym (ap (move-all thread-limit t) e ∙ move-none thread-limit t))
-            at false e = refl
+        whole-moved whole work =
+            let after : Table → CarriedOut = λ table. relink table monitor work i o in
+            by-equal (λ out. out ≡ after (move-all thread-limit t whole)) whole 0 (λ e. ap after (sym (ap (move-all thread-limit t) e ∙ move-none thread-limit t))) (λ e. refl)
 
         moved-first : (from : Chain) → carry-out t monitor (Move from All) i o ≡ relink (move-all thread-limit t (first from)) monitor (Move from All) i o
         moved-first from =

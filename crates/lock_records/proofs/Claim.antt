@@ -2,12 +2,11 @@
 use Prim.Native.Nat.{ℕ, _≤_}
 use mathlib.Core.Path.{_≡_, refl, sym, ap, _∙_}
 use mathlib.Core.Logic.{_≢_, _⊎_, inl, inr}
-use mathlib.Core.Bool.{Bool, true, false}
 use mathlib.Core.List.{List}
 use native.Mathlib.Omega.{arith}
 use lib.Dec.{T, eqb}
 use Rattle.laws.specs.Choice.{pick, both, either}
-use Rattle.laws.proofs.Choice.{by-test, both-no, pick-same, false≢true, Equal, equal}
+use Rattle.laws.proofs.Choice.{by-equal, either-way, split, by-test, both-no, pick-same}
 use Rattle.chains.specs.Chain.{members}
 use Rattle.chains.proofs.Links.{Links}
 use Rattle.lock_word.specs.declared.reading.Decoded.the-variants.{Valid}
@@ -15,14 +14,12 @@ use Rattle.lock_rules.specs.Numbers.{phase-of-doing, phase-of}
 use Rattle.lock_word.specs.Meaning.{owner-of, depth-of, ownership-of}
 use Rattle.lock_word.proofs.Ownership.{owned-both}
 use Rattle.lock_word.specs.declared.meaning.{Ownership.Ownership, WordSeen.WordSeen}
+use Rattle.lock_rules.proofs.Each.{each-doing, each-state}
 use Rattle.lock_rules.proofs.Status.{is-woken, parked-for-entry, unparked, unfinished}
 use Rattle.lock_rules.specs.declared.event.Event.{Event}
 use Rattle.lock_rules.specs.Feed.{Plain, feed-all, blank}
 use Rattle.lock_rules.specs.declared.{Doing.Doing, ThreadState.ThreadState}
-use Rattle.lock_rules.specs.declared.Doing.the-variants.{EnterLook, EnterStore, EnterCancel, EnterGoIn, EnterCheck, EnterTry, ExitLook}
-use Rattle.lock_rules.specs.declared.Doing.the-variants.{ExitStore, ExitGoIn, ExitTest, ExitTell, ExitLeave, WaitLook, WaitCancel, WaitGoIn}
-use Rattle.lock_rules.specs.declared.Doing.the-variants.{WaitInflate, WaitGiveUp, WaitResume, NotifyLook, NotifyAllLook}
-use Rattle.lock_rules.specs.declared.ThreadState.the-variants.{Idle, Running, Queued, Contending, Waiting}
+use Rattle.lock_rules.specs.declared.ThreadState.the-variants.{Idle, Waiting}
 use Rattle.lock_word.specs.declared.meaning.WordSeen.the-variants.{Free, Anonymous, Fat, Flat, Reserved}
 use Rattle.lock_rules.proofs.Objects.{object-owner, owned-depth}
 use Rattle.lock_rules.proofs.Tables.{ListTable, seen-from, final, shown, fresh}
@@ -47,25 +44,17 @@ use Rattle.lock_records.proofs.Readings.{busy-in, thread-is, home-is, m
 use Rattle.lock_records.proofs.RecordKind.{record-kind, sound-simulates}
 use Rattle.lock_records.proofs.FreshRecords.{fresh-represents}
 use Rattle.lock_table.specs.Ownership.{ownership-in, ownership-at}
-use Rattle.lock_records.specs.Agrees.{woken-at}
-use Rattle.lock_records.specs.Agrees.{OwnedByOther, BusyOther, Agrees}
+use Rattle.lock_records.specs.Agrees.{woken-at, OwnedByOther, BusyOther, Agrees}
 
 -- where nobody owns by the word, nobody is in
 unowned-shallow : (threads : ℕ) (seen : WordSeen) (holder depth : ℕ) → WordFine threads seen → (holder ≡ 0 → depth ≡ 0)
     → owner-of seen holder depth ≡ 0 → depth-of seen depth ≡ 0
 unowned-shallow threads Free holder depth fine shallow none = refl
 unowned-shallow threads Anonymous holder depth fine shallow none = refl
-unowned-shallow threads Fat holder depth fine shallow none = at (eqb depth 0) (equal depth 0) none
-  where
-    at : (zero : Bool) → Equal zero depth 0 → pick zero 0 holder ≡ 0 → depth ≡ 0
-    at true e unheld = e
-    at false e unheld = shallow unheld
+unowned-shallow threads Fat holder depth fine shallow none = by-equal (λ n. n ≡ 0 → depth ≡ 0) depth 0 (λ e unheld. e) (λ e. shallow) none
 unowned-shallow threads (Flat thread count) holder depth fine shallow none = absurd (omega (arith, fine .0, none))
-unowned-shallow threads (Reserved thread count) holder depth fine shallow none = at (eqb count 0) (equal count 0) none
-  where
-    at : (zero : Bool) → Equal zero count 0 → pick zero 0 thread ≡ 0 → count ≡ 0
-    at true e unheld = e
-    at false e unheld = absurd (omega (arith, fine .0, unheld))
+unowned-shallow threads (Reserved thread count) holder depth fine shallow none =
+    by-equal (λ n. n ≡ 0 → count ≡ 0) count 0 (λ e unheld. e) (λ e unheld. absurd (omega (arith, fine .0, unheld))) none
 
 -- owner and depth by the lock word are those that the rules see
 ownership-seen : (threads o : ℕ) (links : Links) (seen : WordSeen) (holder depth : ℕ) → WordFine threads seen → (holder ≡ 0 → depth ≡ 0)
@@ -85,87 +74,41 @@ owner-small threads (Flat thread count) holder depth fine small = fine .1
 owner-small threads (Reserved thread count) holder depth fine small = by-test (λ (n : ℕ). n ≤ threads) (eqb count 0) (λ e. omega arith) (λ e. fine .1)
 
 -- a thread that can take a step is neither idle nor parked
-still : ℕ → Bool
-still phase = either (eqb phase 0) (either (eqb phase 5) (either (eqb phase 8) (eqb phase 14)))
-
-not-still : (doing : Doing) → still (phase-of-doing doing) ≡ false
-unfolding still
-not-still EnterLook = refl
-not-still (EnterStore count) = refl
-not-still EnterCancel = refl
-not-still EnterGoIn = refl
-not-still EnterCheck = refl
-not-still EnterTry = refl
-not-still ExitLook = refl
-not-still (ExitStore count) = refl
-not-still ExitGoIn = refl
-not-still ExitTest = refl
-not-still ExitTell = refl
-not-still ExitLeave = refl
-not-still WaitLook = refl
-not-still WaitCancel = refl
-not-still WaitGoIn = refl
-not-still WaitInflate = refl
-not-still WaitGiveUp = refl
-not-still (WaitResume suspension) = refl
-not-still NotifyLook = refl
-not-still NotifyAllLook = refl
-
 abbrev Steps : ℕ → Type 0
 Steps phase = ((phase ≢ 5) × (phase ≢ 8) × (phase ≢ 14)) × (phase ≢ 0)
 
-steps-by : (phase : ℕ) → still phase ≡ false → Steps phase
-unfolding still
-steps-by phase = at (eqb phase 0) (eqb phase 5) (eqb phase 8) (eqb phase 14) (equal phase 0) (equal phase 5) (equal phase 8) (equal phase 14)
-  where
-    at : (a b c d : Bool) → Equal a phase 0 → Equal b phase 5 → Equal c phase 8 → Equal d phase 14
-        → either a (either b (either c d)) ≡ false → Steps phase
-    at false false false false p q r s e = ((q, r, s), p)
-    at false false false true p q r s e = false≢true (sym e)
-    at false false true d p q r s e = false≢true (sym e)
-    at false true c d p q r s e = false≢true (sym e)
-    at true b c d p q r s e = false≢true (sym e)
+doing-steps : (doing : Doing) → Steps (phase-of-doing doing)
+doing-steps = each-doing _ (search arith)
 
 -- what a phase's number says of the state
-neither : (phase : ℕ) → phase ≢ 5 → phase ≢ 8 → (phase ≡ 5) ⊎ (phase ≡ 8) → ⊥
-neither phase a b (inl e) = a e
-neither phase a b (inr e) = b e
-
 parked-by : (state : ThreadState) → (phase-of state ≡ 5) ⊎ (phase-of state ≡ 8) → T (parked-for-entry state)
-parked-by Idle e = neither 0 (λ q. omega (arith, q)) (λ q. omega (arith, q)) e
-parked-by (Running doing) e = let steps = steps-by (phase-of-doing doing) (not-still doing) in neither (phase-of-doing doing) (steps .0 .0) (steps .0 .1) e
-parked-by (Queued carried) e = tt
-parked-by Contending e = tt
-parked-by (Waiting suspension) e = neither 14 (λ q. omega (arith, q)) (λ q. omega (arith, q)) e
+parked-by =
+    each-state _ (
+      λ e. either-way e (λ q. omega (arith, q)) (λ q. omega (arith, q)),
+      λ doing e. either-way e (doing-steps doing .0 .0) (doing-steps doing .0 .1),
+      search,
+      search,
+      λ saved e. either-way e (λ q. omega (arith, q)) (λ q. omega (arith, q)),
+    )
 
 busy-parked : (state : ThreadState) → T (parked-for-entry state) → T (unfinished state)
-busy-parked Idle parked = parked
-busy-parked (Running doing) parked = tt
-busy-parked (Queued carried) parked = tt
-busy-parked Contending parked = tt
-busy-parked (Waiting suspension) parked = tt
+busy-parked = each-state _ (search)
 
 steps-unparked : (state : ThreadState) → T (unparked state) → T (unfinished state) → Steps (phase-of state)
-steps-unparked Idle free busy = absurd busy
-steps-unparked (Running doing) free busy = steps-by (phase-of-doing doing) (not-still doing)
-steps-unparked (Queued carried) free busy = absurd free
-steps-unparked Contending free busy = absurd free
-steps-unparked (Waiting suspension) free busy = absurd free
+steps-unparked = each-state _ (search doing-steps)
 
 -- woken by the numbers in a record
 woken-written : (n o : ℕ) (state : ThreadState)
     → let phase = write-activity n o state .phase in either (eqb (phase-number phase) 15) (eqb (carried-number phase) 15) ≡ is-woken state
 unfolding write-activity phase-number carried-number
-woken-written n o Idle = refl
-woken-written n o (Running doing) =
-    rw (written-doing n o doing no-thread .phase, written-doing n o doing no-thread .carried) (at (eqb (phase-of-doing doing) 15))
-  where
-    at : (b : Bool) → either b false ≡ b
-    at true = refl
-    at false = refl
-woken-written n o (Queued carried) = rw (written-carried n o carried no-thread .phase, written-carried n o carried no-thread .carries)
-woken-written n o Contending = refl
-woken-written n o (Waiting suspension) = refl
+woken-written n o =
+    each-state _ (
+      search,
+      λ doing. rw (written-doing n o doing no-thread .phase, written-doing n o doing no-thread .carried) (split (eqb (phase-of-doing doing) 15) (λ e. rw e) (λ e. rw e)),
+      λ carried. rw (written-carried n o carried no-thread .phase, written-carried n o carried no-thread .carries),
+      search,
+      search,
+    )
 
 -- and by its object, as the object sees it
 woken-seen : (n home o : ℕ) (state : ThreadState)
@@ -173,16 +116,10 @@ woken-seen : (n home o : ℕ) (state : ThreadState)
     both (eqb (thread .object) o) (either (eqb (phase-number (thread .phase)) 15) (eqb (carried-number (thread .phase)) 15))
     ≡ is-woken (pick (eqb home o) state Idle)
 woken-seen n home o state =
-    ap (both (eqb (write-activity n home state .object) o)) (woken-written n home state) ∙ at (idle-or-written n home state)
-  where
-    here : (there : Bool) → both there (is-woken state) ≡ is-woken (pick there state Idle)
-    here true = refl
-    here false = refl
-
-    at : (state ≡ Idle) ⊎ (write-activity n home state .object ≡ home)
-        → both (eqb (write-activity n home state .object) o) (is-woken state) ≡ is-woken (pick (eqb home o) state Idle)
-    at (inl idle) = rw idle (both-no (eqb (write-activity n home Idle .object) o) ∙ sym (ap is-woken (pick-same (eqb home o) Idle)))
-    at (inr same) = ap (λ (b : ℕ). both (eqb b o) (is-woken state)) same ∙ here (eqb home o)
+    ap (both (eqb (write-activity n home state .object) o)) (woken-written n home state)
+    ∙ either-way (idle-or-written n home state)
+    (λ idle. rw idle (both-no (eqb (write-activity n home Idle .object) o) ∙ sym (ap is-woken (pick-same (eqb home o) Idle))))
+    (λ same. rw same (split (eqb home o) (λ e. rw e) (λ e. rw e)))
 
 module _ (threads objects : ℕ) (t : Table) (lists : ListTable) (represents : Represents threads objects t lists) (sound : SoundTable threads objects lists)
   where

@@ -6,9 +6,10 @@ use mathlib.Core.Bool.{Bool, true, false}
 use native.Mathlib.Omega.{arith}
 use lib.Dec.{ltb, leb}
 use Rattle.laws.specs.Count.{count}
-use Rattle.laws.proofs.Choice.{equal?, Below, below, AtMost, at-most}
+use Rattle.laws.proofs.Choice.{either-way, equal?, Below, below, AtMost, at-most}
 use Rattle.laws.proofs.Count.{count-none}
 use Rattle.chains.proofs.Chain.{Chain as Linked, members-none, chain-once}
+use Rattle.lock_rules.proofs.Each.{each-chain}
 use Rattle.lock_rules.specs.Numbers.{phase-of}
 use Rattle.lock_rules.specs.declared.ThreadState.{ThreadState}
 use Rattle.lock_rules.specs.declared.ThreadState.the-variants.{Idle}
@@ -25,9 +26,8 @@ use Rattle.lock_table.proofs.Records.{thread-none, thread-past, object-beyond}
 use Rattle.lock_perform.specs.State.{read-thread}
 use Rattle.lock_soundness.specs.Sound.{sound-of}
 use Rattle.sound_records.proofs.Reading.{Within}
-use Rattle.lock_soundness.proofs.Reading.{threads-in-chain, Sound}
 use Rattle.lock_soundness.proofs.Chained.{leads-chain}
-use Rattle.lock_soundness.proofs.Reading.{sound-reads}
+use Rattle.lock_soundness.proofs.Reading.{threads-in-chain, Sound, sound-reads}
 use Rattle.lock_records.proofs.Naming.{chain-number, chain-number-low, chain-number-high, idle-never, named-once, unnamed-never}
 use Rattle.lock_records.proofs.ReadBack.{IsWritten, fits-written, none-written, state-back, phase-back}
 
@@ -42,9 +42,7 @@ object-none t = refl
 -- no chain of the empty record has a thread
 no-first : (chain : Chain) → first-in no-monitor (chain-number chain) ≡ 0
 unfolding first-in
-no-first Chain.Entry = refl
-no-first Chain.Contention = refl
-no-first Chain.Waiting = refl
+no-first = each-chain _ (search)
 
 -- records by number, of which those in use are 1 to `last`: any other is empty
 by-range : {A : Type 0} (at : ℕ → A) (none : A) (last limit : ℕ) → at 0 ≡ none → ((n : ℕ) → limit < n → at n ≡ none)
@@ -66,13 +64,10 @@ module _ (t : Table) (sound : Sound t) where
 
   -- every thread record is a fine state, written
   pub written-at : (n : ℕ) → IsWritten (t .objectcount) n (thread-at t n)
-  written-at n = at (thread-where n)
-    where
-      at : Within 1 (t .threadcount) n ⊎ (thread-at t n ≡ no-thread) → IsWritten (t .objectcount) n (thread-at t n)
-      at (inl (low, high)) =
-          fits-written (t .objectcount) n (low, omega (arith, high, sound .sizes .0 .1)) (thread-at t n)
-          (sound .threads n low high)
-      at (inr empty) = subst (IsWritten (t .objectcount) n) (sym empty) (none-written (t .objectcount) n)
+  written-at n =
+      either-way (thread-where n)
+      (λ used. fits-written (t .objectcount) n (used .0, omega (arith, used .1, sound .sizes .0 .1)) (thread-at t n) (sound .threads n (used .0) (used .1)))
+      (λ empty. subst (IsWritten (t .objectcount) n) (sym empty) (none-written (t .objectcount) n))
 
   -- the state that it is read as has its phase
   pub phase-at : (n : ℕ) → phase-number-at t n ≡ phase-of (read-thread (thread-at t n))
@@ -85,46 +80,37 @@ module _ (t : Table) (sound : Sound t) where
 
   -- a thread whose phase names no chain has no next index
   pub no-next-at : (n : ℕ) → thread-chain (thread-at t n) ≡ 0 → next-of t n ≡ 0
-  no-next-at n none = at (thread-where n)
-    where
-      at : Within 1 (t .threadcount) n ⊎ (thread-at t n ≡ no-thread) → next-of t n ≡ 0
-      at (inl (low, high)) = sound .threads n low high .unused .next none
-      at (inr empty) = ap (λ (thread : ThreadRecord). thread .next) empty
+  no-next-at n none =
+      either-way (thread-where n) (λ used. sound .threads n (used .0) (used .1) .unused .next none) (λ empty. ap (λ (thread : ThreadRecord). thread .next) empty)
 
   -- each chain ends; its members are threads of the table, at its object in a phase that names it
   pub chain-at : (o : ℕ) (chain : Chain) → Linked (next-of t) (chain-first t o (chain-number chain)) (threads-in-chain t o (chain-number chain))
-  chain-at o chain = at (object-where o)
-    where
-      at : Within 1 (t .objectcount) o ⊎ (object-at t o ≡ no-object)
-          → Linked (next-of t) (chain-first t o (chain-number chain)) (threads-in-chain t o (chain-number chain))
-      at (inl (low, high)) =
-          leads-chain (t .threadcount) (next-of t) (chain-first t o (chain-number chain))
-          (sound .chains-end o low high (chain-number chain) (chain-number-low chain) (chain-number-high chain))
-      at (inr empty) = rw (empty, no-first chain, members-none (t .threadcount) (next-of t)) refl
+  chain-at o chain =
+      either-way (object-where o)
+      (λ used. leads-chain (t .threadcount) (next-of t) (chain-first t o (chain-number chain))
+      (sound .chains-end o (used .0) (used .1) (chain-number chain) (chain-number-low chain) (chain-number-high chain)))
+      (λ empty. rw (empty, no-first chain, members-none (t .threadcount) (next-of t)) refl)
 
   pub members-at : (o : ℕ) (chain : Chain) (n : ℕ) → 0 < count n (threads-in-chain t o (chain-number chain))
       → (thread-at t n .object ≡ o) × (thread-chain (thread-at t n) ≡ chain-number chain)
-  members-at o chain n inside = at (object-where o)
-    where
-      at : Within 1 (t .objectcount) o ⊎ (object-at t o ≡ no-object) → (thread-at t n .object ≡ o) × (thread-chain (thread-at t n) ≡ chain-number chain)
-      at (inl (low, high)) = sound .no-others o low high (chain-number chain) (chain-number-low chain) (chain-number-high chain) n inside
-      at (inr empty) = absurd (omega (arith, count-none n, rw (empty, no-first chain, members-none (t .threadcount) (next-of t)) at inside))
+  members-at o chain n inside =
+      either-way (object-where o)
+      (λ used. sound .no-others o (used .0) (used .1) (chain-number chain) (chain-number-low chain) (chain-number-high chain) n inside)
+      (λ empty. absurd (omega (arith, count-none n, rw (empty, no-first chain, members-none (t .threadcount) (next-of t)) at inside)))
 
   -- a thread whose phase names a chain is in that chain of its object
   pub parked-at : (chain : Chain) (n : ℕ) → thread-chain (thread-at t n) ≡ chain-number chain
       → 0 < count n (threads-in-chain t (thread-at t n .object) (chain-number chain))
-  parked-at chain n names = at (thread-where n)
+  parked-at chain n names =
+      either-way (thread-where n)
+      (λ used. subst (λ (k : ℕ). 0 < count n (threads-in-chain t (thread-at t n .object) k)) names (sound .parked n (used .0) (used .1) some))
+      (λ empty. absurd (some (ap thread-chain empty ∙ no-chain)))
     where
       some : thread-chain (thread-at t n) ≢ 0
       some none = omega (arith, none, names, chain-number-low chain)
 
-      at : Within 1 (t .threadcount) n ⊎ (thread-at t n ≡ no-thread) → 0 < count n (threads-in-chain t (thread-at t n .object) (chain-number chain))
-      at (inl (low, high)) =
-          subst (λ (k : ℕ). 0 < count n (threads-in-chain t (thread-at t n .object) k)) names (sound .parked n low high some)
-      at (inr empty) = absurd (some (ap thread-chain empty ∙ no-chain))
-        where
-          no-chain : thread-chain no-thread ≡ 0
-          no-chain = unfold chain-named phase-number in refl
+      no-chain : thread-chain no-thread ≡ 0
+      no-chain = unfold chain-named phase-number in refl
 
   -- so each thread is in each chain as often as its state, seen from there, says
   pub counted-at : (o : ℕ) (chain : Chain) (n : ℕ)

@@ -14,12 +14,9 @@ use Rattle.lock_word.specs.declared.reading.Decoded.the-variants.{Valid}
 use Rattle.lock_word.proofs.RoundTrip.{meaning-of-word}
 use Rattle.lock_rules.specs.Numbers.{phase-of}
 use Rattle.lock_rules.specs.Rules.{onward}
+use Rattle.lock_rules.proofs.Each.{each-doing, each-carried}
 use Rattle.lock_rules.proofs.Status.{unfinished}
 use Rattle.lock_rules.specs.declared.{Suspension.Suspension, OnwardStep.OnwardStep, Doing.Doing, ThreadState.ThreadState}
-use Rattle.lock_rules.specs.declared.OnwardStep.the-variants.{ToCheck, ToTell, ToInflate, ToResume}
-use Rattle.lock_rules.specs.declared.Doing.the-variants.{EnterLook, EnterStore, EnterCancel, EnterGoIn, EnterCheck, EnterTry, ExitLook}
-use Rattle.lock_rules.specs.declared.Doing.the-variants.{ExitStore, ExitGoIn, ExitTest, ExitTell, ExitLeave, WaitLook, WaitCancel, WaitGoIn}
-use Rattle.lock_rules.specs.declared.Doing.the-variants.{WaitInflate, WaitGiveUp, WaitResume, NotifyLook, NotifyAllLook}
 use Rattle.lock_rules.specs.declared.ThreadState.the-variants.{Idle, Running, Queued, Contending, Waiting}
 use Rattle.lock_rules.proofs.ListSound.{SuspensionFine, DoingFine, StateFine}
 use Rattle.lock_table.specs.Limits.{thread-limit}
@@ -32,9 +29,8 @@ use Rattle.lock_table.specs.Record.{with-activity, with-next}
 use Rattle.lock_perform.specs.State.{doing-activity, carried-activity, write-activity, write-thread}
 use Rattle.sound_records.specs.Records.{uses-phase, carries-phase, operation-fits, kept-count-fits, reserved-for, kept-fits, saves-depth}
 use Rattle.sound_records.specs.Records.{saved-fits, unused-fits, used-thread-fits}
-use Rattle.sound_records.proofs.Reading.{Within, ThreadFits}
+use Rattle.sound_records.proofs.Reading.{Within, ThreadFits, reads-thread}
 use Rattle.laws.proofs.Facts.{reads-within}
-use Rattle.sound_records.proofs.Reading.{reads-thread}
 use Rattle.lock_records.proofs.Naming.{running-names-none}
 
 -- the clauses that are about one thread's record, as one test that computes on a record that is written
@@ -57,36 +53,34 @@ module _ (objects n o : ℕ) (own : ThreadRecord) (low : 1 ≤ n) (high : n ≤ 
   doing-fits : (doing : Doing) → DoingFine doing → Home → own .next ≡ 0 → fits? objects n (with-activity own (doing-activity n o doing)) ≡ true
   unfolding operation-fits uses-phase carries-phase kept-fits reserved-for kept-count-fits saves-depth saved-fits chain-named unused-fits
       operation-number phase-number carried-number doing-activity
-  doing-fits EnterLook fine home out = rw (home, out)
-  doing-fits (EnterStore count) fine home out =
-      rw (home, out, kept-read n count low high (omega arith), eq-eqb n n refl, le-leb count (count-limit - 1) (omega arith))
-  doing-fits EnterCancel fine home out = rw (home, out)
-  doing-fits EnterGoIn fine home out = rw (home, out)
-  doing-fits EnterCheck fine home out = rw (home, out)
-  doing-fits EnterTry fine home out = rw (home, out)
-  doing-fits ExitLook fine home out = rw (home, out)
-  doing-fits (ExitStore count) (some, most) home out =
-      rw (home, out, kept-read n count low high most, eq-eqb n n refl, le-leb 1 count some, le-leb count count-limit most)
-  doing-fits ExitGoIn fine home out = rw (home, out)
-  doing-fits ExitTest fine home out = rw (home, out)
-  doing-fits ExitTell fine home out = rw (home, out)
-  doing-fits ExitLeave fine home out = rw (home, out)
-  doing-fits WaitLook fine home out = rw (home, out)
-  doing-fits WaitCancel fine home out = rw (home, out)
-  doing-fits WaitGoIn fine home out = rw (home, out)
-  doing-fits WaitInflate fine home out = rw (home, out)
-  doing-fits WaitGiveUp fine home out = rw (home, out)
-  doing-fits (WaitResume suspension) fine home out = rw (home, out, saved-inside suspension fine)
-  doing-fits NotifyLook fine home out = rw (home, out)
-  doing-fits NotifyAllLook fine home out = rw (home, out)
+  doing-fits doing fine home out =
+      each-doing (λ d. DoingFine d → fits? objects n (with-activity own (doing-activity n o d)) ≡ true) (
+        (
+          search (home, out),
+          λ count fine. rw (home, out, kept-read n count low high (omega arith), eq-eqb n n refl, le-leb count (count-limit - 1) (omega arith)),
+          search (home, out),
+          search (home, out),
+          search (home, out),
+          search (home, out),
+        ),
+        (
+          search (home, out),
+          λ count fine. rw (home, out, kept-read n count low high (fine .1), eq-eqb n n refl, le-leb 1 count (fine .0), le-leb count count-limit (fine .1)),
+          search (home, out),
+          search (home, out),
+          search (home, out),
+          search (home, out),
+        ),
+        search (home, out, saved-inside),
+        search (home, out),
+        search (home, out),
+      ) doing fine
 
   carried-fits : (carried : OnwardStep) → DoingFine (onward carried) → Home → fits? objects n (with-activity own (carried-activity o carried)) ≡ true
   unfolding operation-fits uses-phase carries-phase kept-fits saves-depth saved-fits chain-named unused-fits
       operation-number phase-number carried-number onward-number carried-activity
-  carried-fits ToCheck fine home = rw home
-  carried-fits ToTell fine home = rw home
-  carried-fits ToInflate fine home = rw home
-  carried-fits (ToResume suspension) fine home = rw (home, saved-inside suspension fine)
+  carried-fits carried fine home =
+      each-carried (λ c. DoingFine (onward c) → fits? objects n (with-activity own (carried-activity o c)) ≡ true) (search (home, saved-inside)) carried fine
 
   state-fits : (state : ThreadState) → StateFine state → (T (unfinished state) → Home) → (chain-named (phase-of state) ≡ 0 → own .next ≡ 0)
       → fits? objects n (write-thread n o state own) ≡ true

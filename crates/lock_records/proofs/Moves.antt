@@ -2,16 +2,16 @@
 use Prim.Native.Nat.{ℕ, zero, suc, _≤_, _<_}
 use mathlib.Core.Path.{_≡_, refl, sym, ap, _∙_, subst, fun-ext}
 use mathlib.Core.Logic.{_≢_, _⊎_, inl, inr}
-use mathlib.Core.Bool.{Bool, true, false}
+use mathlib.Core.Bool.{Bool}
 use mathlib.Core.List.{List, [], _∷_}
 use native.Mathlib.Omega.{arith}
 use lib.Dec.{eqb, ltb}
 use lib.ListN.{length}
-use borrow.Author.Tests.{eq-eqb, ne-eqb}
+use borrow.Author.Tests.{eq-eqb, ne-eqb, ltb-true, ltb-false}
 use Rattle.laws.specs.Choice.{pick}
 use Rattle.laws.specs.Update.{update}
 use Rattle.laws.specs.Count.{count}
-use Rattle.laws.proofs.Choice.{equal?, Below, below, pick-same}
+use Rattle.laws.proofs.Choice.{either-way, split, equal?, pick-same}
 use Rattle.laws.proofs.Update.{update-same, update-other, update-id}
 use Rattle.laws.proofs.Count.{count-same}
 use Rattle.chains.specs.Chain.{linked}
@@ -75,18 +75,18 @@ module _ (given : ℕ → ThreadRecord) (before t : Table) (threads : ℕ → Li
   moves-set n low high thread link =
       record {
         written = record {
-          records = thread-set t n (thread-record n thread link (given n)) (moves .written .full) low high ∙ fun-ext (λ m. at m (equal? m n));
+          records = thread-set t n (thread-record n thread link (given n)) (moves .written .full) low high ∙ fun-ext at;
           full = thread-beside t n (thread-record n thread link (given n)) .length-kept ∙ moves .written .full;
         };
         beside = beside-both before t (set-thread t n (thread-record n thread link (given n))) (moves .beside) (thread-beside t n (thread-record n thread link (given n)));
       }
     where
-      at : (m : ℕ) → (m ≡ n) ⊎ (m ≢ n)
-          → update (thread-at t) n (thread-record n thread link (given n)) m ≡ thread-record m (update threads n thread m) (update next n link m) (given m)
-      at m (inl e) = rw (e, update-same (thread-at t) n (thread-record n thread link (given n)), update-same threads n thread, update-same next n link)
-      at m (inr away) =
-          rw (update-other (thread-at t) n (thread-record n thread link (given n)) m away, update-other threads n thread m away, update-other next n link m away)
-          (record-is given t threads next (moves .written) m)
+      at : (m : ℕ) → update (thread-at t) n (thread-record n thread link (given n)) m ≡ thread-record m (update threads n thread m) (update next n link m) (given m)
+      at m =
+          either-way (equal? m n)
+          (λ e. rw (e, update-same (thread-at t) n (thread-record n thread link (given n)), update-same threads n thread, update-same next n link))
+          (λ away. rw (update-other (thread-at t) n (thread-record n thread link (given n)) m away, update-other threads n thread m away, update-other next n link m away)
+          (record-is given t threads next (moves .written) m))
 
   -- one record changed, its next index kept
   pub moves-change : (F : ThreadRecord → ThreadRecord) (thread : ListThread) (n : ℕ) → 0 < n → n ≤ thread-limit
@@ -113,50 +113,43 @@ module _ (given : ℕ → ThreadRecord) (before t : Table) (threads : ℕ → Li
         same,
       ) (rw (update-id threads n (threads n) refl) at (moves-set n low high (threads n) back))
 
+  -- nobody's record changed
+  moves-none : (F : ThreadRecord → ThreadRecord) (f : ThreadState → ThreadState) (n : ℕ) → (n ≡ 0) ⊎ (thread-limit < n) → threads n .state ≡ Idle → f Idle ≡ Idle
+      → Moves given before (set-thread t n (F (thread-at t n))) (update threads n (change f (threads n))) next
+  moves-none F f n out idle fixed =
+      let same : threads n ≡ change f (threads n) = λ j. record { object = threads n .object; state = (idle ∙ sym (ap f idle ∙ fixed)) j } in
+      rw (set-thread-out t n (F (thread-at t n)) out, update-id threads n (change f (threads n)) same) moves
+
   -- the first of a chain, if there is one, changed on leaving it; the record of number 0 is not written
   pub moves-first : (F : ThreadRecord → ThreadRecord) (f : ThreadState → ThreadState) (first : ℕ) → first ≤ thread-limit
       → threads 0 .state ≡ Idle → f Idle ≡ Idle
       → (first ≢ 0 → F (thread-record first (threads first) (next first) (given first)) ≡ thread-record first (change f (threads first)) 0 (given first))
       → Moves given before (set-thread t first (F (thread-at t first))) (update threads first (change f (threads first))) (update next first 0)
-  moves-first F f first high nobody fixed law = at (equal? first 0)
-    where
-      at : (first ≡ 0) ⊎ (first ≢ 0)
-          → Moves given before (set-thread t first (F (thread-at t first))) (update threads first (change f (threads first))) (update next first 0)
-      at (inl e) =
-          let idle : threads first .state ≡ Idle = ap (λ (n : ℕ). threads n .state) e ∙ nobody in
-          let same : threads first ≡ change f (threads first) =
-          λ j. record { object = threads first .object; state = (idle ∙ sym (ap f idle ∙ fixed)) j } in
-          let ends : next first ≡ 0 =
-          ap next e ∙ (ap (λ (g : ℕ → ℕ). g 0) (sym (next-is given t threads next (moves .written))) ∙ next-none t) in
-          rw (set-thread-out t first (F (thread-at t first)) (inl e), update-id threads first (change f (threads first)) same, update-id next first 0 ends)
-          moves
-      at (inr real) =
-          let same : F (thread-at t first) ≡ thread-record first (change f (threads first)) 0 (given first) =
-          ap F (record-is given t threads next (moves .written) first) ∙ law real in
-          rw same (moves-set first (omega (arith, real)) high (change f (threads first)) 0)
+  moves-first F f first high nobody fixed law =
+      either-way (equal? first 0)
+      (λ e.
+      let ends : next first ≡ 0 =
+      ap next e ∙ (ap (λ (g : ℕ → ℕ). g 0) (sym (next-is given t threads next (moves .written))) ∙ next-none t) in
+      rw (update-id next first 0 ends) (moves-none F f first (inl e) (ap (λ (n : ℕ). threads n .state) e ∙ nobody) fixed))
+      (λ real.
+      let same : F (thread-at t first) ≡ thread-record first (change f (threads first)) 0 (given first) =
+      ap F (record-is given t threads next (moves .written) first) ∙ law real in
+      rw same (moves-set first (omega (arith, real)) high (change f (threads first)) 0))
 
   -- the thread of a cancelled word sent back, if it has a record
   pub moves-send : (o number : ℕ) → ((n : ℕ) → (n ≡ 0) ⊎ (thread-limit < n) → threads n .state ≡ Idle)
       → Moves given before (set-thread t number (sent-back-of o (thread-at t number))) (update threads number (sent-from o (threads number))) next
-  moves-send o number outside = by (equal? number 0) (ltb thread-limit number) (below thread-limit number)
+  moves-send o number outside =
+      either-way (equal? number 0) (λ e. still (inl e))
+      (λ real. split (ltb thread-limit number) (λ past. still (inr (ltb-true thread-limit number past)))
+      (λ near. moves-change (sent-back-of o) (sent-from o (threads number)) number (omega (arith, real)) (ltb-false thread-limit number near)
+      (sent-back-written o number (threads number .object) (threads number .state) (with-next (given number) (next number)))))
     where
-      -- nobody is there
-      still : (number ≡ 0) ⊎ (thread-limit < number) → threads number .state ≡ Idle
+      still : (number ≡ 0) ⊎ (thread-limit < number)
           → Moves given before (set-thread t number (sent-back-of o (thread-at t number))) (update threads number (sent-from o (threads number))) next
-      still out idle =
+      still out =
           let there : Bool = eqb (threads number .object) o in
-          let stays : pick there (sent-back (threads number .state)) (threads number .state) ≡ Idle =
-          ap (λ (state : ThreadState). pick there (sent-back state) state) idle ∙ pick-same there Idle in
-          let same : threads number ≡ sent-from o (threads number) = λ j. record { object = threads number .object; state = (idle ∙ sym stays) j } in
-          rw (set-thread-out t number (sent-back-of o (thread-at t number)) out, update-id threads number (sent-from o (threads number)) same) moves
-
-      by : (number ≡ 0) ⊎ (number ≢ 0) → (past : Bool) → Below past thread-limit number
-          → Moves given before (set-thread t number (sent-back-of o (thread-at t number))) (update threads number (sent-from o (threads number))) next
-      by (inl e) past test = still (inl e) (outside number (inl e))
-      by (inr real) true test = still (inr test) (outside number (inr test))
-      by (inr real) false test =
-          moves-change (sent-back-of o) (sent-from o (threads number)) number (omega (arith, real)) test
-          (sent-back-written o number (threads number .object) (threads number .state) (with-next (given number) (next number)))
+          moves-none (sent-back-of o) (λ state. pick there (sent-back state) state) number out (outside number out) (pick-same there Idle)
 
 -- each of a chain moved, its next index kept
 pub moves-all : (given : ℕ → ThreadRecord) (before : Table) (next : ℕ → ℕ) (list : List ℕ) (fuel first : ℕ) (t : Table) (threads : ℕ → ListThread) → Moves given before t threads next

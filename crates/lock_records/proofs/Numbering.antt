@@ -2,8 +2,7 @@
 -- does to the lists and to the links that stand for them.
 use Prim.Native.Nat.{ℕ, zero, suc, _+_, _*_, _/_, _%_, _≤_, _<_}
 use mathlib.Core.Path.{_≡_, refl, sym, _∙_, subst, fun-ext}
-use mathlib.Core.Logic.{_≢_, _⊎_, inl, inr}
-use mathlib.Core.Bool.{Bool, true, false}
+use mathlib.Core.Logic.{_≢_}
 use mathlib.Core.List.{List, [], _∷_, _++_, tail}
 use native.Mathlib.Omega.{arith}
 use lib.Dec.{eqb}
@@ -11,7 +10,7 @@ use lib.ListN.{length, take}
 use Rattle.laws.specs.Choice.{pick}
 use Rattle.laws.specs.Update.{update}
 use Rattle.laws.specs.Count.{count}
-use Rattle.laws.proofs.Choice.{equal?, Equal, equal}
+use Rattle.laws.proofs.Choice.{by-equal, either-way, equal?}
 use Rattle.laws.proofs.Update.{update-same, update-other}
 use Rattle.chains.proofs.Chain.{head}
 use Rattle.chains.proofs.Links.{Links, LinksRepresent, leave-links, leave-lists, join-links, join-lists, move-links, move-lists, shift-links}
@@ -21,6 +20,7 @@ use Rattle.chains.specs.declared.named.Chain.{Chain}
 use Rattle.lock_rules.specs.declared.{Taken.Taken, ChainWork.ChainWork, Effect.Effect}
 use Rattle.lock_rules.specs.declared.Taken.the-variants.{First, All}
 use Rattle.lock_rules.specs.declared.ChainWork.the-variants.{Stay, Join, JoinAndHand, Hand, Move, SendBack}
+use Rattle.lock_rules.proofs.Each.{each-chain}
 use Rattle.lock_rules.proofs.Objects.{ListObject, chain-of, with-chain}
 use Rattle.lock_rules.proofs.Perform.{enter-queue-all, join, taken, left, first-of, handed-object, moved-object, object-after, effected}
 use Rattle.lock_table.specs.Limits.{thread-limit}
@@ -45,14 +45,10 @@ unfoldable pub lists-of : (ℕ → ListObject) → ℕ → List ℕ
 lists-of objects c = chain-of (chain-at (c % 3)) (objects (c / 3))
 
 place-small : (chain : Chain) → place-of chain < 3
-place-small Chain.Entry = omega arith
-place-small Chain.Contention = omega arith
-place-small Chain.Waiting = omega arith
+place-small = each-chain _ (search arith)
 
 chain-back : (chain : Chain) → chain-at (place-of chain) ≡ chain
-chain-back Chain.Entry = refl
-chain-back Chain.Contention = refl
-chain-back Chain.Waiting = refl
+chain-back = each-chain _ (search)
 
 place-back : (k : ℕ) → k < 3 → place-of (chain-at k) ≡ k
 place-back zero small = refl
@@ -75,15 +71,13 @@ by-number P each c =
     subst P whole (each (c / 3) (chain-at (c % 3)))
 
 -- two numbers are the same for the same chain of the same object only
-pub update-number {ℓ} : {A : Type ℓ} (f : ℕ → A) (o : ℕ) (a b : Chain) (value : A)
+pub update-number : {A : Type 0} (f : ℕ → A) (o : ℕ) (a b : Chain) (value : A)
     → update f (number o a) value (number o b) ≡ pick (eqb (place-of b) (place-of a)) value (f (number o b))
 unfolding number
-update-number f o a b value = at (eqb (place-of b) (place-of a)) (equal (place-of b) (place-of a))
-  where
-    at : (same : Bool) → Equal same (place-of b) (place-of a)
-        → update f (3 * o + place-of a) value (3 * o + place-of b) ≡ pick same value (f (3 * o + place-of b))
-    at true e = rw (e, update-same f (3 * o + place-of a) value)
-    at false away = update-other f (3 * o + place-of a) value (3 * o + place-of b) (λ q. away (omega (arith, q)))
+update-number f o a b value =
+    by-equal (λ x. update f (3 * o + place-of a) value (3 * o + place-of b) ≡ x) (place-of b) (place-of a)
+    (λ e. rw (e, update-same f (3 * o + place-of a) value))
+    (λ away. update-other f (3 * o + place-of a) value (3 * o + place-of b) (λ q. away (omega (arith, q))))
 
 pub objects-apart : (o p : ℕ) (a b : Chain) → p ≢ o → number p a ≢ number o b
 unfolding number
@@ -94,13 +88,11 @@ pub lists-replaced : (objects : ℕ → ListObject) (o : ℕ) (new : ListObject)
     → ((chain : Chain) → list (number o chain) ≡ chain-of chain new)
     → ((c : ℕ) → ((chain : Chain) → c ≢ number o chain) → list c ≡ lists-of objects c) → list ≡ lists-of (update objects o new)
 lists-replaced objects o new list own others =
-    fun-ext (by-number (λ c. list c ≡ lists-of (update objects o new) c) (λ p chain. at p chain (equal? p o)))
-  where
-    at : (p : ℕ) (chain : Chain) → (p ≡ o) ⊎ (p ≢ o) → list (number p chain) ≡ lists-of (update objects o new) (number p chain)
-    at p chain (inl q) = rw (q, list-at (update objects o new) o chain, update-same objects o new) (own chain)
-    at p chain (inr away) =
-        others (number p chain) (λ chain′. objects-apart o p chain chain′ away)
-        ∙ rw (list-at (update objects o new) p chain, list-at objects p chain, update-other objects o new p away)
+    fun-ext
+    (by-number (λ c. list c ≡ lists-of (update objects o new) c)
+    (λ p chain. either-way (equal? p o) (λ q. rw (q, list-at (update objects o new) o chain, update-same objects o new) (own chain))
+    (λ away. others (number p chain) (λ chain′. objects-apart o p chain chain′ away)
+    ∙ rw (list-at (update objects o new) p chain, list-at objects p chain, update-other objects o new p away))))
 
 -- What the work of `thread` at object o on chains does to the lists, and to the links.
 abbrev pub work-lists : ℕ → ℕ → ChainWork → (ℕ → List ℕ) → ℕ → List ℕ
@@ -160,28 +152,16 @@ unfolding enter-queue-all
 entered-all entry threads = refl
 
 joined-end : (chain : Chain) (list : List ℕ) (thread : ℕ) → join chain list thread ≡ list ++ (thread ∷ [])
-joined-end Chain.Entry list thread = entered-all list (thread ∷ [])
-joined-end Chain.Contention list thread = refl
-joined-end Chain.Waiting list thread = refl
+joined-end = each-chain _ (λ list thread. entered-all list (thread ∷ []), search, search)
 
 -- another list for one chain leaves the others
 chain-with : (chain other : Chain) (o : ListObject) (list : List ℕ)
     → chain-of other (with-chain chain o list) ≡ pick (eqb (place-of other) (place-of chain)) list (chain-of other o)
-chain-with Chain.Entry Chain.Entry o list = refl
-chain-with Chain.Entry Chain.Contention o list = refl
-chain-with Chain.Entry Chain.Waiting o list = refl
-chain-with Chain.Contention Chain.Entry o list = refl
-chain-with Chain.Contention Chain.Contention o list = refl
-chain-with Chain.Contention Chain.Waiting o list = refl
-chain-with Chain.Waiting Chain.Entry o list = refl
-chain-with Chain.Waiting Chain.Contention o list = refl
-chain-with Chain.Waiting Chain.Waiting o list = refl
+chain-with = each-chain _ (each-chain _ (search), each-chain _ (search), each-chain _ (search))
 
 chain-handed : (chain : Chain) (o : ListObject)
     → chain-of chain (handed-object o) ≡ pick (eqb (place-of chain) (place-of Chain.Entry)) (tail (o .entry)) (chain-of chain o)
-chain-handed Chain.Entry o = rest-is-tail (o .entry)
-chain-handed Chain.Contention o = refl
-chain-handed Chain.Waiting o = refl
+chain-handed = each-chain _ (search)
 
 -- the works on lists are those on the object, of which the effect changes word, flag, holder and depth
 module _ (objects : ℕ → ListObject) (thread o : ℕ) (effect : Effect) where
@@ -189,9 +169,7 @@ module _ (objects : ℕ → ListObject) (thread o : ℕ) (effect : Effect) where
   now = effected thread effect (objects o)
 
   unmoved : (chain : Chain) → lists-of objects (number o chain) ≡ chain-of chain now
-  unmoved Chain.Entry = list-at objects o Chain.Entry
-  unmoved Chain.Contention = list-at objects o Chain.Contention
-  unmoved Chain.Waiting = list-at objects o Chain.Waiting
+  unmoved = each-chain _ (list-at objects o Chain.Entry, list-at objects o Chain.Contention, list-at objects o Chain.Waiting)
 
   moved-chain : (from : Chain) (which : Taken) (chain : Chain)
       → let threads = chain-of from now in

@@ -4,11 +4,11 @@ use mathlib.Core.Path.{_≡_, refl}
 use mathlib.Core.Bool.{Bool, true, false}
 use lib.Dec.{eqb}
 use Rattle.laws.specs.Choice.{pick}
+use Rattle.lock_rules.proofs.Each.{each-operation}
 use Rattle.lock_rules.specs.Numbers.{asked-for}
 use Rattle.lock_rules.specs.Rules.{begun}
-use Rattle.lock_rules.specs.Operations.{Operation as AskedOperation}
-use Rattle.lock_rules.specs.Operations.{Enter as AskEnter, Exit as AskExit, Wait as AskWait, Notify as AskNotify, NotifyAll as AskNotifyAll}
-use Rattle.lock_rules.specs.Operations.{Asked, Unknown, Known}
+use Rattle.lock_rules.specs.Operations.{Operation as AskedOperation, Enter as AskEnter, Exit as AskExit, Wait as AskWait, Notify as AskNotify}
+use Rattle.lock_rules.specs.Operations.{NotifyAll as AskNotifyAll, Asked, Unknown, Known}
 use Rattle.lock_rules.specs.declared.ThreadState.the-variants.{Running}
 use Rattle.lock_table.specs.Operation.{operation-from}
 use Rattle.lock_table.specs.declared.operation.Operation.{Operation}
@@ -49,8 +49,4 @@ asked-from number = at (eqb number 1) (eqb number 2) (eqb number 3) (eqb number 
 -- begin sets phase 1
 pub begun-written : (n o : ℕ) (operation : AskedOperation) → write-activity n o (Running (begun operation)) ≡ activity-of (operation-of operation) o Look 0 0
 unfolding write-activity doing-activity
-begun-written n o AskEnter = refl
-begun-written n o AskExit = refl
-begun-written n o AskWait = refl
-begun-written n o AskNotify = refl
-begun-written n o AskNotifyAll = refl
+begun-written n o = each-operation _ (search)

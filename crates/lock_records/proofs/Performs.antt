@@ -13,14 +13,14 @@ use Rattle.chains.proofs.Chain.{head}
 use Rattle.chains.proofs.Links.{Links, LinksRepresent, first-head}
 use Rattle.lock_rules.proofs.Changes.{seen-after}
 use Rattle.lock_rules.specs.declared.{Doing.Doing, ThreadState.ThreadState, Effect.Effect}
-use Rattle.lock_rules.specs.declared.ThreadState.the-variants.{Idle, Running}
+use Rattle.lock_rules.specs.declared.ThreadState.the-variants.{Running}
 use Rattle.lock_rules.specs.declared.Action.the-variants.{Unruled, Do}
-use Rattle.lock_rules.proofs.Objects.{ListObject}
+use Rattle.lock_rules.proofs.Each.{each-chain}
+use Rattle.lock_rules.proofs.Objects.{ListObject, chain-of}
 use Rattle.lock_rules.proofs.Perform.{perform, states-after, object-after, effected}
 use Rattle.lock_rules.proofs.Tables.{ListThread, ListTable, states-at, put-back}
 use Rattle.lock_rules.proofs.ListSound.{SoundTable}
 use Rattle.chains.specs.declared.named.Chain.{Chain}
-use Rattle.lock_rules.proofs.Objects.{chain-of}
 use Rattle.lock_rules.proofs.ListChains.{times-in, short, out-of-chain}
 use Rattle.lock_table.specs.Limits.{thread-limit, object-limit}
 use Rattle.lock_table.specs.Record.{no-thread, no-object, with-next, with-word, with-flag, with-monitor}
@@ -51,14 +51,7 @@ abbrev Unchained : ThreadState → Type 0
 Unchained state = (chain : Chain) → times-in chain state ≡ 0
 
 pub running-unchained : (doing : Doing) → Unchained (Running doing)
-running-unchained doing Chain.Entry = refl
-running-unchained doing Chain.Contention = refl
-running-unchained doing Chain.Waiting = refl
-
-pub idle-unchained : Unchained Idle
-idle-unchained Chain.Entry = refl
-idle-unchained Chain.Contention = refl
-idle-unchained Chain.Waiting = refl
+running-unchained doing = each-chain _ (search)
 
 module _ (threads objects : ℕ) (t : Table) (lists : ListTable) (represents : Represents threads objects t lists) (sound : SoundTable threads objects lists)
     (i : ℕ) (low : 1 ≤ i) (high : i ≤ threads) where

@@ -1,8 +1,7 @@
 -- Threads changed one at a time or along a chain, against the states that an object sees put back into all of its threads at once.
 use Prim.Native.Nat.{ℕ, zero, suc, _≤_, _<_}
 use mathlib.Core.Path.{_≡_, refl, sym, ap, _∙_, fun-ext}
-use mathlib.Core.Logic.{_≢_, _⊎_, inl, inr}
-use mathlib.Core.Bool.{Bool, true, false}
+use mathlib.Core.Logic.{_≢_}
 use mathlib.Core.List.{List, [], _∷_}
 use native.Mathlib.Omega.{arith}
 use lib.Dec.{eqb}
@@ -11,7 +10,7 @@ use borrow.Author.Tests.{eq-eqb, ne-eqb}
 use Rattle.laws.specs.Choice.{pick}
 use Rattle.laws.specs.Update.{update}
 use Rattle.laws.specs.Count.{count}
-use Rattle.laws.proofs.Choice.{equal?, Equal, equal}
+use Rattle.laws.proofs.Choice.{by-equal, either-way, equal?}
 use Rattle.laws.proofs.Update.{update-same, update-other, update-id}
 use Rattle.laws.proofs.Count.{count-none, count-same, count-other}
 use Rattle.chains.proofs.Chain.{Chain, head}
@@ -37,12 +36,8 @@ module _ (o : ℕ) (threads : ℕ → ListThread) where
   placed-by : (changed : ℕ → ListThread) (states : ℕ → ThreadState)
       → ((n : ℕ) → threads n .object ≡ o → changed n ≡ record { object = o; state = states n })
       → ((n : ℕ) → threads n .object ≢ o → changed n ≡ threads n) → changed ≡ placed states
-  placed-by changed states here away = fun-ext (λ n. at n (eqb (threads n .object) o) (equal (threads n .object) o))
-    where
-      at : (n : ℕ) (there : Bool) → Equal there (threads n .object) o
-          → changed n ≡ pick there (record { object = o; state = states n }) (threads n)
-      at n true e = here n e
-      at n false e = away n e
+  placed-by changed states here away =
+      fun-ext (λ n. by-equal (λ thread. changed n ≡ thread) (threads n .object) o (here n) (away n))
 
   as-seen : (n : ℕ) → threads n .object ≡ o → threads n ≡ record { object = o; state = sees n }
   as-seen n e = λ j. record { object = e j; state = sym (seen-here o (threads n) e) j }
@@ -59,13 +54,11 @@ module _ (o : ℕ) (threads : ℕ → ListThread) where
   pub placed-one : (f : ThreadState → ThreadState) (x : ℕ) → threads x .object ≡ o
       → update threads x (change f (threads x)) ≡ placed (changed-states f sees (x ∷ []))
   placed-one f x home =
-      placed-by (update threads x (change f (threads x))) (changed-states f sees (x ∷ [])) (λ n e. here n e (equal? n x))
+      placed-by (update threads x (change f (threads x))) (changed-states f sees (x ∷ []))
+      (λ n e. either-way (equal? n x)
+      (λ q. rw (q, update-same threads x (change f (threads x)), count-same x []) (ap (change f) (as-seen x home)))
+      (λ away. rw (update-other threads x (change f (threads x)) n away, count-other n x [] away, count-none n) (as-seen n e)))
       (λ n away. update-other threads x (change f (threads x)) n (λ e. away (ap (λ (m : ℕ). threads m .object) e ∙ home)))
-    where
-      here : (n : ℕ) → threads n .object ≡ o → (n ≡ x) ⊎ (n ≢ x)
-          → update threads x (change f (threads x)) n ≡ record { object = o; state = changed-states f sees (x ∷ []) n }
-      here n e (inl q) = rw (q, update-same threads x (change f (threads x)), count-same x []) (ap (change f) (as-seen x home))
-      here n e (inr away) = rw (update-other threads x (change f (threads x)) n away, count-other n x [] away, count-none n) (as-seen n e)
 
   -- the first of a list changed; of an empty one that is thread 0, which is idle and stays so
   pub placed-first : (f : ThreadState → ThreadState) (list : List ℕ) (first : ℕ) → first ≡ head list → threads 0 .state ≡ Idle → f Idle ≡ Idle
@@ -96,27 +89,19 @@ module _ (o : ℕ) (threads : ℕ → ListThread) where
 
   -- one thread sent back, if it is at o
   pub placed-sent : (x : ℕ) → update threads x (sent-from o (threads x)) ≡ placed (changed-states sent-back sees (x ∷ []))
-  placed-sent x = at (eqb (threads x .object) o) (equal (threads x .object) o)
-    where
-      at : (there : Bool) → Equal there (threads x .object) o
-          → update threads x (record { object = threads x .object; state = pick there (sent-back (threads x .state)) (threads x .state) })
-          ≡ placed (changed-states sent-back sees (x ∷ []))
-      at true home = placed-one sent-back x home
-      at false away =
-          update-id threads x (threads x) refl
-          ∙ placed-by threads (changed-states sent-back sees (x ∷ []))
-          (λ n e. rw (count-other n x [] (λ q. away (ap (λ (m : ℕ). threads m .object) (sym q) ∙ e)), count-none n) (as-seen n e)) (λ n gone. refl)
+  placed-sent x =
+      either-way (equal? (threads x .object) o) (λ home. rw (eq-eqb (threads x .object) o home) (placed-one sent-back x home))
+      (λ away. rw (ne-eqb (threads x .object) o away)
+      (update-id threads x (threads x) refl
+      ∙ placed-by threads (changed-states sent-back sees (x ∷ []))
+      (λ n e. rw (count-other n x [] (λ q. away (ap (λ (m : ℕ). threads m .object) (sym q) ∙ e)), count-none n) (as-seen n e)) (λ n gone. refl)))
 
   -- and with the state of thread i, which is at o
   pub placed-own : (states : ℕ → ThreadState) (i : ℕ) (state : ThreadState) → threads i .object ≡ o
       → update (placed states) i (record { object = o; state = state }) ≡ placed (update states i state)
   placed-own states i state home =
-      placed-by (update (placed states) i (record { object = o; state = state })) (update states i state) (λ n e. here n e (equal? n i))
-      (λ n away. update-other (placed states) i (record { object = o; state = state }) n (λ e. away (ap (λ (m : ℕ). threads m .object) e ∙ home))
-      ∙ rw (ne-eqb (threads n .object) o away))
-    where
-      here : (n : ℕ) → threads n .object ≡ o → (n ≡ i) ⊎ (n ≢ i)
-          → update (placed states) i (record { object = o; state = state }) n ≡ record { object = o; state = update states i state n }
-      here n e (inl q) = rw (q, update-same (placed states) i (record { object = o; state = state }), update-same states i state)
-      here n e (inr away) =
-          rw (update-other (placed states) i (record { object = o; state = state }) n away, update-other states i state n away, eq-eqb (threads n .object) o e)
+      let own : ListThread = record { object = o; state = state } in
+      placed-by (update (placed states) i own) (update states i state)
+      (λ n e. either-way (equal? n i) (λ q. rw (q, update-same (placed states) i own, update-same states i state))
+      (λ away. rw (update-other (placed states) i own n away, update-other states i state n away, eq-eqb (threads n .object) o e)))
+      (λ n away. update-other (placed states) i own n (λ e. away (ap (λ (m : ℕ). threads m .object) e ∙ home)) ∙ rw (ne-eqb (threads n .object) o away))

@@ -2,7 +2,7 @@
 use Prim.Native.Nat.{ℕ, _<_}
 use mathlib.Core.Path.{_≡_, refl, sym, ap, _∙_}
 use mathlib.Core.Logic.{_≢_, inl, inr}
-use mathlib.Core.Bool.{Bool, true, not}
+use mathlib.Core.Bool.{Bool, true, false, not}
 use native.Mathlib.Omega.{arith}
 use lib.Dec.{T, eqb, ltb}
 use borrow.Author.Tests.{eqb-false, ltb-true}
@@ -16,12 +16,9 @@ use Rattle.lock_word.specs.declared.reading.Decoded.the-variants.{Valid, Invali
 use Rattle.lock_word.proofs.RoundTrip.{word-of-meaning}
 use Rattle.lock_rules.specs.Numbers.{phase-of}
 use Rattle.lock_rules.proofs.Status.{unfinished}
-use Rattle.lock_rules.specs.declared.{Suspension.Suspension, Doing.Doing, ThreadState.ThreadState}
-use Rattle.lock_rules.specs.declared.OnwardStep.the-variants.{ToCheck, ToTell, ToInflate, ToResume}
-use Rattle.lock_rules.specs.declared.Doing.the-variants.{EnterLook, EnterStore, EnterCancel, EnterGoIn, EnterCheck, EnterTry, ExitLook}
-use Rattle.lock_rules.specs.declared.Doing.the-variants.{ExitStore, ExitGoIn, ExitTest, ExitTell, ExitLeave, WaitLook, WaitCancel, WaitGoIn}
-use Rattle.lock_rules.specs.declared.Doing.the-variants.{WaitInflate, WaitGiveUp, WaitResume, NotifyLook, NotifyAllLook}
-use Rattle.lock_rules.specs.declared.ThreadState.the-variants.{Idle, Running, Queued, Contending, Waiting}
+use Rattle.lock_rules.specs.declared.{Doing.Doing, ThreadState.ThreadState}
+use Rattle.lock_rules.specs.declared.Doing.the-variants.{EnterStore, ExitStore}
+use Rattle.lock_rules.specs.declared.ThreadState.the-variants.{Idle, Running}
 use Rattle.lock_rules.proofs.ListSound.{SuspensionFine, DoingFine, StateFine}
 use Rattle.lock_table.specs.Phase.{onward-number, phase-number, carried-number}
 use Rattle.lock_table.specs.Record.{no-thread, with-activity}
@@ -35,6 +32,7 @@ use Rattle.lock_table.specs.declared.phase.Phase.the-variants.{Contending as Co
 use Rattle.lock_table.specs.declared.phase.Phase.the-variants.{Waiting as WaitingPhase, Resume}
 use Rattle.lock_table.specs.declared.record.ThreadRecord.{ThreadRecord}
 use Rattle.lock_perform.specs.State.{activity-of, doing-activity, carried-activity, write-activity, write-thread, read-thread}
+use Rattle.lock_perform.specs.State.{look-of, store-of, cancel-of, go-in-of, carried-of, state-by, read-activity}
 use Rattle.lock_records.proofs.Written.{state-read, phase-written}
 use Rattle.sound_records.specs.Records.{uses-phase, carries-phase}
 use Rattle.sound_records.proofs.Reading.{Within, allowed?, KeptCountFits, ReservedFor, SavesDepth, ThreadFits}
@@ -77,6 +75,15 @@ unsaved-phase phase test =
 abbrev may-be-in? : Phase → Operation → Bool
 may-be-in? phase operation = allowed? (phase-number phase) (carried-number phase) operation
 
+-- what is asked where a test is true
+abbrev Where : Bool → Type 0 → Type 0
+Where true P = P
+Where false P = Unit {0}
+
+given : (P : Type 0) (b : Bool) → Where b P → b ≡ true → P
+given P true p e = p
+given P false p e = false≢true e
+
 -- a kept word that is reserved for thread n is its reserved word with a count
 kept-is : (n : ℕ) (operation : Operation) (kept : ℕ) → ReservedFor n operation (read-word kept)
     → (count : ℕ) × (kept ≡ reserved-word n count) × KeptCountFits operation count
@@ -100,14 +107,15 @@ module _ (objects n o kept saved : ℕ) (own : ThreadRecord) (is-number : IsNumb
       let thread = with-activity own (activity-of operation o phase kept saved) in ThreadFits objects n thread → IsWritten objects n thread
 
   -- a phase that uses neither kept word nor saved depth
-  plain : (phase : Phase) (operation : Operation) (state : ThreadState) → both (busy? phase) (both (unkept? phase) (unsaved? phase)) ≡ true
-      → StateFine state → write-activity n o state ≡ activity-of operation o phase 0 0 → Back phase operation
-  plain phase operation state test fine written fits =
+  plain : (phase : Phase) (operation : Operation) → both (busy? phase) (both (unkept? phase) (unsaved? phase)) ≡ true
+      → let state = read-activity (activity-of operation o phase 0 0) in
+      StateFine state → write-activity n o state ≡ activity-of operation o phase 0 0 → Back phase operation
+  plain phase operation test fine written fits =
       let rest : both (unkept? phase) (unsaved? phase) ≡ true = both-second (busy? phase) _ test in
       let no-kept : kept ≡ 0 = fits .unused .kept (unkept-phase phase (both-first (unkept? phase) _ rest)) in
       let no-saved : saved ≡ 0 = fits .unused .saved (unsaved-phase phase (both-second (unkept? phase) _ rest)) in
       record {
-        state = state;
+        state = read-activity (activity-of operation o phase 0 0);
         fine = fine;
         written = ap (with-activity own) ((λ j. activity-of operation o phase (no-kept j) (no-saved j)) ∙ sym written);
         home = λ busy. fits .operation (busy-phase phase (both-first (busy? phase) _ test)) .0;
@@ -115,15 +123,15 @@ module _ (objects n o kept saved : ℕ) (own : ThreadRecord) (is-number : IsNumb
       }
 
   -- one that uses the saved depth
-  saving : (phase : Phase) (operation : Operation) (state : Suspension → ThreadState) → both (busy? phase) (unkept? phase) ≡ true
-      → SavesDepth (phase-number phase) (carried-number phase)
-      → ((suspension : Suspension) → SuspensionFine suspension → StateFine (state suspension))
-      → write-activity n o (state (record { depth = saved })) ≡ activity-of operation o phase 0 saved → Back phase operation
-  saving phase operation state test saves fine written fits =
+  saving : (phase : Phase) (operation : Operation) → both (busy? phase) (unkept? phase) ≡ true → SavesDepth (phase-number phase) (carried-number phase)
+      → let state = read-activity (activity-of operation o phase 0 saved) in
+      (SuspensionFine (record { depth = saved }) → StateFine state) → write-activity n o state ≡ activity-of operation o phase 0 saved
+      → Back phase operation
+  saving phase operation test saves fine written fits =
       let no-kept : kept ≡ 0 = fits .unused .kept (unkept-phase phase (both-second (busy? phase) _ test)) in
       record {
-        state = state (record { depth = saved });
-        fine = fine (record { depth = saved }) (fits .saved saves);
+        state = read-activity (activity-of operation o phase 0 saved);
+        fine = fine (fits .saved saves);
         written = ap (with-activity own) ((λ j. activity-of operation o phase (no-kept j) saved) ∙ sym written);
         home = λ busy. fits .operation (busy-phase phase (both-first (busy? phase) _ test)) .0;
         number = λ busy. is-number;
@@ -160,68 +168,48 @@ module _ (objects n o kept saved : ℕ) (own : ThreadRecord) (is-number : IsNumb
         number = λ busy. absurd busy;
       }
 
-  -- a phase with the operations that may be in it: enter, exit, wait, notify and notify all
-  by-operation : (phase : Phase) → busy? phase ≡ true → (may-be-in? phase Enter ≡ true → Back phase Enter) → (may-be-in? phase Exit ≡ true → Back phase Exit)
-      → (may-be-in? phase Wait ≡ true → Back phase Wait) → (may-be-in? phase Notify ≡ true → Back phase Notify)
-      → (may-be-in? phase NotifyAll ≡ true → Back phase NotifyAll) → (operation : Operation) → Back phase operation
+  -- a phase with the operations that may be in it
+  abbrev Row : Phase → Operation → Type 0
+  Row phase operation = Where (may-be-in? phase operation) (Back phase operation)
+
+  by-operation : (phase : Phase) → busy? phase ≡ true → Row phase Enter × Row phase Exit × Row phase Wait × Row phase Notify × Row phase NotifyAll
+      → (operation : Operation) → Back phase operation
   unfolding uses-phase
-  by-operation phase test enter exit wait notify notify-all operation fits =
-      at operation (fits .operation (busy-phase phase test) .1) fits
+  by-operation phase test all operation fits = at operation (fits .operation (busy-phase phase test) .1) fits
     where
       at : (operation : Operation) → may-be-in? phase operation ≡ true → Back phase operation
       at NoOperation = false≢true
-      at Enter = enter
-      at Exit = exit
-      at Wait = wait
-      at Notify = notify
-      at NotifyAll = notify-all
+      at Enter = given (Back phase Enter) (may-be-in? phase Enter) (all .0)
+      at Exit = given (Back phase Exit) (may-be-in? phase Exit) (all .1)
+      at Wait = given (Back phase Wait) (may-be-in? phase Wait) (all .2)
+      at Notify = given (Back phase Notify) (may-be-in? phase Notify) (all .3)
+      at NotifyAll = given (Back phase NotifyAll) (may-be-in? phase NotifyAll) (all .4)
 
-  -- and what each of them is doing there; where an operation may not be in the phase, its test is false
+  -- and what each of them is doing there
   back : (phase : Phase) (operation : Operation) → Back phase operation
   unfolding uses-phase carries-phase phase-number carried-number onward-number doing-activity carried-activity write-activity
+      state-by look-of store-of cancel-of go-in-of carried-of
   back IdlePhase = idle
-  back Look =
-      by-operation Look refl (λ e. plain Look Enter (Running EnterLook) refl tt refl) (λ e. plain Look Exit (Running ExitLook) refl tt refl)
-      (λ e. plain Look Wait (Running WaitLook) refl tt refl) (λ e. plain Look Notify (Running NotifyLook) refl tt refl)
-      (λ e. plain Look NotifyAll (Running NotifyAllLook) refl tt refl)
+  back Look = by-operation Look refl (search plain)
   back Store =
-      by-operation Store refl (λ e. storing Enter EnterStore (λ count small. omega arith) (λ count. refl))
-      (λ e. storing Exit ExitStore (λ count fits. fits) (λ count. refl)) false≢true false≢true false≢true
-  back Cancel =
-      by-operation Cancel refl (λ e. plain Cancel Enter (Running EnterCancel) refl tt refl) false≢true
-      (λ e. plain Cancel Wait (Running WaitCancel) refl tt refl) false≢true false≢true
-  back GoIn =
-      by-operation GoIn refl (λ e. plain GoIn Enter (Running EnterGoIn) refl tt refl) (λ e. plain GoIn Exit (Running ExitGoIn) refl tt refl)
-      (λ e. plain GoIn Wait (Running WaitGoIn) refl tt refl) false≢true false≢true
-  back (QueuedPhase OnToCheck) =
-      by-operation (QueuedPhase OnToCheck) refl (λ e. plain (QueuedPhase OnToCheck) Enter (Queued ToCheck) refl tt refl) false≢true false≢true
-      false≢true false≢true
-  back (QueuedPhase OnToTell) =
-      by-operation (QueuedPhase OnToTell) refl false≢true (λ e. plain (QueuedPhase OnToTell) Exit (Queued ToTell) refl tt refl) false≢true
-      false≢true false≢true
-  back (QueuedPhase OnToInflate) =
-      by-operation (QueuedPhase OnToInflate) refl false≢true false≢true (λ e. plain (QueuedPhase OnToInflate) Wait (Queued ToInflate) refl tt refl)
-      false≢true false≢true
-  back (QueuedPhase OnToResume) =
-      by-operation (QueuedPhase OnToResume) refl false≢true false≢true
-      (λ e. saving (QueuedPhase OnToResume) Wait (λ suspension. Queued (ToResume suspension)) refl (inr refl) (λ suspension fine. fine) refl)
-      false≢true false≢true
-  back Check = by-operation Check refl (λ e. plain Check Enter (Running EnterCheck) refl tt refl) false≢true false≢true false≢true false≢true
-  back Try = by-operation Try refl (λ e. plain Try Enter (Running EnterTry) refl tt refl) false≢true false≢true false≢true false≢true
-  back ContendingPhase =
-      by-operation ContendingPhase refl (λ e. plain ContendingPhase Enter Contending refl tt refl) false≢true false≢true false≢true false≢true
-  back Test = by-operation Test refl false≢true (λ e. plain Test Exit (Running ExitTest) refl tt refl) false≢true false≢true false≢true
-  back Tell = by-operation Tell refl false≢true (λ e. plain Tell Exit (Running ExitTell) refl tt refl) false≢true false≢true false≢true
-  back Leave = by-operation Leave refl false≢true (λ e. plain Leave Exit (Running ExitLeave) refl tt refl) false≢true false≢true false≢true
-  back Inflate = by-operation Inflate refl false≢true false≢true (λ e. plain Inflate Wait (Running WaitInflate) refl tt refl) false≢true false≢true
-  back GiveUp = by-operation GiveUp refl false≢true false≢true (λ e. plain GiveUp Wait (Running WaitGiveUp) refl tt refl) false≢true false≢true
-  back WaitingPhase =
-      by-operation WaitingPhase refl false≢true false≢true
-      (λ e. saving WaitingPhase Wait Waiting refl (inl (omega arith, omega arith)) (λ suspension fine. fine) refl) false≢true false≢true
-  back Resume =
-      by-operation Resume refl false≢true false≢true
-      (λ e. saving Resume Wait (λ suspension. Running (WaitResume suspension)) refl (inl (omega arith, omega arith)) (λ suspension fine. fine) refl)
-      false≢true false≢true
+      by-operation Store refl
+      (storing Enter EnterStore (λ count small. omega arith) (λ count. refl), storing Exit ExitStore (λ count fits. fits) (λ count. refl), tt, tt, tt)
+  back Cancel = by-operation Cancel refl (search plain)
+  back GoIn = by-operation GoIn refl (search plain)
+  back (QueuedPhase OnToCheck) = by-operation (QueuedPhase OnToCheck) refl (search plain)
+  back (QueuedPhase OnToTell) = by-operation (QueuedPhase OnToTell) refl (search plain)
+  back (QueuedPhase OnToInflate) = by-operation (QueuedPhase OnToInflate) refl (search plain)
+  back (QueuedPhase OnToResume) = by-operation (QueuedPhase OnToResume) refl (search (saving, inr))
+  back Check = by-operation Check refl (search plain)
+  back Try = by-operation Try refl (search plain)
+  back ContendingPhase = by-operation ContendingPhase refl (search plain)
+  back Test = by-operation Test refl (search plain)
+  back Tell = by-operation Tell refl (search plain)
+  back Leave = by-operation Leave refl (search plain)
+  back Inflate = by-operation Inflate refl (search plain)
+  back GiveUp = by-operation GiveUp refl (search plain)
+  back WaitingPhase = by-operation WaitingPhase refl (tt, tt, saving WaitingPhase Wait refl (inl (omega arith, omega arith)) (λ fine. fine) refl, tt, tt)
+  back Resume = by-operation Resume refl (tt, tt, saving Resume Wait refl (inl (omega arith, omega arith)) (λ fine. fine) refl, tt, tt)
 
 pub fits-written : (objects n : ℕ) → IsNumber n → (thread : ThreadRecord) → ThreadFits objects n thread → IsWritten objects n thread
 fits-written objects n is-number thread =

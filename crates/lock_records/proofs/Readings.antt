@@ -2,25 +2,24 @@
 -- what a rule sees of it.
 use Prim.Native.Nat.{ℕ, _≤_, _<_}
 use mathlib.Core.Path.{_≡_, refl, sym, ap, _∙_}
-use mathlib.Core.Logic.{_≢_, _⊎_, inl, inr}
+use mathlib.Core.Logic.{_≢_}
 use mathlib.Core.List.{List, [], _∷_}
 use native.Mathlib.Omega.{arith}
 use lib.Dec.{T, eqb}
 use lib.ListN.{length}
 use borrow.Author.Tests.{eq-eqb, ne-eqb}
-use Rattle.laws.proofs.Choice.{equal?}
+use Rattle.laws.proofs.Choice.{either-way, equal?}
 use Rattle.chains.specs.Chain.{members}
-use Rattle.chains.proofs.Chain.{head, chain-members}
+use Rattle.chains.proofs.Chain.{Chain as ChainOf, head, chain-members}
 use Rattle.chains.proofs.Links.{first-head, head-real}
 use Rattle.lock_word.specs.Read.{read-word}
 use Rattle.lock_word.specs.declared.reading.Decoded.the-variants.{Valid}
 use Rattle.lock_rules.proofs.Status.{unfinished}
 use Rattle.lock_rules.specs.declared.ThreadState.the-variants.{Idle}
-use Rattle.lock_rules.proofs.Objects.{empty, sight-of}
+use Rattle.lock_rules.proofs.Objects.{empty, sight-of, chain-of}
 use Rattle.lock_rules.proofs.Tables.{ListTable, seen-here}
-use Rattle.lock_rules.proofs.ListSound.{InTable, SoundTable}
+use Rattle.lock_rules.proofs.ListSound.{SoundTable}
 use Rattle.chains.specs.declared.named.Chain.{Chain}
-use Rattle.lock_rules.proofs.Objects.{chain-of}
 use Rattle.lock_rules.proofs.ListChains.{short}
 use Rattle.lock_table.specs.Limits.{thread-limit}
 use Rattle.lock_table.specs.Access.{thread-at, object-at, next-of}
@@ -42,21 +41,14 @@ module _ (threads objects : ℕ) (lists : ListTable) (sound : SoundTable threads
   nobody = sym (seen-here (lists .threads 0 .object) (lists .threads 0) refl) ∙ sound .sound (lists .threads 0 .object) .nobody
 
   pub past-idle : (n : ℕ) → threads < n → lists .threads n .state ≡ Idle
-  past-idle n past = at (sound .range n)
-    where
-      at : InTable threads objects n (lists .threads n) → lists .threads n .state ≡ Idle
-      at (inl idle) = idle
-      at (inr bounds) = absurd (omega (arith, past, bounds .0))
+  past-idle n past = either-way (sound .range n) (λ idle. idle) (λ bounds. absurd (omega (arith, past, bounds .0)))
 
   pub busy-in : (n : ℕ) → T (unfinished (lists .threads n .state))
       → ((1 ≤ n) × (n ≤ threads)) × (1 ≤ lists .threads n .object) × (lists .threads n .object ≤ objects)
-  busy-in n busy = at (equal? n 0) (sound .range n)
-    where
-      at : (n ≡ 0) ⊎ (n ≢ 0) → InTable threads objects n (lists .threads n)
-          → ((1 ≤ n) × (n ≤ threads)) × (1 ≤ lists .threads n .object) × (lists .threads n .object ≤ objects)
-      at zero? (inl idle) = absurd (rw idle at busy)
-      at (inl e) (inr bounds) = absurd (rw (ap (λ (m : ℕ). lists .threads m .state) e ∙ nobody) at busy)
-      at (inr away) (inr (high, real, small)) = ((omega (arith, away), high), real, small)
+  busy-in n busy =
+      either-way (sound .range n) (λ idle. absurd (rw idle at busy))
+      (λ bounds. either-way (equal? n 0) (λ e. absurd (rw (ap (λ (m : ℕ). lists .threads m .state) e ∙ nobody) at busy))
+      (λ away. ((omega (arith, away), bounds .0), bounds .1, bounds .2)))
 
 module _ (threads objects : ℕ) (t : Table) (lists : ListTable) (represents : Represents threads objects t lists) (sound : SoundTable threads objects lists)
   where
@@ -76,6 +68,9 @@ module _ (threads objects : ℕ) (t : Table) (lists : ListTable) (represents : R
         ∙ object-written n (lists .threads n .object) (lists .threads n .state) busy
 
     -- a chain, by its first thread and the next indexes
+    pub chained : (o : ℕ) (chain : Chain) → ChainOf (represents .links .next) (represents .links .first (number o chain)) (chain-of chain (lists .objects o))
+    chained o chain = rw (list-at (lists .objects) o chain) at (represents .chains .chain (number o chain))
+
     pub first-is : (o : ℕ) (chain : Chain) → represents .links .first (number o chain) ≡ head (chain-of chain (lists .objects o))
     first-is o chain =
         first-head (represents .links) (lists-of (lists .objects)) (represents .chains) (number o chain) ∙ ap head (list-at (lists .objects) o chain)
@@ -86,8 +81,7 @@ module _ (threads objects : ℕ) (t : Table) (lists : ListTable) (represents : R
         ap (λ (next : ℕ → ℕ). members thread-limit next (represents .links .first (number o chain)))
         (next-is (represents .given .thread) t (lists .threads) (represents .links .next) (represents .written))
         ∙ chain-members thread-limit (represents .links .next) (represents .links .first (number o chain)) (chain-of chain (lists .objects o))
-        (rw (list-at (lists .objects) o chain) at (represents .chains .chain (number o chain)))
-        (omega (arith, short threads objects lists sound chain o, represents .thread-room))
+        (chained o chain) (omega (arith, short threads objects lists sound chain o, represents .thread-room))
 
     chain-empty : (o : ℕ) (chain : Chain) → eqb (represents .links .first (number o chain)) 0 ≡ empty (chain-of chain (lists .objects o))
     chain-empty o chain =

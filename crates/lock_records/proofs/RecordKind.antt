@@ -92,23 +92,15 @@ module _ (threads objects : ℕ) (t : Table) (lists : ListTable) (represents : R
         )
         (acts-alike real small (decide n (sight-of (lists .objects home)) doing))
 
--- W is any predicate that makes tables with lists sound and that every event keeps
-pub records-simulate : (threads objects : ℕ) (W : ListTable → Type 0) → ((lists : ListTable) → W lists → SoundTable threads objects lists)
-    → ((lists : ListTable) (event : Event) → W lists → W (turn threads objects lists event .table))
-    → Simulates record-kind threads objects (Represents threads objects) W
-records-simulate threads objects W sound keeps =
-    record {
-      state = λ t lists represents w n low high. state-is threads objects t lists represents (sound lists w) n;
-      begins = λ t lists represents w operation n o low high real small idle.
-          begins-alike threads objects t lists represents (sound lists w) n low high operation o idle;
-      steps = λ t lists represents w n doing low high running. steps-alike threads objects t lists represents (sound lists w) n low high doing running;
-      keeps = keeps;
-    }
-
--- soundness itself is one
+-- with soundness, which every event keeps
 pub sound-simulates : (threads objects : ℕ) → Simulates record-kind threads objects (Represents threads objects) (SoundTable threads objects)
 sound-simulates threads objects =
-    records-simulate threads objects (SoundTable threads objects) (λ lists sound. sound) (λ lists event sound. sound-turn threads objects lists sound event)
+    record {
+      state = λ t lists represents sound n low high. state-is threads objects t lists represents sound n;
+      begins = λ t lists represents sound operation n o low high real small idle. begins-alike threads objects t lists represents sound n low high operation o idle;
+      steps = λ t lists represents sound n doing low high running. steps-alike threads objects t lists represents sound n low high doing running;
+      keeps = λ lists event sound. sound-turn threads objects lists sound event;
+    }
 
 -- so an event on a represented sound table represents the same event, gives the same reply, and keeps both
 pub turn-represents : (threads objects : ℕ) (t : Table) (lists : ListTable) → Represents threads objects t lists → SoundTable threads objects lists

@@ -1,7 +1,7 @@
 -- A table of records that represents a sound table with lists passes the engine's test: so 11 never occurs where lists are kept sound.
 use Prim.Native.Nat.{ℕ, _≤_, _<_}
 use mathlib.Core.Path.{_≡_, refl, sym, ap, _∙_, subst}
-use mathlib.Core.Logic.{_≢_, inl, inr}
+use mathlib.Core.Logic.{_≢_}
 use mathlib.Core.Bool.{true}
 use native.Mathlib.Omega.{arith}
 use lib.Dec.{T}
@@ -11,11 +11,10 @@ use Rattle.lock_rules.specs.Numbers.{phase-of}
 use Rattle.lock_rules.proofs.Status.{unfinished}
 use Rattle.lock_rules.specs.declared.ThreadState.{ThreadState}
 use Rattle.lock_rules.proofs.Tables.{ListTable, states-at, seen-here}
-use Rattle.lock_rules.proofs.ListSound.{InTable, SoundTable}
-use Rattle.chains.specs.declared.named.{Chain.Chain, Chain.Chain}
+use Rattle.lock_rules.proofs.ListSound.{SoundTable}
+use Rattle.chains.specs.declared.named.Chain.{Chain}
 use Rattle.lock_rules.proofs.Objects.{chain-of}
-use Rattle.lock_rules.proofs.ListChains.{times-in, placed-in, member-at, member-in, short}
-use Rattle.lock_rules.proofs.ListChains.{out-of-chain}
+use Rattle.lock_rules.proofs.ListChains.{times-in, placed-in, member-at, member-in, short, out-of-chain}
 use Rattle.lock_table.specs.Record.{no-thread, with-next}
 use Rattle.lock_table.specs.Access.{thread-at, object-at, next-of, phase-number-at}
 use Rattle.lock_table.specs.Parked.{chain-named, thread-chain, first-in, chain-first}
@@ -25,13 +24,11 @@ use Rattle.lock_perform.specs.State.{write-activity, write-thread}
 use Rattle.lock_records.proofs.Numbering.{number, lists-of, list-at, by-number}
 use Rattle.lock_records.proofs.Written.{phase-written, word-read}
 use Rattle.lock_records.proofs.Represents.{thread-record, Represents, next-is}
-use Rattle.lock_records.proofs.Readings.{thread-is, home-is, first-is}
+use Rattle.lock_records.proofs.Readings.{past-idle, busy-in, thread-is, home-is, first-is, chained}
 use Rattle.lock_soundness.specs.Sound.{sound-of}
 use Rattle.sound_records.proofs.Reading.{Within, chain-kinds, ObjectFits, ThreadFits}
-use Rattle.lock_soundness.proofs.Chained.{follow}
-use Rattle.lock_soundness.proofs.Reading.{threads-in-chain, Sound}
-use Rattle.lock_soundness.proofs.Chained.{chain-leads}
-use Rattle.lock_soundness.proofs.Reading.{sound-made}
+use Rattle.lock_soundness.proofs.Chained.{follow, chain-leads}
+use Rattle.lock_soundness.proofs.Reading.{threads-in-chain, Sound, sound-made}
 use Rattle.lock_records.proofs.Naming.{chain-number, chain-number-low, by-chain, named-once, unnamed-never, in-named, named-busy}
 use Rattle.lock_records.proofs.Fits.{written-fits}
 use Rattle.lock_records.proofs.Words.{word-fits}
@@ -47,11 +44,7 @@ module _ (t : Table) (lists : ListTable) (represents : Represents (t .threadcoun
 
   -- which is one of the table
   home-in : (n : ℕ) → T (unfinished (lists .threads n .state)) → Within 1 (t .objectcount) (lists .threads n .object)
-  home-in n busy = at (sound .range n)
-    where
-      at : InTable (t .threadcount) (t .objectcount) n (lists .threads n) → Within 1 (t .objectcount) (lists .threads n .object)
-      at (inl idle) = absurd (rw idle at busy)
-      at (inr (inside, low, high)) = (low, high)
+  home-in n busy = let (thread, low, high) = busy-in (t .threadcount) (t .objectcount) lists sound n busy in (low, high)
 
   -- the chain that its phase names
   named-is : (n : ℕ) → thread-chain (thread-at t n) ≡ chain-named (phase-of (lists .threads n .state))
@@ -85,9 +78,8 @@ module _ (t : Table) (lists : ListTable) (represents : Represents (t .threadcoun
 
     linked-at : (chain : Chain) → Linked (next-of t) (chain-first t o (chain-number chain)) (chain-of chain (lists .objects o))
     linked-at chain =
-        let links : Linked (represents .links .next) (represents .links .first (number o chain)) (chain-of chain (lists .objects o)) =
-        rw (list-at (lists .objects) o chain) at (represents .chains .chain (number o chain)) in
-        rw (next-is (represents .given .thread) t (lists .threads) (represents .links .next) (represents .written), first-at chain) links
+        rw (next-is (represents .given .thread) t (lists .threads) (represents .links .next) (represents .written), first-at chain)
+        (chained (t .threadcount) (t .objectcount) t lists represents sound o chain)
 
     chain-is : (chain : Chain) → threads-in-chain t o (chain-number chain) ≡ chain-of chain (lists .objects o)
     chain-is chain =
@@ -133,14 +125,11 @@ module _ (t : Table) (lists : ListTable) (represents : Represents (t .threadcoun
   -- records past the table's sizes
   thread-past-empty : (n : ℕ) → t .threadcount < n → thread-at t n ≡ no-thread
   unfolding write-activity chain-named
-  thread-past-empty n past = at (sound .range n)
-    where
-      at : InTable (t .threadcount) (t .objectcount) n (lists .threads n) → thread-at t n ≡ no-thread
-      at (inl idle) =
-          record-at n
-          ∙ (λ j. write-thread n (lists .threads n .object) (idle j)
-          (with-next (represents .given .thread-past n past j) (no-next n (ap (λ (state : ThreadState). chain-named (phase-of state)) idle) j)))
-      at (inr (inside, low, high)) = absurd (omega (arith, past, inside))
+  thread-past-empty n past =
+      let idle = past-idle (t .threadcount) (t .objectcount) lists sound n past in
+      record-at n
+      ∙ (λ j. write-thread n (lists .threads n .object) (idle j)
+      (with-next (represents .given .thread-past n past j) (no-next n (ap (λ (state : ThreadState). chain-named (phase-of state)) idle) j)))
 
   -- the fields of an object
   object-fits : (o : ℕ) → 1 ≤ o → o ≤ t .objectcount → ObjectFits (t .threadcount) o (object-at t o)

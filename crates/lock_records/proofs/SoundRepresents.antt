@@ -1,28 +1,26 @@
 -- Every table that passes the engine's test represents a sound table with lists: the one that it is read as.
 use Prim.Native.Nat.{ℕ, _≤_, _<_}
 use mathlib.Core.Path.{_≡_, refl, sym, ap, _∙_, subst, fun-ext}
-use mathlib.Core.Logic.{_≢_, _⊎_, inl, inr}
+use mathlib.Core.Logic.{inl, inr}
 use mathlib.Core.Bool.{true}
 use native.Mathlib.Omega.{arith}
-use lib.Dec.{T}
 use lib.ListN.{length}
 use Rattle.laws.specs.Count.{count}
-use Rattle.laws.proofs.Choice.{equal?}
+use Rattle.laws.proofs.Choice.{either-way, equal?}
 use Rattle.chains.specs.Chain.{members}
 use Rattle.chains.proofs.Chain.{Chain as Linked, head, chain-head, members-none}
 use Rattle.chains.proofs.Links.{Links, LinksRepresent}
 use Rattle.lock_word.specs.Read.{read-word}
-use Rattle.lock_rules.proofs.Status.{unfinished}
 use Rattle.lock_rules.specs.declared.ThreadState.{ThreadState}
 use Rattle.lock_rules.specs.declared.ThreadState.the-variants.{Idle}
-use Rattle.lock_rules.proofs.Objects.{ListObject, object-of}
+use Rattle.lock_rules.proofs.Each.{each-chain}
+use Rattle.lock_rules.proofs.Objects.{ListObject, object-of, chain-of}
 use Rattle.lock_rules.proofs.Tables.{ListTable, seen-idle}
 use Rattle.lock_rules.proofs.ListSound.{StateFine, WordFine, InTable, SoundTable}
 use Rattle.chains.specs.declared.named.Chain.{Chain}
-use Rattle.lock_rules.proofs.Objects.{chain-of}
 use Rattle.lock_table.specs.Limits.{thread-limit, object-limit}
 use Rattle.lock_word.specs.Depth.{depth-limit}
-use Rattle.lock_table.specs.Record.{no-thread, no-object, with-word, with-monitor}
+use Rattle.lock_table.specs.Record.{no-thread, with-word, with-monitor}
 use Rattle.lock_table.specs.Access.{thread-at, object-at, next-of, phase-number-at}
 use Rattle.lock_table.specs.Parked.{thread-chain, first-in, chain-first}
 use Rattle.lock_table.specs.declared.record.{ObjectRecord.ObjectRecord, Table.Table}
@@ -31,9 +29,8 @@ use Rattle.lock_perform.specs.State.{write-thread, state-by, read-thread}
 use Rattle.lock_records.proofs.Numbering.{number, lists-of, list-at, by-number}
 use Rattle.lock_records.proofs.Represents.{object-record, thread-record, Represents}
 use Rattle.lock_soundness.specs.Sound.{sound-of}
-use Rattle.sound_records.proofs.Reading.{Within, chain-kinds, UnheldFits}
-use Rattle.lock_soundness.proofs.Reading.{threads-in-chain, Sound}
-use Rattle.lock_soundness.proofs.Reading.{sound-reads}
+use Rattle.sound_records.proofs.Reading.{chain-kinds, UnheldFits}
+use Rattle.lock_soundness.proofs.Reading.{threads-in-chain, Sound, sound-reads}
 use Rattle.lock_records.proofs.Naming.{chain-number, by-chain, one-chain, idle-or-busy}
 use Rattle.lock_records.proofs.ReadBack.{state-back}
 use Rattle.lock_records.proofs.Words.{seen-in, word-back, no-word-fine}
@@ -51,9 +48,7 @@ abbrev pub lists-read : Table → ListTable
 lists-read t = record { threads = thread-read t; objects = object-read t }
 
 list-read : (t : Table) (o : ℕ) (chain : Chain) → chain-of chain (object-read t o) ≡ threads-in-chain t o (chain-number chain)
-list-read t o Chain.Entry = refl
-list-read t o Chain.Contention = refl
-list-read t o Chain.Waiting = refl
+list-read t o = each-chain _ (search)
 
 list-numbered : (t : Table) (o : ℕ) (chain : Chain) → lists-of (object-read t) (number o chain) ≡ threads-in-chain t o (chain-number chain)
 list-numbered t o chain = list-at (object-read t) o chain ∙ list-read t o chain
@@ -104,19 +99,16 @@ module _ (t : Table) (sound : Sound t) where
           c-is ∙ (ap (number (thread-at t n .object)) (one-chain a b (sym names-a ∙ names-b)) ∙ sym d-is)
 
       loose : (n : ℕ) → ((c : ℕ) → count n (lists-of (object-read t) c) ≡ 0) → next-of t n ≡ 0
-      loose n nowhere = at (equal? (thread-chain (thread-at t n)) 0)
+      loose n nowhere =
+          either-way (equal? (thread-chain (thread-at t n)) 0) (no-next-at t sound n)
+          (λ some. absurd
+          (by-chain (λ k. thread-chain (thread-at t n) ≡ k → ⊥) found (thread-chain (thread-at t n)) (omega (arith, some)) (chain-kinds (phase-number-at t n)) refl))
         where
           found : (chain : Chain) → thread-chain (thread-at t n) ≡ chain-number chain → ⊥
           found chain names =
               let none : count n (threads-in-chain t (thread-at t n .object) (chain-number chain)) ≡ 0 =
               rw (list-numbered t (thread-at t n .object) chain) at (nowhere (number (thread-at t n .object) chain)) in
               omega (arith, none, parked-at t sound chain n names)
-
-          at : (thread-chain (thread-at t n) ≡ 0) ⊎ (thread-chain (thread-at t n) ≢ 0) → next-of t n ≡ 0
-          at (inl none) = no-next-at t sound n none
-          at (inr some) =
-              absurd
-              (by-chain (λ k. thread-chain (thread-at t n) ≡ k → ⊥) found (thread-chain (thread-at t n)) (omega (arith, some)) (chain-kinds (phase-number-at t n)) refl)
 
   -- every thread record is the thread that it is read as, written
   thread-written : (n : ℕ) → thread-at t n ≡ thread-record n (thread-read t n) (next-of t n) (thread-at t n)
@@ -151,7 +143,7 @@ module _ (t : Table) (sound : Sound t) where
           thread = thread-at t;
           object = object-at t;
           thread-fits = sound .threads;
-          thread-past = λ n past. none n past (thread-where t sound n);
+          thread-past = λ n past. either-way (thread-where t sound n) (λ used. absurd (omega (arith, past, used .1))) (λ empty. empty);
           object-fits = sound .objects;
         };
         links = links-read t;
@@ -159,28 +151,17 @@ module _ (t : Table) (sound : Sound t) where
         written = record { records = fun-ext thread-written; full = threads-full };
         objects-full = objects-full;
         object-is = object-written;
-        object-past = λ o past. at o past (object-where t sound o);
+        object-past = λ o past. either-way (object-where t sound o) (λ used. absurd (omega (arith, past, used .1))) (λ empty. empty);
       }
-    where
-      none : (n : ℕ) → t .threadcount < n → Within 1 (t .threadcount) n ⊎ (thread-at t n ≡ no-thread) → thread-at t n ≡ no-thread
-      none n past (inl (low, high)) = absurd (omega (arith, past, high))
-      none n past (inr empty) = empty
-
-      at : (o : ℕ) → t .objectcount < o → Within 1 (t .objectcount) o ⊎ (object-at t o ≡ no-object) → object-at t o ≡ no-object
-      at o past (inl (low, high)) = absurd (omega (arith, past, high))
-      at o past (inr empty) = empty
 
   -- what the table with lists owes to soundness, thread by thread
   range-read : (n : ℕ) → InTable (t .threadcount) (t .objectcount) n (thread-read t n)
-  range-read n = at (thread-where t sound n) (idle-or-busy (read-thread (thread-at t n)))
-    where
-      at : Within 1 (t .threadcount) n ⊎ (thread-at t n ≡ no-thread) → (read-thread (thread-at t n) ≡ Idle) ⊎ T (unfinished (read-thread (thread-at t n)))
-          → InTable (t .threadcount) (t .objectcount) n (thread-read t n)
-      at used (inl idle) = inl idle
-      at (inl (low, high)) (inr busy) =
-          let (first, last) = written-at t sound n .home (rw (state-back (t .objectcount) n (thread-at t n) (written-at t sound n)) at busy) in
-          inr (high, first, last)
-      at (inr empty) (inr busy) = inl (ap read-thread empty ∙ idle-none)
+  range-read n =
+      either-way (idle-or-busy (read-thread (thread-at t n))) inl
+      (λ busy. either-way (thread-where t sound n)
+      (λ used. let (low, high) = written-at t sound n .home (rw (state-back (t .objectcount) n (thread-at t n) (written-at t sound n)) at busy) in
+      inr (used .1, low, high))
+      (λ empty. inl (ap read-thread empty ∙ idle-none)))
 
   fine-read : (n : ℕ) → StateFine (read-thread (thread-at t n))
   fine-read n = subst StateFine (sym (state-back (t .objectcount) n (thread-at t n) (written-at t sound n))) (written-at t sound n .fine)
@@ -188,19 +169,17 @@ module _ (t : Table) (sound : Sound t) where
   -- and object by object
   module _ (depths : DepthsFit t) where
     object-fine : (o : ℕ) → ObjectFine (t .threadcount) (object-at t o)
-    object-fine o = at (object-where t sound o)
-      where
-        at : Within 1 (t .objectcount) o ⊎ (object-at t o ≡ no-object) → ObjectFine (t .threadcount) (object-at t o)
-        at (inl (low, high)) =
-            record {
-              word = word-back (t .threadcount) o (object-at t o .word) (sound .objects o low high .word) .1;
-              holder = sound .objects o low high .holder;
-              deep = depths o low high;
-              unheld = sound .objects o low high .unheld;
-            }
-        at (inr empty) =
-            subst (ObjectFine (t .threadcount)) (sym empty)
-            (record { word = no-word-fine (t .threadcount); holder = omega arith; deep = omega arith; unheld = λ unheld. (refl, refl) })
+    object-fine o =
+        either-way (object-where t sound o)
+        (λ (low, high).
+        record {
+          word = word-back (t .threadcount) o (object-at t o .word) (sound .objects o low high .word) .1;
+          holder = sound .objects o low high .holder;
+          deep = depths o low high;
+          unheld = sound .objects o low high .unheld;
+        })
+        (λ empty. subst (ObjectFine (t .threadcount)) (sym empty)
+        (record { word = no-word-fine (t .threadcount); holder = omega arith; deep = omega arith; unheld = λ unheld. (refl, refl) }))
 
     sound-read : SoundTable (t .threadcount) (t .objectcount) (lists-read t)
     unfolding first-in

@@ -9,8 +9,8 @@ use Rattle.lock_word.specs.declared.reading.Decoded.{Decoded}
 use Rattle.lock_word.specs.declared.reading.Decoded.the-variants.{Valid, Invalid}
 use Rattle.lock_word.proofs.RoundTrip.{word-of-meaning, meaning-in-range}
 use Rattle.lock_word.specs.declared.meaning.WordSeen.{WordSeen}
-use Rattle.lock_word.specs.declared.meaning.WordSeen.the-variants.{Free as SeenFree, Flat as SeenFlat, Anonymous as SeenAnonymous}
-use Rattle.lock_word.specs.declared.meaning.WordSeen.the-variants.{Reserved as SeenReserved, Fat as SeenFat}
+use Rattle.lock_word.specs.declared.meaning.WordSeen.the-variants.{Free as SeenFree, Fat as SeenFat}
+use Rattle.lock_rules.proofs.Each.{each-word}
 use Rattle.lock_rules.proofs.ListSound.{WordFine}
 use Rattle.lock_word.specs.Meaning.{seen-word}
 use Rattle.lock_records.proofs.Written.{lock-word, word-written}
@@ -18,11 +18,7 @@ use Rattle.sound_records.proofs.Reading.{WordFits}
 
 -- a fine word, written at object o, is as soundness asks
 pub word-fits : (threads o : ℕ) (seen : WordSeen) → WordFine threads seen → WordFits threads o (Valid (lock-word o seen))
-word-fits threads o SeenFree fine = tt
-word-fits threads o SeenAnonymous fine = tt
-word-fits threads o SeenFat fine = refl
-word-fits threads o (SeenFlat thread count) (low, high, small) = high
-word-fits threads o (SeenReserved thread count) (low, high, small) = high
+word-fits threads o = each-word _ (search, search, search, λ owner c fine. fine .1, λ owner c fine. fine .1)
 
 -- what a rule sees of bits that are a word; no sound table has others
 unfoldable pub seen-in : Decoded → WordSeen

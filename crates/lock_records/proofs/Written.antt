@@ -1,12 +1,12 @@
 -- What a rule's view of a word and a thread's state are written as, how they are read back, and what the changes of words and records make of them.
-use Prim.Native.Nat.{ℕ, _-_, _≤_}
+use Prim.Native.Nat.{ℕ, _≤_}
 use mathlib.Core.Path.{_≡_, refl, sym, ap, _∙_}
 use mathlib.Core.Logic.{_⊎_, inl, inr}
-use mathlib.Core.Bool.{Bool, true, false}
 use native.Mathlib.Omega.{arith}
+use native.Mathlib.Nat.{le-of-lt}
 use lib.Dec.{T, eqb}
 use Rattle.laws.specs.Choice.{pick}
-use Rattle.laws.proofs.Choice.{pick-same}
+use Rattle.laws.proofs.Choice.{by-test, either-way, split, pick-same}
 use Rattle.lock_word.specs.Layout.{count-limit}
 use Rattle.lock_word.specs.Read.{read-word, thread-number, monitor-number}
 use Rattle.lock_word.specs.Write.{write-word, IsNumber, InRange, reserved-word}
@@ -18,13 +18,11 @@ use Rattle.lock_word.specs.declared.reading.Decoded.the-variants.{Valid}
 use Rattle.lock_rules.specs.Numbers.{phase-of-doing, phase-of}
 use Rattle.lock_rules.specs.Rules.{onward}
 use Rattle.lock_rules.proofs.Changes.{seen-after, handed, moved, look-again, sent-back}
+use Rattle.lock_rules.proofs.Each.{each-doing, each-state, each-carried, each-word}
 use Rattle.lock_rules.proofs.Status.{unfinished}
 use Rattle.lock_rules.specs.declared.{OnwardStep.OnwardStep, Doing.Doing, ThreadState.ThreadState, WordChange.WordChange}
-use Rattle.lock_rules.specs.declared.OnwardStep.the-variants.{ToCheck, ToTell, ToInflate, ToResume}
-use Rattle.lock_rules.specs.declared.Doing.the-variants.{EnterLook, EnterStore, EnterCancel, EnterGoIn, EnterCheck, EnterTry, ExitLook}
-use Rattle.lock_rules.specs.declared.Doing.the-variants.{ExitStore, ExitGoIn, ExitTest, ExitTell, ExitLeave, WaitLook, WaitCancel, WaitGoIn}
-use Rattle.lock_rules.specs.declared.Doing.the-variants.{WaitInflate, WaitGiveUp, WaitResume, NotifyLook, NotifyAllLook}
-use Rattle.lock_rules.specs.declared.ThreadState.the-variants.{Idle, Running, Queued, Contending, Waiting}
+use Rattle.lock_rules.specs.declared.Doing.the-variants.{ExitStore}
+use Rattle.lock_rules.specs.declared.ThreadState.the-variants.{Idle, Running}
 use Rattle.lock_word.specs.declared.meaning.WordSeen.{WordSeen}
 use Rattle.lock_word.specs.declared.meaning.WordSeen.the-variants.{Free as SeenFree, Flat as SeenFlat, Anonymous as SeenAnonymous}
 use Rattle.lock_word.specs.declared.meaning.WordSeen.the-variants.{Reserved as SeenReserved, Fat as SeenFat}
@@ -36,8 +34,7 @@ use Rattle.lock_table.specs.Record.{no-thread, with-activity, with-next}
 use Rattle.lock_table.specs.Chain.{carried-of, handed-of, moved-phase, moved as moved-record}
 use Rattle.lock_table.specs.declared.record.ThreadRecord.{ThreadRecord}
 use Rattle.lock_perform.specs.State.{look-of, store-of, cancel-of as cancel-state-of, go-in-of, carried-of as carried-state-of, state-by}
-use Rattle.lock_perform.specs.State.{read-activity}
-use Rattle.lock_perform.specs.State.{doing-activity, carried-activity, write-activity, write-thread}
+use Rattle.lock_perform.specs.State.{read-activity, doing-activity, carried-activity, write-activity, write-thread}
 use Rattle.lock_perform.specs.Moving.{back-from, sent-back-of}
 use Rattle.lock_perform.specs.Perform.{word-after}
 
@@ -55,20 +52,12 @@ word-written o seen = write-word (lock-word o seen)
 -- a rule sees what was written
 pub seen-written : (o : ℕ) (seen : WordSeen) → seen-word (lock-word o seen) ≡ seen
 unfolding seen-word
-seen-written o SeenFree = refl
-seen-written o SeenAnonymous = refl
-seen-written o SeenFat = refl
-seen-written o (SeenFlat thread count) = refl
-seen-written o (SeenReserved thread count) = refl
+seen-written o = each-word _ search
 
 module _ (threads o : ℕ) (thread-room : threads ≤ thread-limit) (real : 1 ≤ o) (object-room : o ≤ object-limit) where
   word-in-range : (seen : WordSeen) → WordFine threads seen → InRange (lock-word o seen)
   unfolding InRange
-  word-in-range SeenFree fine = tt
-  word-in-range SeenAnonymous fine = tt
-  word-in-range SeenFat fine = (real, omega arith)
-  word-in-range (SeenFlat thread count) (low, high, small) = ((low, omega arith), omega arith)
-  word-in-range (SeenReserved thread count) (low, high, small) = ((low, omega arith), omega arith)
+  word-in-range = each-word _ (search arith)
 
   -- a written word is valid, and is read as what was written
   pub word-read : (seen : WordSeen) → WordFine threads seen → read-word (word-written o seen) ≡ Valid (lock-word o seen)
@@ -80,17 +69,14 @@ module _ (threads o : ℕ) (thread-room : threads ≤ thread-limit) (real : 1 �
   cancel-written seen fine = rw (word-read seen fine) (at seen)
     where
       at : (seen : WordSeen) → cancel-read (word-written o seen) (Valid (lock-word o seen)) ≡ word-written o (cancelled seen)
-      at SeenFree = refl
-      at SeenAnonymous = refl
-      at SeenFat = refl
-      at (SeenFlat thread count) = refl
-      at (SeenReserved thread count) = by (eqb count 0)
-        where
-          by : (none : Bool)
-              → rewritten-of (word-written o (SeenReserved thread count)) (pick none SeenFree (SeenFlat thread (count - 1)))
-              ≡ write-word (lock-word o (pick none SeenFree (SeenFlat thread (count - 1))))
-          by true = refl
-          by false = refl
+      at =
+          each-word _ (
+            search,
+            search,
+            search,
+            search,
+            λ thread count. by-test (λ word. rewritten-of (word-written o (SeenReserved thread count)) word ≡ word-written o word) (eqb count 0) (λ e. refl) (λ e. refl),
+          )
 
   -- a change of the bits by thread n writes the word that the change makes
   pub word-changed : (n : ℕ) (seen : WordSeen) → WordFine threads seen → (change : WordChange)
@@ -111,37 +97,20 @@ count-kept n count is-number small = ap kept-count (meaning-of-word (Reserved (t
 -- a fine state is read back
 doing-read : (n o : ℕ) (doing : Doing) → IsNumber n → DoingFine doing → read-activity (doing-activity n o doing) ≡ Running doing
 unfolding doing-activity state-by look-of store-of cancel-state-of go-in-of
-doing-read n o EnterLook is-number fine = refl
-doing-read n o (EnterStore count) is-number fine = ap (λ (c : ℕ). Running (EnterStore c)) (count-kept n count is-number (omega arith))
-doing-read n o EnterCancel is-number fine = refl
-doing-read n o EnterGoIn is-number fine = refl
-doing-read n o EnterCheck is-number fine = refl
-doing-read n o EnterTry is-number fine = refl
-doing-read n o ExitLook is-number fine = refl
-doing-read n o (ExitStore count) is-number fine = ap (λ (c : ℕ). Running (ExitStore c)) (count-kept n count is-number (fine .1))
-doing-read n o ExitGoIn is-number fine = refl
-doing-read n o ExitTest is-number fine = refl
-doing-read n o ExitTell is-number fine = refl
-doing-read n o ExitLeave is-number fine = refl
-doing-read n o WaitLook is-number fine = refl
-doing-read n o WaitCancel is-number fine = refl
-doing-read n o WaitGoIn is-number fine = refl
-doing-read n o WaitInflate is-number fine = refl
-doing-read n o WaitGiveUp is-number fine = refl
-doing-read n o (WaitResume suspension) is-number fine = refl
-doing-read n o NotifyLook is-number fine = refl
-doing-read n o NotifyAllLook is-number fine = refl
+doing-read n o doing is-number =
+    each-doing (λ d. DoingFine d → read-activity (doing-activity n o d) ≡ Running d) (
+      search (count-kept, le-of-lt),
+      (search, λ count fine. ap (λ (c : ℕ). Running (ExitStore c)) (count-kept n count is-number (fine .1)), search, search, search, search),
+      search,
+      search,
+      search,
+    ) doing
 
 pub state-read : (n o : ℕ) (state : ThreadState) → (T (unfinished state) → IsNumber n) → StateFine state → read-activity (write-activity n o state) ≡ state
 unfolding write-activity carried-activity state-by carried-state-of
-state-read n o Idle is-number fine = refl
-state-read n o (Running doing) is-number fine = doing-read n o doing (is-number tt) fine
-state-read n o (Queued ToCheck) is-number fine = refl
-state-read n o (Queued ToTell) is-number fine = refl
-state-read n o (Queued ToInflate) is-number fine = refl
-state-read n o (Queued (ToResume suspension)) is-number fine = refl
-state-read n o Contending is-number fine = refl
-state-read n o (Waiting suspension) is-number fine = refl
+state-read n o state is-number fine =
+    each-state (λ s. (T (unfinished s) → IsNumber n) → StateFine s → read-activity (write-activity n o s) ≡ s)
+    (search, λ doing is fine. doing-read n o doing (is tt) fine, each-carried _ search, search, search) state is-number fine
 
 -- The record of a thread that can take a step, field by field and after each change of another thread's record.
 pub record WrittenDoing (n o : ℕ) (doing : Doing) (own : ThreadRecord) : Type 0 where
@@ -158,26 +127,7 @@ pub record WrittenDoing (n o : ℕ) (doing : Doing) (own : ThreadRecord) : Type 
 
 pub written-doing : (n o : ℕ) (doing : Doing) (own : ThreadRecord) → WrittenDoing n o doing own
 unfolding doing-activity carried-of moved-phase back-from phase-number carried-number
-written-doing n o EnterLook own = record { object = refl; phase = refl; carried = refl; handed-on = refl; unmoved = refl; back = refl }
-written-doing n o (EnterStore count) own = record { object = refl; phase = refl; carried = refl; handed-on = refl; unmoved = refl; back = refl }
-written-doing n o EnterCancel own = record { object = refl; phase = refl; carried = refl; handed-on = refl; unmoved = refl; back = refl }
-written-doing n o EnterGoIn own = record { object = refl; phase = refl; carried = refl; handed-on = refl; unmoved = refl; back = refl }
-written-doing n o EnterCheck own = record { object = refl; phase = refl; carried = refl; handed-on = refl; unmoved = refl; back = refl }
-written-doing n o EnterTry own = record { object = refl; phase = refl; carried = refl; handed-on = refl; unmoved = refl; back = refl }
-written-doing n o ExitLook own = record { object = refl; phase = refl; carried = refl; handed-on = refl; unmoved = refl; back = refl }
-written-doing n o (ExitStore count) own = record { object = refl; phase = refl; carried = refl; handed-on = refl; unmoved = refl; back = refl }
-written-doing n o ExitGoIn own = record { object = refl; phase = refl; carried = refl; handed-on = refl; unmoved = refl; back = refl }
-written-doing n o ExitTest own = record { object = refl; phase = refl; carried = refl; handed-on = refl; unmoved = refl; back = refl }
-written-doing n o ExitTell own = record { object = refl; phase = refl; carried = refl; handed-on = refl; unmoved = refl; back = refl }
-written-doing n o ExitLeave own = record { object = refl; phase = refl; carried = refl; handed-on = refl; unmoved = refl; back = refl }
-written-doing n o WaitLook own = record { object = refl; phase = refl; carried = refl; handed-on = refl; unmoved = refl; back = refl }
-written-doing n o WaitCancel own = record { object = refl; phase = refl; carried = refl; handed-on = refl; unmoved = refl; back = refl }
-written-doing n o WaitGoIn own = record { object = refl; phase = refl; carried = refl; handed-on = refl; unmoved = refl; back = refl }
-written-doing n o WaitInflate own = record { object = refl; phase = refl; carried = refl; handed-on = refl; unmoved = refl; back = refl }
-written-doing n o WaitGiveUp own = record { object = refl; phase = refl; carried = refl; handed-on = refl; unmoved = refl; back = refl }
-written-doing n o (WaitResume suspension) own = record { object = refl; phase = refl; carried = refl; handed-on = refl; unmoved = refl; back = refl }
-written-doing n o NotifyLook own = record { object = refl; phase = refl; carried = refl; handed-on = refl; unmoved = refl; back = refl }
-written-doing n o NotifyAllLook own = record { object = refl; phase = refl; carried = refl; handed-on = refl; unmoved = refl; back = refl }
+written-doing n o doing own = each-doing (λ d. WrittenDoing n o d own) (search) doing
 
 -- the same for a queued thread, which carries the phase that it takes
 pub record WrittenCarried (n o : ℕ) (carried : OnwardStep) (own : ThreadRecord) : Type 0 where
@@ -190,62 +140,45 @@ pub record WrittenCarried (n o : ℕ) (carried : OnwardStep) (own : ThreadRecord
 
 pub written-carried : (n o : ℕ) (carried : OnwardStep) (own : ThreadRecord) → WrittenCarried n o carried own
 unfolding carried-activity doing-activity carried-of moved-phase onward-phase back-from phase-number carried-number onward-number
-written-carried n o ToCheck own = record { object = refl; phase = refl; carries = refl; handed-on = refl; unmoved = refl; back = refl }
-written-carried n o ToTell own = record { object = refl; phase = refl; carries = refl; handed-on = refl; unmoved = refl; back = refl }
-written-carried n o ToInflate own = record { object = refl; phase = refl; carries = refl; handed-on = refl; unmoved = refl; back = refl }
-written-carried n o (ToResume suspension) own = record { object = refl; phase = refl; carries = refl; handed-on = refl; unmoved = refl; back = refl }
+written-carried n o carried own = each-carried (λ c. WrittenCarried n o c own) (search) carried
 
 -- the object of a thread that is not idle is written as it is
 pub idle-or-written : (n o : ℕ) (state : ThreadState) → (state ≡ Idle) ⊎ (write-activity n o state .object ≡ o)
 unfolding write-activity
-idle-or-written n o Idle = inl refl
-idle-or-written n o (Running doing) = inr (written-doing n o doing no-thread .object)
-idle-or-written n o (Queued carried) = inr (written-carried n o carried no-thread .object)
-idle-or-written n o Contending = inr refl
-idle-or-written n o (Waiting suspension) = inr refl
+idle-or-written n o = each-state _ (
+  search inl,
+  λ doing. inr (written-doing n o doing no-thread .object),
+  λ carried. inr (written-carried n o carried no-thread .object),
+  search inr,
+  search inr,
+)
 
 pub object-written : (n o : ℕ) (state : ThreadState) → T (unfinished state) → write-activity n o state .object ≡ o
-object-written n o state busy = at (idle-or-written n o state)
-  where
-    at : (state ≡ Idle) ⊎ (write-activity n o state .object ≡ o) → write-activity n o state .object ≡ o
-    at (inl idle) = absurd (rw idle at busy)
-    at (inr same) = same
+object-written n o state busy = either-way (idle-or-written n o state) (λ idle. absurd (rw idle at busy)) (λ same. same)
 
 -- and the phase, by its number
 pub phase-written : (n o : ℕ) (state : ThreadState) → phase-number (write-activity n o state .phase) ≡ phase-of state
 unfolding write-activity phase-number
-phase-written n o Idle = refl
-phase-written n o (Running doing) = written-doing n o doing no-thread .phase
-phase-written n o (Queued carried) = written-carried n o carried no-thread .phase
-phase-written n o Contending = refl
-phase-written n o (Waiting suspension) = refl
+phase-written n o =
+    each-state _ (search, λ doing. written-doing n o doing no-thread .phase, λ carried. written-carried n o carried no-thread .phase, search, search)
 
 -- a thread that is handed the monitor, having left the entry chain, takes the phase that it carries
 pub handed-written : (n o : ℕ) (state : ThreadState) (own : ThreadRecord) → handed-of (write-thread n o state own) ≡ write-thread n o (handed state) (with-next own 0)
 unfolding write-activity carried-of
-handed-written n o Idle own = refl
-handed-written n o (Running doing) own = written-doing n o doing own .handed-on
-handed-written n o (Queued carried) own = written-carried n o carried own .handed-on
-handed-written n o Contending own = refl
-handed-written n o (Waiting suspension) own = refl
+handed-written n o =
+    each-state _ (search, λ doing own. written-doing n o doing own .handed-on, λ carried own. written-carried n o carried own .handed-on, search, search)
 
 -- a thread that moves to the entry chain
 pub moved-written : (n o : ℕ) (state : ThreadState) (own : ThreadRecord) → moved-record (write-thread n o state own) ≡ write-thread n o (moved state) own
 unfolding write-activity carried-activity moved-phase
-moved-written n o Idle own = refl
-moved-written n o (Running doing) own = written-doing n o doing own .unmoved
-moved-written n o (Queued carried) own = written-carried n o carried own .unmoved
-moved-written n o Contending own = refl
-moved-written n o (Waiting suspension) own = refl
+moved-written n o =
+    each-state _ (search, λ doing own. written-doing n o doing own .unmoved, λ carried own. written-carried n o carried own .unmoved, search, search)
 
 back-written : (n o : ℕ) (state : ThreadState) (own : ThreadRecord)
     → back-from (write-thread n o state own) (write-activity n o state .phase) ≡ write-thread n o (sent-back state) own
 unfolding write-activity back-from
-back-written n o Idle own = refl
-back-written n o (Running doing) own = written-doing n o doing own .back
-back-written n o (Queued carried) own = written-carried n o carried own .back
-back-written n o Contending own = refl
-back-written n o (Waiting suspension) own = refl
+back-written n o =
+    each-state _ (search, λ doing own. written-doing n o doing own .back, λ carried own. written-carried n o carried own .back, search, search)
 
 -- a thread at `home` is sent back by a cancel at object o if it is there
 pub sent-back-written : (o n home : ℕ) (state : ThreadState) (own : ThreadRecord)
@@ -253,19 +186,9 @@ pub sent-back-written : (o n home : ℕ) (state : ThreadState) (own : ThreadReco
 unfolding sent-back-of
 sent-back-written o n home state own =
     ap (λ (back : ThreadRecord). pick (eqb (write-activity n home state .object) o) back (write-thread n home state own)) (back-written n home state own)
-    ∙ at (idle-or-written n home state)
-  where
-    here : (there : Bool) → pick there (write-thread n home (sent-back state) own) (write-thread n home state own)
-        ≡ write-thread n home (pick there (sent-back state) state) own
-    here true = refl
-    here false = refl
-
-    at : (state ≡ Idle) ⊎ (write-activity n home state .object ≡ home)
-        → pick (eqb (write-activity n home state .object) o) (write-thread n home (sent-back state) own) (write-thread n home state own)
-        ≡ write-thread n home (pick (eqb home o) (sent-back state) state) own
-    at (inl idle) =
-        rw idle
-        (pick-same (eqb (write-activity n home Idle .object) o) (write-thread n home Idle own)
-        ∙ ap (λ (s : ThreadState). write-thread n home s own) (sym (pick-same (eqb home o) Idle)))
-    at (inr same) =
-        ap (λ (b : ℕ). pick (eqb b o) (write-thread n home (sent-back state) own) (write-thread n home state own)) same ∙ here (eqb home o)
+    ∙ either-way (idle-or-written n home state)
+    (λ idle. rw idle
+    (pick-same (eqb (write-activity n home Idle .object) o) (write-thread n home Idle own)
+    ∙ ap (λ (s : ThreadState). write-thread n home s own) (sym (pick-same (eqb home o) Idle))))
+    (λ same. ap (λ (b : ℕ). pick (eqb b o) (write-thread n home (sent-back state) own) (write-thread n home state own)) same
+    ∙ split (eqb home o) (λ e. rw e) (λ e. rw e))

@@ -1,7 +1,7 @@
 -- An event of the engine on a sound table is the turn of the tables of records: what the gate lets through is the begin or the step there.
 use Prim.Native.Nat.{ℕ, zero, suc}
 use mathlib.Core.Path.{_≡_, refl, sym, ap, _∙_, subst}
-use mathlib.Core.Bool.{Bool, true, false}
+use mathlib.Core.Bool.{true}
 use native.Mathlib.Omega.{arith}
 use lib.Dec.{T}
 use borrow.Author.Tests.{le-leb, lt-leb}
@@ -14,17 +14,14 @@ use Rattle.lock_rules.specs.Gate.{gate, event-thread}
 use Rattle.lock_rules.specs.Operations.{operation-limit}
 use Rattle.lock_rules.specs.Numbers.{asked-for, refusal-number}
 use Rattle.lock_rules.specs.Rules.{decide}
+use Rattle.lock_rules.proofs.Each.{each-doing, each-state, each-carried}
 use Rattle.lock_rules.proofs.Status.{unfinished}
 use Rattle.lock_rules.specs.declared.event.{Event.Event, Gate.Gate}
 use Rattle.lock_rules.specs.declared.event.Event.the-variants.{Begin, Step}
 use Rattle.lock_rules.specs.declared.event.ThreadStatus.the-variants.{Ready}
 use Rattle.lock_rules.specs.declared.event.Refusal.the-variants.{NotSound}
 use Rattle.lock_rules.specs.declared.event.Gate.the-variants.{Open}
-use Rattle.lock_rules.specs.declared.OnwardStep.the-variants.{ToCheck, ToTell, ToInflate, ToResume}
 use Rattle.lock_rules.specs.declared.{Doing.Doing, ThreadState.ThreadState, Action.Action}
-use Rattle.lock_rules.specs.declared.Doing.the-variants.{EnterLook, EnterStore, EnterCancel, EnterGoIn, EnterCheck, EnterTry, ExitLook}
-use Rattle.lock_rules.specs.declared.Doing.the-variants.{ExitStore, ExitGoIn, ExitTest, ExitTell, ExitLeave, WaitLook, WaitCancel, WaitGoIn}
-use Rattle.lock_rules.specs.declared.Doing.the-variants.{WaitInflate, WaitGiveUp, WaitResume, NotifyLook, NotifyAllLook}
 use Rattle.lock_rules.specs.declared.ThreadState.the-variants.{Idle, Running, Queued, Contending, Waiting}
 use Rattle.lock_rules.specs.declared.Action.the-variants.{Unruled, Do}
 use Rattle.lock_rules.proofs.Gate.{Passed, by-gate}
@@ -35,7 +32,7 @@ use Rattle.lock_table.specs.Access.{thread-at, set-thread, object-at, set-objec
 use Rattle.lock_table.specs.declared.operation.Operation.{Operation}
 use Rattle.lock_table.specs.declared.operation.Operation.the-variants.{Idle as NoOperation, Enter, Exit, Wait, Notify, NotifyAll}
 use Rattle.lock_table.specs.declared.record.{ThreadRecord.ThreadRecord, ObjectRecord.ObjectRecord, Table.Table}
-use Rattle.lock_table.proofs.Records.{object-unchanged}
+use Rattle.lock_table.proofs.Records.{object-unchanged, thread-unchanged, object-beside-thread}
 use Rattle.lock_perform.specs.State.{read-thread, write-activity, doing-activity, carried-activity}
 use Rattle.lock_perform.specs.Sight.{sight-at}
 use Rattle.lock_perform.specs.Perform.{stays}
@@ -51,7 +48,6 @@ use Rattle.lock_gate.specs.Status.{thread-status}
 use Rattle.lock_engine.specs.Handle.{event-object, waiters-of, outcome-of, handle-trusting, handle}
 use Rattle.lock_engine.specs.declared.outcome.Outcome.{Outcome}
 use Rattle.lock_engine.proofs.Refused.{refused-stays}
-use Rattle.lock_table.proofs.Records.{thread-unchanged, object-beside-thread}
 use Rattle.lock_engine.proofs.Narrow.{sizes}
 use Rattle.lock_schedule.specs.Schedule.{reply-shown}
 
@@ -59,23 +55,15 @@ use Rattle.lock_schedule.specs.Schedule.{reply-shown}
 abbrev pub turn-of : Outcome → TurnOf Table
 turn-of outcome = record { table = outcome .table; reply = reply-shown (outcome .reply) (outcome .commits) }
 
-abbrev is-none : Operation → Bool
-is-none NoOperation = true
-is-none Enter = false
-is-none Exit = false
-is-none Wait = false
-is-none Notify = false
-is-none NotifyAll = false
-
 -- a number that is an operation's gives one
 known-operation : (number : ℕ) → within 1 operation-limit number ≡ true → operation-from number ≡ NoOperation → ⊥
 unfolding operation-from
 known-operation zero inside none = false≢true inside
-known-operation (suc zero) inside none = false≢true (ap is-none none)
-known-operation (suc (suc zero)) inside none = false≢true (ap is-none none)
-known-operation (suc (suc (suc zero))) inside none = false≢true (ap is-none none)
-known-operation (suc (suc (suc (suc zero)))) inside none = false≢true (ap is-none none)
-known-operation (suc (suc (suc (suc (suc zero))))) inside none = false≢true (ap is-none none)
+known-operation (suc zero) inside none = let z : _≡_ {A = ℕ} 0 1 = cc in omega arith
+known-operation (suc (suc zero)) inside none = let z : _≡_ {A = ℕ} 0 1 = cc in omega arith
+known-operation (suc (suc (suc zero))) inside none = let z : _≡_ {A = ℕ} 0 1 = cc in omega arith
+known-operation (suc (suc (suc (suc zero)))) inside none = let z : _≡_ {A = ℕ} 0 1 = cc in omega arith
+known-operation (suc (suc (suc (suc (suc zero))))) inside none = let z : _≡_ {A = ℕ} 0 1 = cc in omega arith
 known-operation (suc (suc (suc (suc (suc (suc more)))))) inside none =
     let number = suc (suc (suc (suc (suc (suc more))))) in
     false≢true (rw (le-leb 1 number (omega arith), lt-leb number operation-limit (omega arith)) at inside)
@@ -83,37 +71,11 @@ known-operation (suc (suc (suc (suc (suc (suc more)))))) inside none =
 -- the status of a record that is written is that of its state
 status-doing : (n o : ℕ) (doing : Doing) → thread-status (doing-activity n o doing .phase) ≡ Ready
 unfolding thread-status doing-activity
-status-doing n o EnterLook = refl
-status-doing n o (EnterStore count) = refl
-status-doing n o EnterCancel = refl
-status-doing n o EnterGoIn = refl
-status-doing n o EnterCheck = refl
-status-doing n o EnterTry = refl
-status-doing n o ExitLook = refl
-status-doing n o (ExitStore count) = refl
-status-doing n o ExitGoIn = refl
-status-doing n o ExitTest = refl
-status-doing n o ExitTell = refl
-status-doing n o ExitLeave = refl
-status-doing n o WaitLook = refl
-status-doing n o WaitCancel = refl
-status-doing n o WaitGoIn = refl
-status-doing n o WaitInflate = refl
-status-doing n o WaitGiveUp = refl
-status-doing n o (WaitResume suspension) = refl
-status-doing n o NotifyLook = refl
-status-doing n o NotifyAllLook = refl
+status-doing n o = each-doing _ (search)
 
 status-written : (n o : ℕ) (state : ThreadState) → thread-status (write-activity n o state .phase) ≡ status-of state
 unfolding thread-status write-activity carried-activity
-status-written n o Idle = refl
-status-written n o (Running doing) = status-doing n o doing
-status-written n o (Queued ToCheck) = refl
-status-written n o (Queued ToTell) = refl
-status-written n o (Queued ToInflate) = refl
-status-written n o (Queued (ToResume suspension)) = refl
-status-written n o Contending = refl
-status-written n o (Waiting suspension) = refl
+status-written n o = each-state _ (search, status-doing n o, each-carried _ (search), search, search)
 
 module _ (t : Table) where
   -- a begin: the object is written as it stands
