@@ -7,8 +7,7 @@ use mathlib.Core.List.{List, [], _∷_, _++_}
 use native.Mathlib.Omega.{arith}
 use lib.ListN.{length}
 use borrow.Author.Tests.{eq-eqb, ne-eqb}
-use Rattle.laws.specs.Update.{update}
-use Rattle.laws.specs.Count.{count}
+use Rattle.laws.specs.{Update.update, Count.count}
 use Rattle.laws.proofs.Choice.{by-equal, either-way, equal?}
 use Rattle.laws.proofs.Update.{update-same, update-other, update-id}
 use Rattle.laws.proofs.Count.{count-none, count-same, count-other}

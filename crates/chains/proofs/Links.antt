@@ -6,8 +6,7 @@ use mathlib.Core.Logic.{_≢_}
 use native.Mathlib.Omega.{arith}
 use mathlib.Core.List.{List, [], _∷_, _++_, tail, append-nil}
 use lib.ListN.{length, take}
-use Rattle.laws.specs.Update.{update}
-use Rattle.laws.specs.Count.{count}
+use Rattle.laws.specs.{Update.update, Count.count}
 use Rattle.laws.proofs.Choice.{either-way, equal?}
 use Rattle.laws.proofs.Update.{update-same, update-other, update-id}
 use Rattle.chains.specs.Chain.{first-with, linked}

@@ -8,8 +8,7 @@ use native.Mathlib.Omega.{arith}
 use lib.Dec.{eqb, ltb}
 use lib.ListN.{length}
 use borrow.Author.Tests.{eq-eqb, ne-eqb, eqb-true, lt-ltb, le-ltb}
-use Rattle.laws.specs.Choice.{pick}
-use Rattle.laws.specs.Count.{count}
+use Rattle.laws.specs.{Choice.pick, Count.count}
 use Rattle.laws.proofs.Choice.{either-way, false≢true, equal?, Equal, equal}
 use Rattle.laws.proofs.Count.{count-none, count-same, count-other}
 use Rattle.chains.specs.Chain.{members, chain-test, in-chain}

@@ -8,8 +8,7 @@ use native.Mathlib.Omega.{arith}
 use lib.Dec.{eqb}
 use lib.ListN.{length}
 use borrow.Author.Tests.{eq-eqb, ne-eqb}
-use Rattle.laws.specs.Choice.{pick}
-use Rattle.laws.specs.Count.{count}
+use Rattle.laws.specs.{Choice.pick, Count.count}
 use Rattle.laws.proofs.Choice.{equal?, Equal, equal}
 
 pub count-none : (n : ℕ) → count n [] ≡ 0

@@ -24,8 +24,7 @@ use Rattle.lock_table.proofs.Places.{Has, Lacks, has?}
 use Rattle.lock_perform.specs.Moving.{carry-out}
 use Rattle.lock_perform.specs.Perform.{stays, settled}
 use Rattle.lock_soundness.specs.Sound.{sound-of}
-use Rattle.lock_engine.specs.Outcome.{reply-returned}
-use Rattle.lock_engine.specs.Turn.{gate-turn}
+use Rattle.lock_engine.specs.{Outcome.reply-returned, Turn.gate-turn}
 use Rattle.lock_gate.specs.Status.{thread-status}
 use Rattle.lock_engine.specs.Handle.{trusted, handle-trusting}
 use Rattle.lock_engine.proofs.InPlace.{parts-of, keeps-object, shut-thread, own-in-place, number-in-place, object-in-place}

@@ -1,8 +1,7 @@
 -- All nine cases of document 01 hold of the definitions, by computing them.
 use mathlib.Core.Path.{refl}
 use mathlib.Core.List.{List, [], _∷_, _++_}
-use Rattle.laws.specs.Sequence.{tabulate}
-use Rattle.laws.specs.Every.{all-up-to}
+use Rattle.laws.specs.{Sequence.tabulate, Every.all-up-to}
 use Rattle.chains.specs.Chain.{members, chain-test}
 use Rattle.lock_word.specs.Read.{read-word, read-flat, read-reserved, fat-of}
 use Rattle.lock_word.specs.Cases.{Case, AllHold, word-cases}

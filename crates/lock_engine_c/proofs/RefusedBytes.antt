@@ -19,16 +19,14 @@ use Rattle.lock_table.specs.Limits.{thread-limit, object-limit}
 use Rattle.lock_word.specs.Depth.{depth-limit}
 use Rattle.lock_table.specs.Record.{no-object, idle}
 use Rattle.lock_table.specs.Access.{thread-at, object-at, set-thread}
-use Rattle.lock_table.specs.Narrow.{narrow-of}
-use Rattle.lock_table.specs.WellTyped.{WellTyped}
+use Rattle.lock_table.specs.{Narrow.narrow-of, WellTyped.WellTyped}
 use Rattle.lock_table.specs.declared.record.{ObjectRecord.ObjectRecord, Table.Table}
 use Rattle.lock_soundness.specs.Sound.{sound-of}
 use Rattle.lock_engine.specs.Outcome.{reply-returned, reply-woken}
 use Rattle.lock_engine.specs.Turn.{gate-turn, open-turn}
 use Rattle.lock_gate.specs.Status.{thread-status}
 use Rattle.lock_engine.specs.Handle.{outcome-of, waiters-of, trusted, handle-trusting, handle, begin}
-use Rattle.lock_engine.proofs.Refused.{refused-stays}
-use Rattle.lock_engine.proofs.Full.{full-thread}
+use Rattle.lock_engine.proofs.{Refused.refused-stays, Full.full-thread}
 use Rattle.lock_engine.proofs.Narrow.{narrow-begin, narrow-step}
 use Rattle.lock_perform.specs.Perform.{stays, work-done}
 use Rattle.lock_rules.specs.declared.event.Refusal.the-variants.{NotSound, NoSuchThread, NoSuchObject, NotIdle, ThreadIdle, ThreadParked}
@@ -45,8 +43,7 @@ use Rattle.table_bytes.proofs.SameBytes.{bytes-back}
 use Rattle.table_bytes.proofs.SetRecords.{thread-written, object-written}
 use Rattle.lock_engine_c.proofs.FullTables.{read-full}
 use Rattle.lock_engine_c.specs.Calls.{packed-of, returned-in, outcome-answer, event-answer, event-bytes, left-bytes, RefusedLeaves, begun-on}
-use Rattle.lock_engine_c.specs.Calls.{stepped-on}
-use Rattle.lock_engine_c.specs.Calls.{answer-changes, reply-changes, event-number, event-turn, store-turn, event-over}
+use Rattle.lock_engine_c.specs.Calls.{stepped-on, answer-changes, reply-changes, event-number, event-turn, store-turn, event-over}
 
 -- a begin that is refused leaves the table
 begin-leaves : (table : Table) (thread operation object : ℕ) → let outcome = begin table thread operation object in

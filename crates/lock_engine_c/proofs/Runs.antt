@@ -11,8 +11,7 @@ use lib.ListN.{length, set, take, drop}
 use lib.Seq.{set-split, paste-zero}
 use Rattle.laws.specs.Choice.{pick, both, either}
 use Rattle.laws.proofs.Choice.{split, both-first, both-second, false≢true, Below, below}
-use Rattle.lock_rules.specs.Numbers.{refusal-number}
-use Rattle.lock_rules.specs.Gate.{gate}
+use Rattle.lock_rules.specs.{Numbers.refusal-number, Gate.gate}
 use Rattle.lock_rules.specs.declared.event.{Event.Event, ThreadStatus.ThreadStatus}
 use Rattle.lock_rules.specs.declared.event.Event.the-variants.{Begin, Step}
 use Rattle.lock_rules.specs.declared.event.Refusal.the-variants.{NotSound}
@@ -31,13 +30,11 @@ use Rattle.lock_engine.proofs.InPlace.{Taken, stored, stored-so, worked-so}
 use Rattle.lock_engine.proofs.Refused.{refusing, handle-shut}
 use Rattle.lock_perform.specs.Perform.{stays}
 use Rattle.lock_schedule.proofs.Theorem.{sound-kept, well-typed-kept}
-use Rattle.table_bytes.specs.Rows.{overwritten}
+use Rattle.table_bytes.specs.{Rows.overwritten, Writing.bytes-of}
 use Rattle.table_bytes.specs.Reading.{AreBytes, table-of, is-table}
-use Rattle.table_bytes.specs.Writing.{bytes-of}
-use Rattle.table_bytes.proofs.Parts.{overwritten-next}
+use Rattle.table_bytes.proofs.{Parts.overwritten-next, SameBytes.bytes-back}
 use Rattle.table_bytes.proofs.Written.{kept-is, table-long}
 use Rattle.table_bytes.proofs.ReadBack.{bytes-table, read-back}
-use Rattle.table_bytes.proofs.SameBytes.{bytes-back}
 use Rattle.lock_engine_c.specs.Calls.{not-sound, packed-of, outcome-answer, event-answer, event-bytes, reply-changes, stored-over}
 use Rattle.lock_engine_c.specs.Run.{run-count, run-events, handle-answer, handle-bytes, run-answers, run-bytes}
 use Rattle.lock_engine_c.proofs.RefusedBytes.{read-well-typed, unchanged-same}

@@ -4,9 +4,8 @@ use Rattle.lock_rules.specs.declared.Effect.{Effect}
 use Rattle.lock_table.specs.Access.{thread-at, set-thread, set-object, next-of}
 use Rattle.lock_table.specs.Record.{with-next, with-monitor}
 use Rattle.lock_table.specs.declared.record.{ThreadRecord.ThreadRecord, ObjectRecord.ObjectRecord, Table.Table}
-use Rattle.lock_perform.specs.State.{write-thread}
+use Rattle.lock_perform.specs.{State.write-thread, Perform.object-after}
 use Rattle.lock_perform.specs.Moving.{CarriedOut, carry-out}
-use Rattle.lock_perform.specs.Perform.{object-after}
 
 -- the thread in its new state, with the next index that the chains gave it, and the object
 abbrev pub write-back : CarriedOut → ℕ → ℕ → ThreadRecord → ObjectRecord → Table

@@ -3,11 +3,9 @@ use Prim.Native.Nat.{ℕ}
 use mathlib.Core.Path.{_≡_, refl}
 use mathlib.Core.Logic.{inl}
 use Rattle.lock_rules.specs.declared.ChainWork.the-variants.{Stay}
-use Rattle.lock_table.specs.Limits.{thread-limit}
-use Rattle.lock_table.specs.Access.{thread-at}
+use Rattle.lock_table.specs.{Limits.thread-limit, Access.thread-at}
 use Rattle.lock_table.specs.declared.record.{Monitor.Monitor, Table.Table}
-use Rattle.lock_table.proofs.Records.{set-thread-out}
-use Rattle.lock_table.proofs.Walks.{hang-none}
+use Rattle.lock_table.proofs.{Records.set-thread-out, Walks.hang-none}
 use Rattle.lock_perform.specs.Moving.{after-whole, carry-out}
 
 pub carry-out-stay : (table : Table) (monitor : Monitor) (thread object : ℕ)

@@ -7,9 +7,7 @@ use mathlib.Core.List.{List, [], _∷_}
 use native.Mathlib.Omega.{arith}
 use lib.Dec.{eqb}
 use lib.ListN.{length}
-use Rattle.laws.specs.Choice.{pick}
-use Rattle.laws.specs.Update.{update}
-use Rattle.laws.specs.Count.{count}
+use Rattle.laws.specs.{Choice.pick, Update.update, Count.count}
 use Rattle.laws.proofs.Choice.{by-equal}
 use Rattle.laws.proofs.Count.{count-none, count-same}
 use Rattle.chains.specs.Chain.{first-with, linked}
@@ -22,21 +20,17 @@ use Rattle.lock_rules.specs.declared.{ThreadState.ThreadState, ChainWork.ChainW
 use Rattle.lock_rules.specs.declared.ThreadState.the-variants.{Idle}
 use Rattle.lock_rules.specs.declared.Taken.the-variants.{First, All}
 use Rattle.lock_rules.specs.declared.ChainWork.the-variants.{Stay, Join, JoinAndHand, Hand, Move, SendBack}
-use Rattle.lock_rules.proofs.Each.{each-chain}
+use Rattle.lock_rules.proofs.{Each.each-chain, ListSound.SoundTable}
 use Rattle.lock_rules.proofs.Objects.{ListObject, chain-of, with-chain}
 use Rattle.lock_rules.proofs.Perform.{taken, left as left-list, first-of, changed-states, handed-object, states-after, object-after, effected}
 use Rattle.lock_rules.proofs.Tables.{ListThread, ListTable}
-use Rattle.lock_rules.proofs.ListSound.{SoundTable}
 use Rattle.lock_rules.proofs.ListChains.{member-at, member-in, short}
-use Rattle.lock_table.specs.Limits.{thread-limit}
-use Rattle.lock_table.specs.Record.{with-next}
+use Rattle.lock_table.specs.{Limits.thread-limit, Record.with-next, Narrow.narrow-of}
 use Rattle.lock_table.specs.Access.{thread-at, set-thread}
 use Rattle.lock_table.specs.Monitor.{hand-of, first-in, with-first, join}
 use Rattle.lock_table.specs.Chain.{hang, handed-of, moved as moved-record, move-all}
-use Rattle.lock_table.specs.Narrow.{narrow-of}
 use Rattle.lock_table.specs.declared.record.{ThreadRecord.ThreadRecord, Monitor.Monitor, Table.Table}
-use Rattle.lock_table.proofs.Records.{set-thread-out}
-use Rattle.lock_table.proofs.Narrowed.{narrowed}
+use Rattle.lock_table.proofs.{Records.set-thread-out, Narrowed.narrowed}
 use Rattle.lock_table.proofs.Walks.{move-none, hang-none}
 use Rattle.lock_perform.specs.State.{write-thread}
 use Rattle.lock_perform.specs.Moving.{CarriedOut, sent-back-of, relink, after-whole, carry-out}

@@ -28,11 +28,9 @@ use Rattle.lock_rules.proofs.Lift.{World, world-fresh, world-run}
 use Rattle.lock_rules.proofs.Claim.{Claim, world-claim, OwnedByOther as ListOwned, BusyOther as ListBusy}
 use Rattle.lock_rules.proofs.ListSound.{WordFine, SoundTable}
 use Rattle.chains.specs.declared.named.Chain.{Chain}
-use Rattle.lock_rules.proofs.SoundKept.{sound-fresh}
-use Rattle.lock_rules.proofs.Simulation.{simulated-run}
-use Rattle.lock_table.specs.Limits.{thread-limit}
+use Rattle.lock_rules.proofs.{SoundKept.sound-fresh, Simulation.simulated-run}
+use Rattle.lock_table.specs.{Limits.thread-limit, Record.no-thread}
 use Rattle.lock_table.specs.Phase.{phase-number, carried-number}
-use Rattle.lock_table.specs.Record.{no-thread}
 use Rattle.lock_table.specs.Access.{thread-at, object-at, next-of, phase-number-at}
 use Rattle.lock_table.specs.Fresh.{InRange, fresh-of}
 use Rattle.lock_table.specs.declared.fresh_table.FreshRequest.{FreshRequest}

@@ -6,24 +6,20 @@ use native.Mathlib.Omega.{arith}
 use lib.Dec.{T}
 use borrow.Author.Tests.{eq-eqb, le-leb}
 use Rattle.laws.specs.Choice.{within}
-use Rattle.lock_word.specs.Layout.{count-limit}
+use Rattle.lock_word.specs.{Layout.count-limit, Depth.depth-limit}
 use Rattle.lock_word.specs.Read.{read-word, thread-number}
 use Rattle.lock_word.specs.Write.{write-word, InRange, reserved-word}
 use Rattle.lock_word.specs.declared.reading.LockWord.the-variants.{Reserved}
 use Rattle.lock_word.specs.declared.reading.Decoded.the-variants.{Valid}
 use Rattle.lock_word.proofs.RoundTrip.{meaning-of-word}
-use Rattle.lock_rules.specs.Numbers.{phase-of}
-use Rattle.lock_rules.specs.Rules.{onward}
+use Rattle.lock_rules.specs.{Numbers.phase-of, Rules.onward}
 use Rattle.lock_rules.proofs.Each.{each-doing, each-carried}
 use Rattle.lock_rules.proofs.Status.{unfinished}
 use Rattle.lock_rules.specs.declared.{Suspension.Suspension, OnwardStep.OnwardStep, Doing.Doing, ThreadState.ThreadState}
 use Rattle.lock_rules.specs.declared.ThreadState.the-variants.{Idle, Running, Queued, Contending, Waiting}
 use Rattle.lock_rules.proofs.ListSound.{SuspensionFine, DoingFine, StateFine}
-use Rattle.lock_table.specs.Limits.{thread-limit}
-use Rattle.lock_word.specs.Depth.{depth-limit}
-use Rattle.lock_table.specs.Operation.{operation-number}
+use Rattle.lock_table.specs.{Limits.thread-limit, Operation.operation-number, Parked.chain-named}
 use Rattle.lock_table.specs.Phase.{onward-number, phase-number, carried-number}
-use Rattle.lock_table.specs.Parked.{chain-named}
 use Rattle.lock_table.specs.declared.record.ThreadRecord.{ThreadRecord}
 use Rattle.lock_table.specs.Record.{with-activity, with-next}
 use Rattle.lock_perform.specs.State.{doing-activity, carried-activity, write-activity, write-thread}

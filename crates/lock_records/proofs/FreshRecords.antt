@@ -5,8 +5,7 @@ use mathlib.Core.Bool.{Bool, true, false}
 use mathlib.Core.List.{[]}
 use native.Mathlib.Omega.{arith}
 use Rattle.laws.specs.Count.{count}
-use Rattle.laws.proofs.Count.{count-none}
-use Rattle.laws.proofs.Sequence.{tabulate-length}
+use Rattle.laws.proofs.{Count.count-none, Sequence.tabulate-length}
 use Rattle.chains.specs.declared.named.Chain.{Chain}
 use Rattle.chains.proofs.Links.{Links, LinksRepresent}
 use Rattle.lock_word.specs.Read.{read-word, read-flat, read-reserved}
@@ -23,8 +22,7 @@ use Rattle.lock_perform.specs.State.{write-activity}
 use Rattle.sound_records.specs.Records.{word-fits}
 use Rattle.sound_records.proofs.Reading.{no-thread-fits, word-alone-fits}
 use Rattle.lock_records.proofs.Numbering.{lists-of, list-at, by-number}
-use Rattle.lock_records.proofs.Written.{word-written}
-use Rattle.lock_records.proofs.Represents.{Represents}
+use Rattle.lock_records.proofs.{Written.word-written, Represents.Represents}
 
 -- every chain empty
 abbrev no-links : Links

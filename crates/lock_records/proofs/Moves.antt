@@ -8,9 +8,7 @@ use native.Mathlib.Omega.{arith}
 use lib.Dec.{eqb, ltb}
 use lib.ListN.{length}
 use borrow.Author.Tests.{eq-eqb, ne-eqb, ltb-true, ltb-false}
-use Rattle.laws.specs.Choice.{pick}
-use Rattle.laws.specs.Update.{update}
-use Rattle.laws.specs.Count.{count}
+use Rattle.laws.specs.{Choice.pick, Update.update, Count.count}
 use Rattle.laws.proofs.Choice.{either-way, split, equal?, pick-same}
 use Rattle.laws.proofs.Update.{update-same, update-other, update-id}
 use Rattle.laws.proofs.Count.{count-same}
@@ -21,8 +19,7 @@ use Rattle.lock_rules.proofs.Changes.{moved, sent-back}
 use Rattle.lock_rules.specs.declared.ThreadState.{ThreadState}
 use Rattle.lock_rules.specs.declared.ThreadState.the-variants.{Idle}
 use Rattle.lock_rules.proofs.Tables.{ListThread}
-use Rattle.lock_table.specs.Limits.{thread-limit}
-use Rattle.lock_table.specs.Record.{with-next}
+use Rattle.lock_table.specs.{Limits.thread-limit, Record.with-next}
 use Rattle.lock_table.specs.Access.{thread-at, set-thread, next-of}
 use Rattle.lock_table.specs.Chain.{hang, moved as moved-record, move-all}
 use Rattle.lock_table.proofs.Records.{BesideThreads, thread-set, thread-beside, set-thread-out}

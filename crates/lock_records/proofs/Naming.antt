@@ -9,11 +9,10 @@ use Rattle.laws.specs.Count.{one-if}
 use Rattle.laws.proofs.Choice.{either-way, equal?}
 use Rattle.lock_rules.specs.Numbers.{phase-of-doing, phase-of}
 use Rattle.lock_rules.proofs.Each.{each-doing, each-state, each-chain}
-use Rattle.lock_rules.proofs.Status.{unfinished}
+use Rattle.lock_rules.proofs.{Status.unfinished, ListChains.times-in}
 use Rattle.lock_rules.specs.declared.{Doing.Doing, ThreadState.ThreadState}
 use Rattle.lock_rules.specs.declared.ThreadState.the-variants.{Idle, Waiting}
 use Rattle.chains.specs.declared.named.Chain.{Chain}
-use Rattle.lock_rules.proofs.ListChains.{times-in}
 use Rattle.lock_table.specs.Parked.{chain-named}
 
 -- 1 entry, 2 contention, 3 waiting

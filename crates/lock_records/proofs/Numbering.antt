@@ -7,15 +7,12 @@ use mathlib.Core.List.{List, [], _∷_, _++_, tail}
 use native.Mathlib.Omega.{arith}
 use lib.Dec.{eqb}
 use lib.ListN.{length, take}
-use Rattle.laws.specs.Choice.{pick}
-use Rattle.laws.specs.Update.{update}
-use Rattle.laws.specs.Count.{count}
+use Rattle.laws.specs.{Choice.pick, Update.update, Count.count}
 use Rattle.laws.proofs.Choice.{by-equal, either-way, equal?}
 use Rattle.laws.proofs.Update.{update-same, update-other}
 use Rattle.chains.proofs.Chain.{head}
 use Rattle.chains.proofs.Links.{Links, LinksRepresent, leave-links, leave-lists, join-links, join-lists, move-links, move-lists, shift-links}
-use Rattle.chains.proofs.Links.{shift-lists}
-use Rattle.chains.proofs.Links.{leave-within, leave-short, represent-leave, represent-join, represent-move, represent-shift}
+use Rattle.chains.proofs.Links.{shift-lists, leave-within, leave-short, represent-leave, represent-join, represent-move, represent-shift}
 use Rattle.chains.specs.declared.named.Chain.{Chain}
 use Rattle.lock_rules.specs.declared.{Taken.Taken, ChainWork.ChainWork, Effect.Effect}
 use Rattle.lock_rules.specs.declared.Taken.the-variants.{First, All}

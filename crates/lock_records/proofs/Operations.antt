@@ -5,8 +5,7 @@ use mathlib.Core.Bool.{Bool, true, false}
 use lib.Dec.{eqb}
 use Rattle.laws.specs.Choice.{pick}
 use Rattle.lock_rules.proofs.Each.{each-operation}
-use Rattle.lock_rules.specs.Numbers.{asked-for}
-use Rattle.lock_rules.specs.Rules.{begun}
+use Rattle.lock_rules.specs.{Numbers.asked-for, Rules.begun}
 use Rattle.lock_rules.specs.Operations.{Operation as AskedOperation, Enter as AskEnter, Exit as AskExit, Wait as AskWait, Notify as AskNotify}
 use Rattle.lock_rules.specs.Operations.{NotifyAll as AskNotifyAll, Asked, Unknown, Known}
 use Rattle.lock_rules.specs.declared.ThreadState.the-variants.{Running}

@@ -5,21 +5,18 @@ use mathlib.Core.Logic.{_≢_, _⊎_, inl, inr}
 use mathlib.Core.List.{List}
 use native.Mathlib.Omega.{arith}
 use lib.ListN.{length}
-use Rattle.laws.specs.Update.{update}
-use Rattle.laws.specs.Count.{count}
+use Rattle.laws.specs.{Update.update, Count.count}
 use Rattle.laws.proofs.Choice.{equal?}
 use Rattle.laws.proofs.Update.{update-same, update-other, update-id}
 use Rattle.chains.proofs.Chain.{head}
 use Rattle.chains.proofs.Links.{Links, LinksRepresent, first-head}
-use Rattle.lock_rules.proofs.Changes.{seen-after}
+use Rattle.lock_rules.proofs.{Changes.seen-after, Each.each-chain, ListSound.SoundTable}
 use Rattle.lock_rules.specs.declared.{Doing.Doing, ThreadState.ThreadState, Effect.Effect}
 use Rattle.lock_rules.specs.declared.ThreadState.the-variants.{Running}
 use Rattle.lock_rules.specs.declared.Action.the-variants.{Unruled, Do}
-use Rattle.lock_rules.proofs.Each.{each-chain}
 use Rattle.lock_rules.proofs.Objects.{ListObject, chain-of}
 use Rattle.lock_rules.proofs.Perform.{perform, states-after, object-after, effected}
 use Rattle.lock_rules.proofs.Tables.{ListThread, ListTable, states-at, put-back}
-use Rattle.lock_rules.proofs.ListSound.{SoundTable}
 use Rattle.chains.specs.declared.named.Chain.{Chain}
 use Rattle.lock_rules.proofs.ListChains.{times-in, short, out-of-chain}
 use Rattle.lock_table.specs.Limits.{thread-limit, object-limit}

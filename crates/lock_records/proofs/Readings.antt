@@ -14,18 +14,15 @@ use Rattle.chains.proofs.Chain.{Chain as ChainOf, head, chain-members}
 use Rattle.chains.proofs.Links.{first-head, head-real}
 use Rattle.lock_word.specs.Read.{read-word}
 use Rattle.lock_word.specs.declared.reading.Decoded.the-variants.{Valid}
-use Rattle.lock_rules.proofs.Status.{unfinished}
+use Rattle.lock_rules.proofs.{Status.unfinished, ListSound.SoundTable, ListChains.short}
 use Rattle.lock_rules.specs.declared.ThreadState.the-variants.{Idle}
 use Rattle.lock_rules.proofs.Objects.{empty, sight-of, chain-of}
 use Rattle.lock_rules.proofs.Tables.{ListTable, seen-here}
-use Rattle.lock_rules.proofs.ListSound.{SoundTable}
 use Rattle.chains.specs.declared.named.Chain.{Chain}
-use Rattle.lock_rules.proofs.ListChains.{short}
 use Rattle.lock_table.specs.Limits.{thread-limit}
 use Rattle.lock_table.specs.Access.{thread-at, object-at, next-of}
 use Rattle.lock_table.specs.declared.record.{ThreadRecord.ThreadRecord, ObjectRecord.ObjectRecord, Table.Table}
-use Rattle.lock_perform.specs.State.{read-thread}
-use Rattle.lock_perform.specs.Sight.{sight-at}
+use Rattle.lock_perform.specs.{State.read-thread, Sight.sight-at}
 use Rattle.lock_records.proofs.Numbering.{number, lists-of, list-at}
 use Rattle.lock_records.proofs.Written.{lock-word, word-read, seen-written, state-read, object-written}
 use Rattle.lock_records.proofs.Represents.{thread-record, Represents, record-is, next-is}

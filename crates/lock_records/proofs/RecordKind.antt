@@ -7,7 +7,7 @@ use Rattle.lock_word.specs.Read.{read-word}
 use Rattle.lock_word.specs.declared.reading.Decoded.{Decoded}
 use Rattle.lock_word.specs.declared.reading.Decoded.the-variants.{Valid, Invalid}
 use Rattle.lock_rules.specs.Rules.{begun, decide}
-use Rattle.lock_rules.proofs.Status.{unfinished}
+use Rattle.lock_rules.proofs.{Status.unfinished, Objects.sight-of, Perform.perform, ListSound.SoundTable, SoundKept.sound-turn}
 use Rattle.lock_rules.specs.declared.event.Event.{Event}
 use Rattle.lock_rules.specs.Events.{Refused, Answered}
 use Rattle.lock_rules.specs.Operations.{Operation}
@@ -15,12 +15,8 @@ use Rattle.lock_rules.specs.declared.{Doing.Doing, Action.Action}
 use Rattle.lock_rules.specs.declared.ThreadState.the-variants.{Idle, Running}
 use Rattle.lock_rules.specs.declared.Answer.the-variants.{NoRule}
 use Rattle.lock_rules.specs.declared.Action.the-variants.{Unruled, Do}
-use Rattle.lock_rules.proofs.Objects.{sight-of}
-use Rattle.lock_rules.proofs.Perform.{perform}
 use Rattle.lock_rules.proofs.TableKinds.{TurnOf, Kind, turn-on}
 use Rattle.lock_rules.proofs.Tables.{ListTable, states-at, put-back, begin-at, step-at, turn}
-use Rattle.lock_rules.proofs.ListSound.{SoundTable}
-use Rattle.lock_rules.proofs.SoundKept.{sound-turn}
 use Rattle.lock_rules.proofs.Simulation.{Simulates, simulated-turn}
 use Rattle.lock_table.specs.Access.{thread-at, set-thread, object-at}
 use Rattle.lock_table.specs.Record.{with-activity}

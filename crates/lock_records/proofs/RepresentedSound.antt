@@ -8,12 +8,10 @@ use lib.Dec.{T}
 use Rattle.laws.specs.Count.{count}
 use Rattle.chains.proofs.Chain.{Chain as Linked, head, chain-members}
 use Rattle.lock_rules.specs.Numbers.{phase-of}
-use Rattle.lock_rules.proofs.Status.{unfinished}
+use Rattle.lock_rules.proofs.{Status.unfinished, ListSound.SoundTable, Objects.chain-of}
 use Rattle.lock_rules.specs.declared.ThreadState.{ThreadState}
 use Rattle.lock_rules.proofs.Tables.{ListTable, states-at, seen-here}
-use Rattle.lock_rules.proofs.ListSound.{SoundTable}
 use Rattle.chains.specs.declared.named.Chain.{Chain}
-use Rattle.lock_rules.proofs.Objects.{chain-of}
 use Rattle.lock_rules.proofs.ListChains.{times-in, placed-in, member-at, member-in, short, out-of-chain}
 use Rattle.lock_table.specs.Record.{no-thread, with-next}
 use Rattle.lock_table.specs.Access.{thread-at, object-at, next-of, phase-number-at}
@@ -30,8 +28,7 @@ use Rattle.sound_records.proofs.Reading.{Within, chain-kinds, ObjectFits, Threa
 use Rattle.lock_soundness.proofs.Chained.{follow, chain-leads}
 use Rattle.lock_soundness.proofs.Reading.{threads-in-chain, Sound, sound-made}
 use Rattle.lock_records.proofs.Naming.{chain-number, chain-number-low, by-chain, named-once, unnamed-never, in-named, named-busy}
-use Rattle.lock_records.proofs.Fits.{written-fits}
-use Rattle.lock_records.proofs.Words.{word-fits}
+use Rattle.lock_records.proofs.{Fits.written-fits, Words.word-fits}
 
 module _ (t : Table) (lists : ListTable) (represents : Represents (t .threadcount) (t .objectcount) t lists)
     (sound : SoundTable (t .threadcount) (t .objectcount) lists) where

@@ -22,8 +22,7 @@ use Rattle.lock_rules.proofs.Lift.{World, world-turn, world-fresh}
 use Rattle.lock_table.specs.Fresh.{InRange, fresh-of}
 use Rattle.lock_table.specs.declared.fresh_table.FreshRequest.{FreshRequest}
 use Rattle.lock_records.specs.Agrees.{RuledReply, Ruled}
-use Rattle.lock_records.proofs.RecordKind.{record-kind}
-use Rattle.lock_records.proofs.Claim.{schedule-represents}
+use Rattle.lock_records.proofs.{RecordKind.record-kind, Claim.schedule-represents}
 
 -- a step that ends right had a rule
 ended-ruled : (operation : Operation) (answer : Answer) (commits : Bool) (log : OperationLog) → EndsRight operation answer log

@@ -10,7 +10,7 @@ use Rattle.laws.proofs.Choice.{either-way, equal?}
 use Rattle.chains.specs.Chain.{members}
 use Rattle.chains.proofs.Chain.{Chain as Linked, head, chain-head, members-none}
 use Rattle.chains.proofs.Links.{Links, LinksRepresent}
-use Rattle.lock_word.specs.Read.{read-word}
+use Rattle.lock_word.specs.{Read.read-word, Depth.depth-limit}
 use Rattle.lock_rules.specs.declared.ThreadState.{ThreadState}
 use Rattle.lock_rules.specs.declared.ThreadState.the-variants.{Idle}
 use Rattle.lock_rules.proofs.Each.{each-chain}
@@ -19,7 +19,6 @@ use Rattle.lock_rules.proofs.Tables.{ListTable, seen-idle}
 use Rattle.lock_rules.proofs.ListSound.{StateFine, WordFine, InTable, SoundTable}
 use Rattle.chains.specs.declared.named.Chain.{Chain}
 use Rattle.lock_table.specs.Limits.{thread-limit, object-limit}
-use Rattle.lock_word.specs.Depth.{depth-limit}
 use Rattle.lock_table.specs.Record.{no-thread, with-word, with-monitor}
 use Rattle.lock_table.specs.Access.{thread-at, object-at, next-of, phase-number-at}
 use Rattle.lock_table.specs.Parked.{thread-chain, first-in, chain-first}
@@ -32,11 +31,9 @@ use Rattle.lock_soundness.specs.Sound.{sound-of}
 use Rattle.sound_records.proofs.Reading.{chain-kinds, UnheldFits}
 use Rattle.lock_soundness.proofs.Reading.{threads-in-chain, Sound, sound-reads}
 use Rattle.lock_records.proofs.Naming.{chain-number, by-chain, one-chain, idle-or-busy}
-use Rattle.lock_records.proofs.ReadBack.{state-back}
+use Rattle.lock_records.proofs.{ReadBack.state-back, Depths.DepthsFit, EveryNumber.counted-at}
 use Rattle.lock_records.proofs.Words.{seen-in, word-back, no-word-fine}
-use Rattle.lock_records.proofs.Depths.{DepthsFit}
 use Rattle.lock_records.proofs.EveryNumber.{thread-read, thread-where, object-where, written-at, no-next-at, chain-at, members-at, parked-at}
-use Rattle.lock_records.proofs.EveryNumber.{counted-at}
 
 -- the table with lists that a table is read as
 abbrev pub object-read : Table → ℕ → ListObject

@@ -3,16 +3,14 @@ use Prim.Native.Nat.{ℕ}
 use mathlib.Core.Path.{_≡_, refl, sym, ap, _∙_}
 use native.Mathlib.Omega.{arith}
 use Rattle.lock_word.specs.Read.{read-word, read-flat}
-use Rattle.lock_word.specs.Write.{InRange}
+use Rattle.lock_word.specs.{Write.InRange, Meaning.seen-word}
 use Rattle.lock_word.specs.declared.reading.LockWord.the-variants.{Free, Flat, Anonymous, Reserved, Fat}
 use Rattle.lock_word.specs.declared.reading.Decoded.{Decoded}
 use Rattle.lock_word.specs.declared.reading.Decoded.the-variants.{Valid, Invalid}
 use Rattle.lock_word.proofs.RoundTrip.{word-of-meaning, meaning-in-range}
 use Rattle.lock_word.specs.declared.meaning.WordSeen.{WordSeen}
 use Rattle.lock_word.specs.declared.meaning.WordSeen.the-variants.{Free as SeenFree, Fat as SeenFat}
-use Rattle.lock_rules.proofs.Each.{each-word}
-use Rattle.lock_rules.proofs.ListSound.{WordFine}
-use Rattle.lock_word.specs.Meaning.{seen-word}
+use Rattle.lock_rules.proofs.{Each.each-word, ListSound.WordFine}
 use Rattle.lock_records.proofs.Written.{lock-word, word-written}
 use Rattle.sound_records.proofs.Reading.{WordFits}
 

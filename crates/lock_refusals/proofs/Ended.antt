@@ -13,18 +13,14 @@ use Rattle.lock_rules.specs.declared.event.Refusal.the-variants.{NoSuchOperatio
 use Rattle.lock_rules.specs.declared.Action.the-variants.{Unruled, Do}
 use Rattle.lock_table.specs.Access.{thread-at, object-at}
 use Rattle.lock_table.specs.declared.record.{ThreadRecord.ThreadRecord, Table.Table}
-use Rattle.lock_perform.specs.Sight.{sight-at}
-use Rattle.lock_table.proofs.Records.{object-unchanged}
-use Rattle.lock_perform.specs.Perform.{stays}
+use Rattle.lock_perform.specs.{Sight.sight-at, Perform.stays}
+use Rattle.lock_table.proofs.Records.{object-unchanged, thread-unchanged}
 use Rattle.lock_perform.proofs.Performed.{perform-of}
 use Rattle.lock_records.proofs.Settled.{settled-performs}
-use Rattle.lock_engine.specs.Outcome.{reply-returned}
-use Rattle.lock_engine.specs.Turn.{action-turn}
-use Rattle.lock_engine.specs.Handle.{outcome-of}
+use Rattle.lock_engine.specs.{Outcome.reply-returned, Turn.action-turn, Handle.outcome-of}
 use Rattle.lock_engine.specs.declared.outcome.Reply.the-variants.{Answered}
 use Rattle.lock_engine.specs.declared.outcome.Outcome.{Outcome}
 use Rattle.lock_engine.proofs.Refused.{refusing}
-use Rattle.lock_table.proofs.Records.{thread-unchanged}
 use Rattle.lock_refusals.specs.Demand.{returned, refused-number, Leaves}
 use Rattle.lock_refusals.proofs.RuleEnds.{EndsAs, Ends}
 use Rattle.lock_refusals.proofs.IdleAgain.{idle-again-performed}

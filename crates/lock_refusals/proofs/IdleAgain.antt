@@ -7,11 +7,8 @@ use Rattle.lock_table.specs.Record.{idle}
 use Rattle.lock_table.specs.Access.{thread-at, set-thread, object-at, set-object}
 use Rattle.lock_table.specs.declared.record.Table.{Table}
 use Rattle.lock_table.proofs.Records.{object-unchanged, object-beside-thread}
-use Rattle.lock_perform.specs.State.{write-activity}
-use Rattle.lock_perform.specs.Sight.{sight-at}
-use Rattle.lock_perform.specs.Perform.{word-after}
+use Rattle.lock_perform.specs.{State.write-activity, Sight.sight-at, Perform.word-after, Moving.CarriedOut}
 use Rattle.lock_perform.proofs.Performed.{write-back, perform-of}
-use Rattle.lock_perform.specs.Moving.{CarriedOut}
 use Rattle.lock_perform.proofs.Staying.{carry-out-stay}
 use Rattle.lock_refusals.proofs.RuleEnds.{idle-again}
 

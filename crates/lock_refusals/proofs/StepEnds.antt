@@ -22,12 +22,9 @@ use Rattle.lock_word.specs.declared.meaning.WordSeen.{WordSeen}
 use Rattle.lock_rules.specs.declared.Doing.the-variants.{EnterLook, EnterStore, EnterCancel, EnterGoIn, EnterCheck, EnterTry, ExitLook}
 use Rattle.lock_rules.specs.declared.Doing.the-variants.{ExitStore, ExitGoIn, ExitTest, ExitTell, ExitLeave, WaitLook, WaitCancel, WaitGoIn}
 use Rattle.lock_rules.specs.declared.Doing.the-variants.{WaitInflate, WaitGiveUp, WaitResume, NotifyLook, NotifyAllLook}
-use Rattle.lock_table.specs.Operation.{operation-number}
-use Rattle.lock_table.specs.Phase.{phase-number}
+use Rattle.lock_table.specs.{Operation.operation-number, Phase.phase-number, Ownership.ownership-in}
 use Rattle.lock_table.specs.declared.record.{Monitor.Monitor, ObjectRecord.ObjectRecord, Table.Table}
-use Rattle.lock_perform.specs.State.{doing-activity}
-use Rattle.lock_perform.specs.Sight.{sight-at}
-use Rattle.lock_table.specs.Ownership.{ownership-in}
+use Rattle.lock_perform.specs.{State.doing-activity, Sight.sight-at}
 use Rattle.lock_refusals.specs.Refusals.{Row, row, first-applies, not-the-owner, too-deep, unruled}
 use Rattle.lock_refusals.proofs.RuleEnds.{Ends, Ordinary, ordinary-ends, either-ordinary, owner-ends, go-in-ends}
 

@@ -11,9 +11,8 @@ use Rattle.laws.proofs.Choice.{split, false≢true}
 use Rattle.lock_word.specs.Read.{read-word}
 use Rattle.lock_word.specs.declared.reading.Decoded.{Decoded}
 use Rattle.lock_word.specs.declared.reading.Decoded.the-variants.{Valid, Invalid}
-use Rattle.lock_rules.specs.Numbers.{refusal-number}
+use Rattle.lock_rules.specs.{Numbers.refusal-number, Rules.decide}
 use Rattle.lock_rules.specs.Gate.{is-idle, is-parked, gate-rows, gate, event-thread}
-use Rattle.lock_rules.specs.Rules.{decide}
 use Rattle.lock_rules.specs.declared.event.{Event.Event, ThreadStatus.ThreadStatus, Gate.Gate}
 use Rattle.lock_rules.specs.declared.event.Event.the-variants.{Begin, Step}
 use Rattle.lock_rules.specs.declared.event.ThreadStatus.the-variants.{Ready}
@@ -24,11 +23,8 @@ use Rattle.lock_rules.specs.declared.ThreadState.the-variants.{Idle, Running, Q
 use Rattle.lock_rules.proofs.Gate.{Passed, by-gate}
 use Rattle.lock_rules.proofs.TableKinds.{status-of}
 use Rattle.lock_table.specs.Limits.{thread-limit, object-limit}
-use Rattle.lock_table.specs.Operation.{operation-number}
-use Rattle.lock_table.specs.Phase.{phase-number}
+use Rattle.lock_table.specs.{Operation.operation-number, Phase.phase-number, WellTyped.WellTyped, Record.activity}
 use Rattle.lock_table.specs.Access.{thread-at, object-at}
-use Rattle.lock_table.specs.WellTyped.{WellTyped}
-use Rattle.lock_table.specs.Record.{activity}
 use Rattle.lock_table.specs.declared.record.{ThreadRecord.ThreadRecord, Activity.Activity, Table.Table}
 use Rattle.lock_table.specs.Ownership.{ownership-in, ownership-at}
 use Rattle.lock_perform.specs.State.{doing-activity, write-activity, read-thread}

@@ -13,9 +13,8 @@ use Rattle.lock_table.specs.declared.record.Table.{Table}
 use Rattle.lock_rules.specs.Numbers.{refusal-number, returned-of}
 use Rattle.lock_rules.specs.Gate.{GateRow, gate-rows, event-thread}
 use Rattle.lock_rules.specs.declared.event.Event.{Event}
-use Rattle.lock_engine.specs.Outcome.{reply-returned}
+use Rattle.lock_engine.specs.{Outcome.reply-returned, Handle.handle}
 use Rattle.lock_engine.proofs.After.{refusal-high}
-use Rattle.lock_engine.specs.Handle.{handle}
 use Rattle.lock_gate.specs.Status.{thread-status}
 use Rattle.lock_soundness.specs.Sound.{sound-of}
 use Rattle.lock_table.specs.Access.{thread-at}

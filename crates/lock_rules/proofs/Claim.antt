@@ -7,14 +7,12 @@ use mathlib.Core.List.{List}
 use lib.Dec.{T, eqb}
 use Rattle.laws.specs.Choice.{pick}
 use Rattle.laws.proofs.Choice.{Equal, equal}
-use Rattle.lock_rules.specs.Numbers.{phase-of-doing}
+use Rattle.lock_rules.specs.{Numbers.phase-of-doing, Events.woken, PlainMonitor.PlainMonitor}
 use Rattle.lock_rules.proofs.Each.{each-doing, each-state}
 use Rattle.lock_rules.proofs.Status.{is-woken, parked-for-entry, unparked, unfinished}
 use Rattle.lock_rules.specs.declared.{Doing.Doing, ThreadState.ThreadState}
 use Rattle.lock_rules.specs.declared.ThreadState.the-variants.{Idle}
 use Rattle.lock_rules.specs.declared.event.Event.{Event}
-use Rattle.lock_rules.specs.Events.{woken}
-use Rattle.lock_rules.specs.PlainMonitor.{PlainMonitor}
 use Rattle.lock_rules.specs.Feed.{Plain, feed-all, blank, AllEndRight}
 use Rattle.lock_rules.proofs.Objects.{ListObject, object-owner, owned-depth}
 use Rattle.lock_rules.proofs.Tables.{ListTable, states-at, final, shown, fresh, seen-here}

@@ -7,12 +7,10 @@ use mathlib.Core.List.{[]}
 use lib.Dec.{T}
 use lib.ListN.{length}
 use borrow.Author.Tests.{eq-eqb, ne-eqb, lt-ltb, le-ltb}
-use Rattle.laws.specs.Choice.{either}
-use Rattle.laws.specs.Count.{count}
+use Rattle.laws.specs.{Choice.either, Count.count}
 use Rattle.laws.proofs.Count.{count-none}
 use Rattle.lock_word.specs.Depth.{depth-limit}
-use Rattle.lock_rules.specs.Operations.{Operation}
-use Rattle.lock_rules.specs.Operations.{Enter, Exit, Wait, Notify, NotifyAll}
+use Rattle.lock_rules.specs.Operations.{Operation, Enter, Exit, Wait, Notify, NotifyAll}
 use Rattle.lock_rules.specs.declared.Answer.the-variants.{Finished, NotOwner, TooDeep}
 use Rattle.lock_rules.specs.PlainMonitor.{PlainMonitor, owned-by, unaltered, finished, give-up, resume, wake-first, above-zero, wake-all}
 use Rattle.lock_rules.specs.PlainMonitor.{commit}

@@ -13,8 +13,7 @@ use Rattle.chains.specs.declared.named.Chain.{Chain}
 use Rattle.lock_word.specs.Depth.{depth-limit}
 use Rattle.lock_rules.specs.Actions.{keep-object, inflate, become-holder, raise-flag}
 use Rattle.lock_rules.specs.Rules.{onward, go-in-again, go-in, enter-check, enter-try}
-use Rattle.lock_rules.specs.Operations.{Operation}
-use Rattle.lock_rules.specs.Operations.{Enter, Exit, Wait}
+use Rattle.lock_rules.specs.Operations.{Operation, Enter, Exit, Wait}
 use Rattle.lock_rules.specs.declared.{OnwardStep.OnwardStep, Doing.Doing}
 use Rattle.lock_rules.specs.declared.OnwardStep.the-variants.{ToCheck, ToTell, ToInflate}
 use Rattle.lock_rules.specs.declared.Doing.the-variants.{EnterGoIn, EnterCheck, EnterTry, ExitGoIn, WaitGoIn}
@@ -24,11 +23,10 @@ use Rattle.lock_word.specs.declared.meaning.WordSeen.the-variants.{Free, Anonym
 use Rattle.lock_rules.specs.declared.ChainWork.the-variants.{Join}
 use Rattle.lock_rules.specs.declared.Answer.the-variants.{GoneOn, Finished, Parked, TooDeep}
 use Rattle.lock_rules.specs.PlainMonitor.{owned-by, finished, commit}
-use Rattle.lock_rules.proofs.Each.{each-word}
+use Rattle.lock_rules.proofs.{Each.each-word, Tables.fresh}
 use Rattle.lock_rules.proofs.Commits.{commit-enter, commit-enter-again, commit-too-deep}
 use Rattle.lock_rules.proofs.Objects.{ListObject, with-word, with-flag, with-holder, with-entry, sight-of, object-owner}
 use Rattle.lock_rules.proofs.Perform.{enter-queue, count-join}
-use Rattle.lock_rules.proofs.Tables.{fresh}
 use Rattle.lock_rules.proofs.Invariant.{holding, nothing-saved, phase-row, leaving?, InChains, Unreserved, FlatOf, NotOwn, ReliesOn, Relies}
 use Rattle.lock_rules.proofs.Invariant.{Logged, woken?, SavedIs, MonitorOk, FlagOk, Invariant}
 use Rattle.lock_rules.proofs.OtherThreads.{others-flag, others-taken, others-joined}

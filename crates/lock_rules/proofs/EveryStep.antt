@@ -2,8 +2,7 @@
 use mathlib.Core.Path.{_≡_, refl}
 use Rattle.laws.proofs.Choice.{by-equal}
 use Rattle.lock_rules.specs.Rules.{holder-only, enter-check, enter-try, exit-tell, exit-leave, wait-inflate, wait-give-up, wait-resume, decide}
-use Rattle.lock_rules.specs.Operations.{Operation}
-use Rattle.lock_rules.specs.Operations.{Enter, Exit, Wait}
+use Rattle.lock_rules.specs.Operations.{Operation, Enter, Exit, Wait}
 use Rattle.lock_rules.specs.declared.{Doing.Doing, Action.Action}
 use Rattle.lock_rules.specs.declared.Doing.the-variants.{EnterLook, EnterStore, EnterCancel, EnterGoIn, EnterCheck, EnterTry, ExitLook}
 use Rattle.lock_rules.specs.declared.Doing.the-variants.{ExitStore}

@@ -6,17 +6,14 @@ use mathlib.Core.Bool.{Bool, true, false, true≢false}
 use mathlib.Core.List.{List, [], _∷_, cons≢nil}
 use native.Mathlib.Omega.{arith}
 use lib.Dec.{T}
-use Rattle.laws.specs.Update.{update}
-use Rattle.laws.specs.Count.{count}
-use Rattle.laws.proofs.Choice.{by-equal}
-use Rattle.laws.proofs.Update.{update-other}
+use Rattle.laws.specs.{Update.update, Count.count}
+use Rattle.laws.proofs.{Choice.by-equal, Update.update-other}
 use Rattle.laws.proofs.Count.{count-none, count-same}
 use Rattle.chains.specs.declared.named.Chain.{Chain}
-use Rattle.lock_rules.specs.Actions.{go-on}
+use Rattle.lock_rules.specs.{Actions.go-on, Operations.Exit}
 use Rattle.lock_rules.specs.Rules.{onward, exit-test, exit-tell, exit-leave}
-use Rattle.lock_rules.proofs.Each.{each-word}
+use Rattle.lock_rules.proofs.{Each.each-word, Reliances.is-queued, Membership.placed-unmoved, OtherThreads.others-moved}
 use Rattle.lock_rules.proofs.Changes.{handed, moved}
-use Rattle.lock_rules.specs.Operations.{Exit}
 use Rattle.lock_rules.specs.declared.OnwardStep.{OnwardStep}
 use Rattle.lock_rules.specs.declared.OnwardStep.the-variants.{ToCheck, ToTell, ToInflate, ToResume}
 use Rattle.lock_rules.specs.declared.Doing.the-variants.{ExitGoIn, ExitTest, ExitTell, ExitLeave}
@@ -28,9 +25,6 @@ use Rattle.lock_rules.specs.declared.Answer.the-variants.{GoneOn, Finish
 use Rattle.lock_rules.proofs.Objects.{ListObject, with-word, with-flag, with-entry, with-contention, sight-of}
 use Rattle.lock_rules.proofs.Perform.{left, count-taken, first-of, changed-states, handed-states, moved-object, moved-states}
 use Rattle.lock_rules.proofs.Invariant.{phase-row, leaving?, in-entry, FlagOk, Told, Unstranded}
-use Rattle.lock_rules.proofs.Reliances.{is-queued}
-use Rattle.lock_rules.proofs.Membership.{placed-unmoved}
-use Rattle.lock_rules.proofs.OtherThreads.{others-moved}
 use Rattle.lock_rules.proofs.SharedFacts.{unstranded-empty, unstranded-joined, flag-down, owner-shallow, first-queued}
 use Rattle.lock_rules.proofs.SharedFacts.{idle-changed, same-monitor}
 use Rattle.lock_rules.proofs.Refinement.{Actor, Stepping, Right, nothing-committed, refine, quiet-refines}

@@ -7,33 +7,26 @@ use mathlib.Core.Bool.{Bool, true, false}
 use mathlib.Core.List.{List, [], _∷_}
 use native.Mathlib.Omega.{arith}
 use lib.Dec.{T, eqb}
-use Rattle.laws.specs.Choice.{pick}
-use Rattle.laws.specs.Update.{update}
+use Rattle.laws.specs.{Choice.pick, Update.update}
 use Rattle.laws.proofs.Choice.{equal?, Equal, equal}
 use Rattle.laws.proofs.Update.{update-same, update-other, update-map}
 use Rattle.laws.proofs.Count.{count-none}
-use Rattle.lock_rules.specs.Rules.{begun}
-use Rattle.lock_rules.specs.Operations.{Operation}
-use Rattle.lock_rules.specs.Operations.{Known}
+use Rattle.lock_rules.specs.{Rules.begun, Events.Refused}
+use Rattle.lock_rules.specs.Operations.{Operation, Known}
 use Rattle.lock_rules.specs.declared.{Suspension.Suspension, Doing.Doing, ThreadState.ThreadState, Answer.Answer}
 use Rattle.lock_rules.specs.declared.ThreadState.the-variants.{Idle, Running}
 use Rattle.lock_rules.specs.Numbers.{first-refusal, refusal-number}
 use Rattle.lock_rules.specs.declared.event.{Refusal.Refusal, Event.Event}
 use Rattle.lock_rules.specs.declared.event.Event.the-variants.{Begin, Step}
-use Rattle.lock_rules.specs.Events.{Refused}
 use Rattle.lock_rules.specs.PlainMonitor.{PlainMonitor, Committed, unowned, commit}
 use Rattle.lock_rules.specs.Feed.{OperationLog, Plain, new-log, log-after, fed-step, fed-begin, feed, feed-all, blank, EndsRight, AllEndRight}
-use Rattle.lock_rules.proofs.Each.{each-operation}
+use Rattle.lock_rules.proofs.{Each.each-operation, Perform.Performed, TableKinds.by-event, OtherThreads.with-own}
+use Rattle.lock_rules.proofs.{SharedFacts.unstranded-moved, EveryStep.step-refines}
 use Rattle.lock_rules.proofs.Objects.{ListObject, empty}
-use Rattle.lock_rules.proofs.Perform.{Performed}
-use Rattle.lock_rules.proofs.TableKinds.{by-event}
 use Rattle.lock_rules.proofs.Tables.{ListThread, ListTable, seen-from, states-at, put-back, perform-at, begin-at, list-kind, turn, final}
 use Rattle.lock_rules.proofs.Tables.{shown, fresh-object, fresh, seen-idle, seen-here, seen-elsewhere}
 use Rattle.lock_rules.proofs.Invariant.{phase-row, leaving?, Ghost, ThreadOk, ObjectOk, Invariant, monitor-of, Refines}
-use Rattle.lock_rules.proofs.OtherThreads.{with-own}
-use Rattle.lock_rules.proofs.SharedFacts.{unstranded-moved}
 use Rattle.lock_rules.proofs.Refinement.{Actor, Stepping}
-use Rattle.lock_rules.proofs.EveryStep.{step-refines}
 
 -- what the plain monitors know of the threads at object o
 abbrev pub ghost-at : Plain → ℕ → Ghost

@@ -8,8 +8,7 @@ use mathlib.Core.List.{List}
 use native.Mathlib.Omega.{arith}
 use lib.Dec.{eqb}
 use lib.ListN.{length}
-use Rattle.laws.specs.Choice.{pick}
-use Rattle.laws.specs.Count.{count}
+use Rattle.laws.specs.{Choice.pick, Count.count}
 use Rattle.laws.proofs.Choice.{equal?, Equal, equal}
 use Rattle.laws.proofs.Count.{distinct-within}
 use Rattle.chains.specs.declared.named.Chain.{Chain}

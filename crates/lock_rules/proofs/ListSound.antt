@@ -3,8 +3,7 @@ use Prim.Native.Nat.{ℕ, _≤_, _<_}
 use mathlib.Core.Path.{_≡_}
 use mathlib.Core.Logic.{_⊎_}
 use mathlib.Core.List.{[]}
-use Rattle.lock_word.specs.Depth.{depth-limit}
-use Rattle.lock_word.specs.Layout.{count-limit}
+use Rattle.lock_word.specs.{Depth.depth-limit, Layout.count-limit}
 use Rattle.lock_rules.specs.Rules.{onward}
 use Rattle.lock_rules.specs.declared.{Suspension.Suspension, Doing.Doing, ThreadState.ThreadState}
 use Rattle.lock_rules.specs.declared.ThreadState.the-variants.{Idle}

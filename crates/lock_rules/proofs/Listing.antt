@@ -3,8 +3,7 @@ use Prim.Native.Nat.{ℕ, _+_, _*_}
 use mathlib.Core.Path.{_≡_, refl}
 use mathlib.Core.Bool.{false}
 use mathlib.Core.List.{List, [], _∷_}
-use Rattle.laws.specs.Update.{update}
-use Rattle.laws.specs.Count.{count}
+use Rattle.laws.specs.{Update.update, Count.count}
 use Rattle.lock_rules.specs.Numbers.{asked-for, phase-of}
 use Rattle.lock_rules.specs.Rules.{enter-look, exit-owned, go-in-again, go-in, enter-check, enter-try, exit-test, exit-tell, exit-leave, decide}
 use Rattle.lock_word.specs.declared.meaning.WordSeen.{WordSeen}

@@ -8,11 +8,9 @@ use native.Mathlib.Omega.{arith}
 use lib.Dec.{eqb}
 use lib.ListN.{length}
 use Rattle.laws.specs.Choice.{pick, both}
-use Rattle.laws.specs.Update.{update}
-use Rattle.laws.specs.Count.{count}
+use Rattle.laws.specs.{Update.update, Count.count}
 use Rattle.laws.proofs.Choice.{Equal, equal, by-equal, by-below}
-use Rattle.laws.proofs.Update.{update-same}
-use Rattle.laws.proofs.Count.{count-none}
+use Rattle.laws.proofs.{Update.update-same, Count.count-none}
 use Rattle.lock_word.specs.Layout.{count-limit}
 use Rattle.lock_word.specs.Meaning.{owner-of, depth-of}
 use Rattle.lock_rules.specs.Actions.{let-go}
@@ -21,8 +19,7 @@ use Rattle.lock_rules.proofs.Changes.{seen-after}
 use Rattle.lock_rules.specs.Operations.{Enter, Exit, Wait}
 use Rattle.lock_rules.specs.declared.{Doing.Doing, WordChange.WordChange}
 use Rattle.lock_rules.specs.declared.Doing.the-variants.{EnterLook, EnterStore, EnterCancel, EnterGoIn, ExitLook, ExitStore, ExitTest}
-use Rattle.lock_rules.specs.declared.Doing.the-variants.{ExitLeave}
-use Rattle.lock_rules.specs.declared.Doing.the-variants.{WaitLook, WaitCancel, WaitGoIn, WaitGiveUp}
+use Rattle.lock_rules.specs.declared.Doing.the-variants.{ExitLeave, WaitLook, WaitCancel, WaitGoIn, WaitGiveUp}
 use Rattle.lock_rules.specs.declared.ThreadState.the-variants.{Running}
 use Rattle.lock_word.specs.declared.meaning.WordSeen.{WordSeen}
 use Rattle.lock_word.specs.declared.meaning.WordSeen.the-variants.{Free, Anonymous, Fat, Flat, Reserved}

@@ -8,16 +8,14 @@ use Rattle.laws.specs.Count.{count}
 use Rattle.laws.proofs.Choice.{equal?, either-way}
 use Rattle.laws.proofs.Count.{count-none, count-same, count-other}
 use Rattle.chains.specs.declared.named.Chain.{Chain}
-use Rattle.lock_rules.proofs.Changes.{sent-back}
+use Rattle.lock_rules.proofs.{Changes.sent-back, Each.each-state, Invariant.Placed}
 use Rattle.lock_rules.specs.declared.{Suspension.Suspension, OnwardStep.OnwardStep, ThreadState.ThreadState, Taken.Taken, ChainWork.ChainWork}
 use Rattle.lock_rules.specs.declared.ThreadState.the-variants.{Queued, Contending, Waiting}
 use Rattle.lock_rules.specs.declared.Taken.the-variants.{First}
 use Rattle.lock_rules.specs.declared.ChainWork.the-variants.{Stay, Join, JoinAndHand, Hand, Move, SendBack}
-use Rattle.lock_rules.proofs.Each.{each-state}
 use Rattle.lock_rules.proofs.Objects.{ListObject, chain-of}
 use Rattle.lock_rules.proofs.Perform.{count-entered-all, count-join, taken, left, count-taken, first-of, changed-states, joined-object}
 use Rattle.lock_rules.proofs.Perform.{handed-object, handed-states, moved-object, moved-states, states-after, object-after}
-use Rattle.lock_rules.proofs.Invariant.{Placed}
 use Rattle.lock_rules.proofs.Reliances.{is-queued, is-contending, is-waiting}
 
 abbrev pub Members : ℕ → (ℕ → ThreadState) → ListObject → Type 0

@@ -8,17 +8,15 @@ use native.Mathlib.Omega.{arith}
 use lib.Dec.{eqb}
 use lib.ListN.{length}
 use Rattle.laws.specs.Choice.{pick, either}
-use Rattle.laws.specs.Update.{update}
-use Rattle.laws.specs.Count.{count}
+use Rattle.laws.specs.{Update.update, Count.count}
 use Rattle.laws.proofs.Choice.{equal?, Equal, equal}
 use Rattle.laws.proofs.Update.{update-same, update-other}
 use Rattle.laws.proofs.Count.{count-none, count-same, count-other}
 use Rattle.chains.specs.declared.named.Chain.{Chain}
 use Rattle.lock_rules.specs.Actions.{keep-object, finish}
 use Rattle.lock_rules.specs.Rules.{owner-seen, notify-owned, notify-all-owned, owner-only}
-use Rattle.lock_rules.proofs.Changes.{moved}
-use Rattle.lock_rules.specs.Operations.{Operation}
-use Rattle.lock_rules.specs.Operations.{Notify, NotifyAll}
+use Rattle.lock_rules.proofs.{Changes.moved, Reliances.is-waiting, Membership.placed-unmoved}
+use Rattle.lock_rules.specs.Operations.{Operation, Notify, NotifyAll}
 use Rattle.lock_rules.specs.declared.{Doing.Doing, Taken.Taken}
 use Rattle.lock_rules.specs.declared.Doing.the-variants.{NotifyLook, NotifyAllLook}
 use Rattle.lock_rules.specs.declared.ThreadState.the-variants.{Idle, Waiting}
@@ -33,8 +31,6 @@ use Rattle.lock_rules.proofs.Commits.{commit-notify, commit-notify-all,
 use Rattle.lock_rules.proofs.Objects.{ListObject, with-word, with-waiting, sight-of, object-owner}
 use Rattle.lock_rules.proofs.Perform.{taken, count-taken, moved-object, moved-states}
 use Rattle.lock_rules.proofs.Invariant.{outside, Seated, IsFat, ThreadOk, Invariant, monitor-of}
-use Rattle.lock_rules.proofs.Reliances.{is-waiting}
-use Rattle.lock_rules.proofs.Membership.{placed-unmoved}
 use Rattle.lock_rules.proofs.OtherThreads.{others-ghost, others-moved}
 use Rattle.lock_rules.proofs.SharedFacts.{fat-owned, first-commit, none, idle-changed}
 use Rattle.lock_rules.proofs.Refinement.{known, plain-at, Actor, Stepping, Right, refine}

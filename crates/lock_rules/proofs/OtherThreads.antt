@@ -5,25 +5,21 @@ use mathlib.Core.Logic.{_≢_, _⊎_, inl, inr}
 use mathlib.Core.Bool.{Bool, true, false}
 use mathlib.Core.List.{[], _∷_}
 use Rattle.laws.specs.Choice.{both, either}
-use Rattle.laws.specs.Update.{update}
-use Rattle.laws.specs.Count.{count}
+use Rattle.laws.specs.{Update.update, Count.count}
 use Rattle.laws.proofs.Choice.{equal?, either-way}
 use Rattle.laws.proofs.Update.{update-same, update-other}
 use Rattle.laws.proofs.Count.{count-none, count-same, count-other}
 use Rattle.chains.specs.declared.named.Chain.{Chain}
-use Rattle.lock_rules.specs.Rules.{onward}
+use Rattle.lock_rules.specs.{Rules.onward, PlainMonitor.above-zero, Feed.OperationLog}
 use Rattle.lock_rules.proofs.Each.{each-state, each-carried, each-chain}
-use Rattle.lock_rules.proofs.Changes.{sent-back}
+use Rattle.lock_rules.proofs.{Changes.sent-back, Perform.moved-states}
 use Rattle.lock_rules.specs.declared.{Suspension.Suspension, OnwardStep.OnwardStep, ThreadState.ThreadState, Taken.Taken}
 use Rattle.lock_rules.specs.declared.ThreadState.the-variants.{Idle, Running, Queued, Contending, Waiting}
 use Rattle.lock_rules.specs.declared.Taken.the-variants.{First, All}
 use Rattle.lock_word.specs.declared.meaning.WordSeen.{WordSeen}
 use Rattle.lock_word.specs.declared.meaning.WordSeen.the-variants.{Fat, Reserved}
-use Rattle.lock_rules.specs.PlainMonitor.{above-zero}
-use Rattle.lock_rules.specs.Feed.{OperationLog}
 use Rattle.lock_rules.proofs.Objects.{ListObject, chain-of, with-word, with-flag, with-holder, with-depth}
 use Rattle.lock_rules.proofs.Perform.{taken, first-of, changed-states, joined-object, handed-object, handed-states, moved-object}
-use Rattle.lock_rules.proofs.Perform.{moved-states}
 use Rattle.lock_rules.proofs.Invariant.{seat, Seated, Placed, Unreserved, FlatOf, Relies, Ghost, ThreadOk}
 use Rattle.lock_rules.proofs.Reliances.{seated-depth, seated-handed, not-own-unreserved, KeepsReliance, relies-flag, relies-handed}
 use Rattle.lock_rules.proofs.Reliances.{relies-word, relies-inflated, relies-sent-back, sent-back-row}

@@ -8,7 +8,7 @@ use lib.Dec.{T}
 use Rattle.laws.specs.Count.{count}
 use Rattle.laws.proofs.Count.{count-none}
 use Rattle.lock_word.specs.Meaning.{owner-of}
-use Rattle.lock_rules.proofs.Each.{each-state}
+use Rattle.lock_rules.proofs.{Each.each-state, SharedFacts.fat-owner}
 use Rattle.lock_rules.proofs.Status.{parked-for-entry, unparked, unfinished}
 use Rattle.lock_rules.specs.declared.ThreadState.{ThreadState}
 use Rattle.lock_rules.specs.declared.ThreadState.the-variants.{Idle, Running, Queued, Contending, Waiting}
@@ -16,7 +16,6 @@ use Rattle.lock_word.specs.declared.meaning.WordSeen.{WordSeen}
 use Rattle.lock_word.specs.declared.meaning.WordSeen.the-variants.{Free, Anonymous, Fat, Flat, Reserved}
 use Rattle.lock_rules.proofs.Objects.{ListObject, object-owner}
 use Rattle.lock_rules.proofs.Invariant.{seat, telling?, Seated, NotOwn, Ghost, ThreadOk, MonitorOk, Told, Unstranded, Invariant}
-use Rattle.lock_rules.proofs.SharedFacts.{fat-owner}
 
 telling-runs : (state : ThreadState) → T (telling? (seat state)) → T (unparked state) × T (unfinished state)
 telling-runs = each-state _ (search)

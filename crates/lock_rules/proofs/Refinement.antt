@@ -5,8 +5,7 @@ use mathlib.Core.Logic.{_≢_}
 use mathlib.Core.Bool.{Bool, false}
 use mathlib.Core.List.{[]}
 use lib.Dec.{T}
-use Rattle.laws.specs.Choice.{pick}
-use Rattle.laws.specs.Update.{update}
+use Rattle.laws.specs.{Choice.pick, Update.update}
 use Rattle.laws.proofs.Update.{update-other}
 use Rattle.lock_rules.specs.Operations.{Operation}
 use Rattle.lock_rules.specs.declared.{Suspension.Suspension, Doing.Doing, ThreadState.ThreadState, Answer.Answer, Action.Action}
@@ -15,9 +14,8 @@ use Rattle.lock_rules.specs.declared.Answer.the-variants.{GoneOn}
 use Rattle.lock_rules.specs.PlainMonitor.{PlainMonitor, Committed, unowned, commit}
 use Rattle.lock_rules.specs.Feed.{log-after, EndsRight}
 use Rattle.lock_rules.proofs.Objects.{ListObject, empty}
-use Rattle.lock_rules.proofs.Perform.{perform}
+use Rattle.lock_rules.proofs.{Perform.perform, Invariant.Refines}
 use Rattle.lock_rules.proofs.Invariant.{outside, phase-row, ReliesOn, Ghost, ThreadOk, MonitorOk, FlagOk, Unstranded, Invariant, monitor-of}
-use Rattle.lock_rules.proofs.Invariant.{Refines}
 use Rattle.lock_rules.proofs.OtherThreads.{Others, with-own}
 
 -- the thread that steps, the states of all threads as its object sees them, and what the plain monitors know of them

@@ -6,11 +6,8 @@ use mathlib.Core.Bool.{Bool, true, false}
 use mathlib.Core.List.{List, [], _∷_}
 use native.Mathlib.Omega.{arith}
 use lib.Dec.{T}
-use Rattle.laws.specs.Choice.{pick}
-use Rattle.laws.specs.Update.{update}
-use Rattle.laws.specs.Count.{count}
-use Rattle.laws.proofs.Choice.{by-equal}
-use Rattle.laws.proofs.Count.{count-none}
+use Rattle.laws.specs.{Choice.pick, Update.update, Count.count}
+use Rattle.laws.proofs.{Choice.by-equal, Count.count-none}
 use Rattle.chains.specs.declared.named.Chain.{Chain}
 use Rattle.lock_word.specs.Depth.{depth-limit}
 use Rattle.lock_rules.specs.Actions.{keep-object, go-on, finish-word, finish-depth, inflate}
@@ -27,16 +24,11 @@ use Rattle.lock_rules.specs.declared.Answer.the-variants.{GoneOn, Finish
 use Rattle.lock_rules.specs.PlainMonitor.{PlainMonitor, Committed, unaltered, finished, commit}
 use Rattle.lock_rules.specs.Feed.{OperationLog, log-after, EndsRight}
 use Rattle.lock_rules.proofs.Commits.{commit-not-owner, owner-operation}
-use Rattle.lock_rules.proofs.Objects.{with-word, with-depth, with-contention, with-waiting, ListObject, empty, sight-of}
-use Rattle.lock_rules.proofs.Objects.{object-owner}
+use Rattle.lock_rules.proofs.Objects.{with-word, with-depth, with-contention, with-waiting, ListObject, empty, sight-of, object-owner}
 use Rattle.lock_rules.proofs.Perform.{first-of, taken, left, enter-queue-all, count-entered-all, handed-to, handed-object, handed-states}
-use Rattle.lock_rules.proofs.Perform.{moved-states}
-use Rattle.lock_rules.proofs.Tables.{fresh}
+use Rattle.lock_rules.proofs.{Perform.moved-states, Tables.fresh, Reliances.KeepsReliance, Membership.not-first}
 use Rattle.lock_rules.proofs.Invariant.{Ghost, outside, nothing-saved, phase-row, telling?, leaving?, Seated, InChains, Unreserved, FlatOf}
-use Rattle.lock_rules.proofs.Invariant.{ReliesOn}
-use Rattle.lock_rules.proofs.Invariant.{ThreadOk, MonitorOk, FlagOk, Unstranded, Invariant, monitor-of, Refines}
-use Rattle.lock_rules.proofs.Reliances.{KeepsReliance}
-use Rattle.lock_rules.proofs.Membership.{not-first}
+use Rattle.lock_rules.proofs.Invariant.{ReliesOn, ThreadOk, MonitorOk, FlagOk, Unstranded, Invariant, monitor-of, Refines}
 use Rattle.lock_rules.proofs.OtherThreads.{Others, inflated, others-word, others-depth, others-ghost, others-handed, others-inflated}
 use Rattle.lock_rules.proofs.SharedFacts.{unstranded-moved, monitor-handed, fat-owner, first-commit, idle-changed}
 use Rattle.lock_rules.proofs.SharedFacts.{first-queued, same-monitor}

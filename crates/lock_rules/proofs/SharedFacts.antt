@@ -8,9 +8,7 @@ use native.Mathlib.Omega.{arith}
 use lib.Dec.{T, eqb}
 use lib.ListN.{length}
 use borrow.Author.Tests.{eq-eqb, ne-eqb}
-use Rattle.laws.specs.Choice.{pick}
-use Rattle.laws.specs.Update.{update}
-use Rattle.laws.specs.Count.{count}
+use Rattle.laws.specs.{Choice.pick, Update.update, Count.count}
 use Rattle.laws.proofs.Choice.{equal?, Equal, equal, either-way}
 use Rattle.laws.proofs.Update.{update-same, update-other}
 use Rattle.laws.proofs.Count.{count-same}
@@ -20,12 +18,10 @@ use Rattle.lock_rules.specs.declared.ThreadState.the-variants.{Idle}
 use Rattle.lock_word.specs.declared.meaning.WordSeen.{WordSeen}
 use Rattle.lock_word.specs.declared.meaning.WordSeen.the-variants.{Free, Anonymous, Fat, Flat, Reserved}
 use Rattle.lock_rules.specs.PlainMonitor.{PlainMonitor, above-zero}
-use Rattle.lock_rules.proofs.Each.{each-word}
-use Rattle.lock_rules.proofs.Objects.{ListObject}
+use Rattle.lock_rules.proofs.{Each.each-word, Objects.ListObject, Reliances.KeepsReliance}
 use Rattle.lock_rules.proofs.Perform.{enter-queue, entered≢nil, changed-states}
 use Rattle.lock_rules.proofs.Invariant.{seat, telling?, leaving?, in-entry, in-waiting, Ghost}
 use Rattle.lock_rules.proofs.Invariant.{FlatOf, KeptWord, MonitorOk, FlagOk, Told, Unstranded, Invariant}
-use Rattle.lock_rules.proofs.Reliances.{KeepsReliance}
 
 -- what a new word owes to another thread t than the one that steps
 module _ (state : ThreadState) (thread t holder : ℕ) (n : t ≢ thread) where

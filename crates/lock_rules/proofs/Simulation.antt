@@ -4,16 +4,13 @@ use mathlib.Core.Path.{_≡_, refl, sym, ap}
 use mathlib.Core.Bool.{true}
 use mathlib.Core.List.{List, [], _∷_}
 use Rattle.laws.proofs.Choice.{false≢true}
-use Rattle.lock_rules.specs.Numbers.{asked-for}
-use Rattle.lock_rules.specs.Operations.{Operation}
-use Rattle.lock_rules.specs.Operations.{Asked}
-use Rattle.lock_rules.specs.Operations.{Unknown, Known}
+use Rattle.lock_rules.specs.{Numbers.asked-for, Gate.event-thread}
+use Rattle.lock_rules.specs.Operations.{Operation, Asked, Unknown, Known}
 use Rattle.lock_rules.specs.declared.{Doing.Doing, ThreadState.ThreadState}
 use Rattle.lock_rules.specs.declared.ThreadState.the-variants.{Idle, Running, Queued, Contending, Waiting}
 use Rattle.lock_rules.specs.declared.event.Event.{Event}
 use Rattle.lock_rules.specs.declared.event.Event.the-variants.{Begin, Step}
 use Rattle.lock_rules.specs.declared.event.Gate.the-variants.{Open}
-use Rattle.lock_rules.specs.Gate.{event-thread}
 use Rattle.lock_rules.proofs.Gate.{Passed, within-says, by-gate, gate-same}
 use Rattle.lock_rules.proofs.TableKinds.{TurnOf, Kind, status-of, status-idle, begin-asked, step-thread, through, turn-on, final-on, shown-on}
 use Rattle.lock_rules.proofs.Tables.{ListTable, begin-at, step-at, list-kind, turn, final, shown}

@@ -8,15 +8,12 @@ use lib.Dec.{eqb, ltb}
 use Rattle.laws.specs.Choice.{pick, both}
 use Rattle.laws.proofs.Choice.{by-equal, by-below}
 use Rattle.chains.specs.declared.named.Chain.{Chain}
-use Rattle.lock_word.specs.Depth.{depth-limit}
-use Rattle.lock_word.specs.Layout.{count-limit}
-use Rattle.lock_word.specs.Meaning.{owner-of}
+use Rattle.lock_word.specs.{Depth.depth-limit, Layout.count-limit, Meaning.owner-of}
 use Rattle.lock_rules.proofs.Each.{each-carried, Words, each-word}
 use Rattle.lock_rules.specs.Actions.{not-owner, finish-word, inflate}
 use Rattle.lock_rules.specs.Rules.{onward, owner-seen, enter-look, exit-owned, wait-owned, notify-owned, notify-all-owned, owner-only}
 use Rattle.lock_rules.specs.Rules.{enter-store, exit-store, cancel, go-in-again, go-in, holder-only, enter-check, enter-try, exit-test}
-use Rattle.lock_rules.specs.Rules.{exit-tell}
-use Rattle.lock_rules.specs.Rules.{exit-leave, wait-inflate, wait-give-up, wait-resume, decide}
+use Rattle.lock_rules.specs.Rules.{exit-tell, exit-leave, wait-inflate, wait-give-up, wait-resume, decide}
 use Rattle.lock_rules.specs.declared.{OnwardStep.OnwardStep, Doing.Doing, ThreadState.ThreadState, WordChange.WordChange, Sight.Sight}
 use Rattle.lock_rules.specs.declared.{ChainWork.ChainWork, Answer.Answer, Effect.Effect, Action.Action}
 use Rattle.lock_rules.specs.declared.OnwardStep.the-variants.{ToCheck, ToTell, ToInflate}

@@ -6,8 +6,7 @@ use mathlib.Core.Bool.{Bool, true, false}
 use mathlib.Core.List.{List, [], _∷_}
 use native.Mathlib.Omega.{arith}
 use lib.Dec.{eqb}
-use Rattle.laws.specs.Choice.{pick}
-use Rattle.laws.specs.Update.{update}
+use Rattle.laws.specs.{Choice.pick, Update.update}
 use Rattle.laws.proofs.Choice.{equal?, Equal, equal}
 use Rattle.laws.proofs.Update.{update-same, update-other}
 use Rattle.laws.proofs.Count.{count-none}
@@ -16,20 +15,15 @@ use Rattle.lock_rules.specs.Operations.{Operation}
 use Rattle.lock_rules.specs.declared.{Doing.Doing, ThreadState.ThreadState}
 use Rattle.lock_rules.specs.declared.ThreadState.the-variants.{Idle, Running}
 use Rattle.lock_rules.specs.declared.event.Event.{Event}
-use Rattle.lock_rules.proofs.Each.{each-operation}
+use Rattle.lock_rules.proofs.{Each.each-operation, Perform.Performed, TableKinds.by-event, Invariant.Placed, ListChains.member-in}
 use Rattle.lock_rules.proofs.Objects.{empty, sight-of}
-use Rattle.lock_rules.proofs.Perform.{Performed}
-use Rattle.lock_rules.proofs.TableKinds.{by-event}
 use Rattle.lock_rules.proofs.Tables.{ListThread, ListTable, seen-from, states-at, perform-at, begin-at, step-at, list-kind, turn, final}
-use Rattle.lock_rules.proofs.Tables.{fresh-word}
-use Rattle.lock_rules.proofs.Tables.{fresh, seen-idle, seen-here, seen-elsewhere}
-use Rattle.lock_rules.proofs.Invariant.{Placed}
+use Rattle.lock_rules.proofs.Tables.{fresh-word, fresh, seen-idle, seen-here, seen-elsewhere}
 use Rattle.lock_rules.proofs.Lift.{seen-there, seen-as-before}
 use Rattle.lock_rules.proofs.ListSound.{StateFine, WordFine, SoundObject, InTable, SoundTable}
 use Rattle.lock_rules.proofs.SoundEffects.{ActionFine, either-way, decide-fine}
 use Rattle.lock_rules.proofs.SoundPerform.{performed-idle, performed-fine, performed-sound}
 use Rattle.chains.specs.declared.named.Chain.{Chain}
-use Rattle.lock_rules.proofs.ListChains.{member-in}
 
 seen-fine : (o : ℕ) (thread : ListThread) → StateFine (thread .state) → StateFine (seen-from o thread)
 seen-fine o thread fine = either-way StateFine (eqb (thread .object) o) fine tt

@@ -6,9 +6,7 @@ use mathlib.Core.Bool.{Bool, true, false}
 use mathlib.Core.List.{List, [], _∷_}
 use native.Mathlib.Omega.{arith}
 use lib.Dec.{eqb}
-use Rattle.laws.specs.Choice.{pick}
-use Rattle.laws.specs.Update.{update}
-use Rattle.laws.specs.Count.{count}
+use Rattle.laws.specs.{Choice.pick, Update.update, Count.count}
 use Rattle.laws.proofs.Choice.{equal?, either-way as by-case}
 use Rattle.laws.proofs.Update.{update-same, update-other}
 use Rattle.laws.proofs.Count.{count-none, count-same}
@@ -28,8 +26,7 @@ use Rattle.lock_rules.specs.PlainMonitor.{above-zero}
 use Rattle.lock_rules.proofs.Each.{each-doing, each-state, each-chain}
 use Rattle.lock_rules.proofs.Objects.{ListObject, chain-of, empty}
 use Rattle.lock_rules.proofs.Perform.{count-join, taken, left, count-taken, first-of, changed-states, joined-object, handed-object}
-use Rattle.lock_rules.proofs.Perform.{moved-object, states-after}
-use Rattle.lock_rules.proofs.Perform.{object-after, effected, perform}
+use Rattle.lock_rules.proofs.Perform.{moved-object, states-after, object-after, effected, perform}
 use Rattle.lock_rules.proofs.Invariant.{InChains, Placed}
 use Rattle.lock_rules.proofs.Membership.{PlacedAt, placed-left, placed-unmoved, members-after}
 use Rattle.lock_rules.proofs.SharedFacts.{idle-changed}

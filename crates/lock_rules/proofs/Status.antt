@@ -1,8 +1,7 @@
 -- What document 01 says of a thread in a state: woken, parked for entry, unparked, with an unfinished operation.
 use mathlib.Core.Bool.{Bool, true, false}
 use lib.Dec.{eqb}
-use Rattle.lock_rules.specs.Numbers.{phase-of-doing}
-use Rattle.lock_rules.specs.Rules.{onward}
+use Rattle.lock_rules.specs.{Numbers.phase-of-doing, Rules.onward}
 use Rattle.lock_rules.specs.declared.ThreadState.{ThreadState}
 use Rattle.lock_rules.specs.declared.ThreadState.the-variants.{Idle, Running, Queued, Contending, Waiting}
 

@@ -5,14 +5,12 @@ use mathlib.Core.Bool.{Bool, true, false}
 use mathlib.Core.List.{[], _∷_}
 use native.Mathlib.Omega.{arith}
 use lib.Dec.{T, eqb}
-use Rattle.laws.specs.Choice.{pick}
-use Rattle.laws.specs.Update.{update}
+use Rattle.laws.specs.{Choice.pick, Update.update}
 use Rattle.laws.proofs.Choice.{Equal, equal, by-equal, by-below}
 use Rattle.lock_word.specs.Layout.{count-limit}
-use Rattle.lock_word.specs.Meaning.{owner-of}
+use Rattle.lock_word.specs.Meaning.{owner-of, cancelled}
 use Rattle.lock_rules.specs.Rules.{enter-store, exit-store, cancel}
-use Rattle.lock_word.specs.Meaning.{cancelled}
-use Rattle.lock_rules.proofs.Changes.{sent-back}
+use Rattle.lock_rules.proofs.{Changes.sent-back, Perform.changed-states}
 use Rattle.lock_rules.specs.Operations.{Enter, Exit}
 use Rattle.lock_rules.specs.declared.Doing.{Doing}
 use Rattle.lock_rules.specs.declared.Doing.the-variants.{EnterStore, ExitStore}
@@ -23,7 +21,6 @@ use Rattle.lock_rules.specs.declared.WordChange.the-variants.{OwnReserve
 use Rattle.lock_rules.specs.declared.Answer.the-variants.{GoneOn}
 use Rattle.lock_rules.specs.PlainMonitor.{PlainMonitor, Committed, owned-by, finished, commit}
 use Rattle.lock_rules.proofs.Commits.{commit-enter, commit-enter-again, commit-exit-last, commit-exit}
-use Rattle.lock_rules.proofs.Perform.{changed-states}
 use Rattle.lock_rules.proofs.Objects.{ListObject, with-word, sight-of}
 use Rattle.lock_rules.proofs.Invariant.{anything, phase-row, leaving?, MonitorOk, FlagOk, Unstranded, monitor-of}
 use Rattle.lock_rules.proofs.OtherThreads.{beside, others-word, others-cancelled}

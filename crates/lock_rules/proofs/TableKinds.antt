@@ -6,9 +6,7 @@ use mathlib.Core.List.{List, [], _∷_}
 use native.Mathlib.Omega.{arith}
 use Rattle.laws.proofs.Choice.{false≢true}
 use Rattle.lock_rules.specs.Numbers.{asked-for, first-refusal, refusal-number}
-use Rattle.lock_rules.specs.Operations.{Operation}
-use Rattle.lock_rules.specs.Operations.{Asked}
-use Rattle.lock_rules.specs.Operations.{Unknown, Known}
+use Rattle.lock_rules.specs.Operations.{Operation, Asked, Unknown, Known}
 use Rattle.lock_rules.specs.declared.{Doing.Doing, ThreadState.ThreadState}
 use Rattle.lock_rules.specs.declared.ThreadState.the-variants.{Idle, Running, Queued, Contending, Waiting}
 use Rattle.lock_rules.specs.declared.event.{Event.Event, ThreadStatus.ThreadStatus, Refusal.Refusal, Gate.Gate}

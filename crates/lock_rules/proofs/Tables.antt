@@ -6,8 +6,7 @@ use mathlib.Core.Bool.{Bool, true, false}
 use mathlib.Core.List.{List, []}
 use lib.Dec.{eqb}
 use borrow.Author.Tests.{eq-eqb, ne-eqb}
-use Rattle.laws.specs.Choice.{pick}
-use Rattle.laws.specs.Update.{update}
+use Rattle.laws.specs.{Choice.pick, Update.update}
 use Rattle.lock_rules.specs.Rules.{decide, begun}
 use Rattle.lock_rules.specs.Operations.{Operation}
 use Rattle.lock_rules.specs.declared.{Doing.Doing, ThreadState.ThreadState}

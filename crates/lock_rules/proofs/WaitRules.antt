@@ -5,9 +5,8 @@ use mathlib.Core.Bool.{true, false}
 use mathlib.Core.List.{[], _∷_, _++_}
 use native.Mathlib.Omega.{arith}
 use Rattle.laws.specs.Update.{update}
-use Rattle.laws.proofs.Choice.{by-equal}
+use Rattle.laws.proofs.{Choice.by-equal, Count.count-joined}
 use Rattle.laws.proofs.Update.{update-same, update-other}
-use Rattle.laws.proofs.Count.{count-joined}
 use Rattle.chains.specs.declared.named.Chain.{Chain}
 use Rattle.lock_rules.specs.Rules.{wait-inflate, wait-give-up, wait-resume}
 use Rattle.lock_rules.specs.Operations.{Wait}

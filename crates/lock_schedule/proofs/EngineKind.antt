@@ -11,9 +11,8 @@ use Rattle.lock_word.specs.Read.{read-word}
 use Rattle.lock_word.specs.declared.reading.Decoded.{Decoded}
 use Rattle.lock_word.specs.declared.reading.Decoded.the-variants.{Valid, Invalid}
 use Rattle.lock_rules.specs.Gate.{gate, event-thread}
-use Rattle.lock_rules.specs.Operations.{operation-limit}
+use Rattle.lock_rules.specs.{Operations.operation-limit, Rules.decide}
 use Rattle.lock_rules.specs.Numbers.{asked-for, refusal-number}
-use Rattle.lock_rules.specs.Rules.{decide}
 use Rattle.lock_rules.proofs.Each.{each-doing, each-state, each-carried}
 use Rattle.lock_rules.proofs.Status.{unfinished}
 use Rattle.lock_rules.specs.declared.event.{Event.Event, Gate.Gate}
@@ -34,21 +33,18 @@ use Rattle.lock_table.specs.declared.operation.Operation.the-variants.{Idle as 
 use Rattle.lock_table.specs.declared.record.{ThreadRecord.ThreadRecord, ObjectRecord.ObjectRecord, Table.Table}
 use Rattle.lock_table.proofs.Records.{object-unchanged, thread-unchanged, object-beside-thread}
 use Rattle.lock_perform.specs.State.{read-thread, write-activity, doing-activity, carried-activity}
-use Rattle.lock_perform.specs.Sight.{sight-at}
-use Rattle.lock_perform.specs.Perform.{stays}
+use Rattle.lock_perform.specs.{Sight.sight-at, Perform.stays}
 use Rattle.lock_soundness.specs.Sound.{sound-of}
 use Rattle.lock_soundness.proofs.Reading.{sound-reads}
 use Rattle.lock_records.proofs.Operations.{asked-of, asked-from}
 use Rattle.lock_records.proofs.RecordKind.{record-kind, step-acts, step-reads}
-use Rattle.lock_records.proofs.Settled.{settled-performs}
+use Rattle.lock_records.proofs.{Settled.settled-performs, EveryNumber.written-at}
 use Rattle.lock_records.proofs.ReadBack.{IsWritten, state-back}
-use Rattle.lock_records.proofs.EveryNumber.{written-at}
 use Rattle.lock_engine.specs.Turn.{begun, begin-turn, action-turn, word-turn, state-turn, step-turn, open-turn, gate-turn, refused}
 use Rattle.lock_gate.specs.Status.{thread-status}
 use Rattle.lock_engine.specs.Handle.{event-object, waiters-of, outcome-of, handle-trusting, handle}
 use Rattle.lock_engine.specs.declared.outcome.Outcome.{Outcome}
-use Rattle.lock_engine.proofs.Refused.{refused-stays}
-use Rattle.lock_engine.proofs.Narrow.{sizes}
+use Rattle.lock_engine.proofs.{Refused.refused-stays, Narrow.sizes}
 use Rattle.lock_schedule.specs.Schedule.{reply-shown}
 
 -- an outcome, as the list machine has it

@@ -7,16 +7,13 @@ use native.Mathlib.Omega.{arith}
 use lib.Dec.{leb}
 use Rattle.laws.proofs.Choice.{equal?, AtMost, at-most}
 use Rattle.lock_rules.proofs.Tables.{ListTable, fresh}
-use Rattle.lock_rules.proofs.ListSound.{SoundTable}
-use Rattle.lock_rules.proofs.SoundKept.{sound-fresh}
+use Rattle.lock_rules.proofs.{ListSound.SoundTable, SoundKept.sound-fresh}
 use Rattle.lock_word.specs.Depth.{depth-limit}
-use Rattle.lock_table.specs.Access.{object-at}
+use Rattle.lock_table.specs.{Access.object-at, WellTyped.WellTyped}
 use Rattle.lock_table.specs.Fresh.{InRange, fresh-of}
 use Rattle.lock_table.specs.declared.fresh_table.FreshRequest.{FreshRequest}
-use Rattle.lock_table.specs.WellTyped.{WellTyped}
 use Rattle.lock_table.specs.declared.record.{ObjectRecord.ObjectRecord, Table.Table}
-use Rattle.lock_records.proofs.Represents.{Represents}
-use Rattle.lock_records.proofs.FreshRecords.{fresh-represents}
+use Rattle.lock_records.proofs.{Represents.Represents, FreshRecords.fresh-represents}
 
 abbrev DepthFits : ObjectRecord → Type 0
 DepthFits object = object .monitor .depth ≤ depth-limit

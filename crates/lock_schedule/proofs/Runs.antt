@@ -8,8 +8,7 @@ use Rattle.lock_table.specs.declared.fresh_table.{FreshRequest.FreshRequest, Fr
 use Rattle.lock_table.specs.declared.record.Table.{Table}
 use Rattle.lock_table.specs.declared.fresh_table.FreshAnswer.the-variants.{Made}
 use Rattle.lock_table.proofs.FreshTables.{fresh-made}
-use Rattle.lock_schedule.specs.Schedule.{final-of}
-use Rattle.lock_schedule.specs.Demand.{Claim}
+use Rattle.lock_schedule.specs.{Schedule.final-of, Demand.Claim}
 use Rattle.event_bytes.specs.Encoding.{event-size, event-at, events-from}
 use Rattle.event_bytes.proofs.Encoding.{events-next, events-end}
 use Rattle.lock_engine.specs.Handle.{handle}

@@ -8,8 +8,7 @@ use Rattle.lock_rules.specs.Events.{Shown}
 use Rattle.lock_rules.specs.Feed.{feed-all, blank}
 use Rattle.lock_rules.proofs.TableKinds.{TurnOf, turn-on, final-on, shown-on}
 use Rattle.lock_rules.proofs.Tables.{ListTable, turn, fresh}
-use Rattle.lock_rules.proofs.ListSound.{SoundTable}
-use Rattle.lock_rules.proofs.SoundKept.{sound-fresh}
+use Rattle.lock_rules.proofs.{ListSound.SoundTable, SoundKept.sound-fresh}
 use Rattle.lock_table.specs.WellTyped.{WellTyped}
 use Rattle.lock_table.specs.Fresh.{InRange, fresh-of}
 use Rattle.lock_table.specs.declared.fresh_table.FreshRequest.{FreshRequest}
@@ -18,13 +17,10 @@ use Rattle.lock_soundness.specs.Sound.{sound-of}
 use Rattle.lock_engine.specs.Handle.{handle}
 use Rattle.lock_soundness.proofs.Reading.{sound-reads}
 use Rattle.lock_records.specs.Agrees.{Agrees, Ruled}
-use Rattle.lock_records.proofs.Represents.{Represents}
+use Rattle.lock_records.proofs.{Represents.Represents, FreshRecords.fresh-represents, Ruled.schedule-ruled, RepresentedSound.represented-sound}
+use Rattle.lock_records.proofs.{SoundRepresents.sound-represents}
 use Rattle.lock_records.proofs.RecordKind.{record-kind, turn-represents}
-use Rattle.lock_records.proofs.FreshRecords.{fresh-represents}
 use Rattle.lock_records.proofs.Claim.{schedule-represents, schedule-agrees}
-use Rattle.lock_records.proofs.Ruled.{schedule-ruled}
-use Rattle.lock_records.proofs.RepresentedSound.{represented-sound}
-use Rattle.lock_records.proofs.SoundRepresents.{sound-represents}
 use Rattle.lock_schedule.specs.Schedule.{final-of, shown-of}
 use Rattle.lock_schedule.specs.Demand.{DemandThree, SoundKept}
 use Rattle.lock_schedule.proofs.EngineKind.{turn-of, event-is-turn}

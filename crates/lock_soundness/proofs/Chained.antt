@@ -6,8 +6,7 @@ use mathlib.Core.List.{List, [], _∷_}
 use native.Mathlib.Omega.{arith}
 use lib.Dec.{eqb}
 use lib.ListN.{length}
-use Rattle.laws.specs.Choice.{pick}
-use Rattle.laws.specs.Count.{count}
+use Rattle.laws.specs.{Choice.pick, Count.count}
 use Rattle.laws.proofs.Choice.{Equal, equal}
 use Rattle.chains.specs.Chain.{members, chain-test}
 use Rattle.chains.proofs.Chain.{Chain, chain-without-zero}

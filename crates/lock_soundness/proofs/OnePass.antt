@@ -10,8 +10,7 @@ use lib.Dec.{eqb, leb}
 use lib.ListN.{length, getD, replicate, getD-replicate, length-replicate}
 use borrow.Author.Tests.{le-leb, lt-leb}
 use Rattle.laws.specs.Choice.{pick, both, either}
-use Rattle.laws.specs.Count.{count}
-use Rattle.laws.specs.Every.{all-up-to}
+use Rattle.laws.specs.{Count.count, Every.all-up-to}
 use Rattle.laws.proofs.Choice.{false≢true, equal?, both-first, both-second}
 use Rattle.laws.proofs.Count.{count-none}
 use Rattle.chains.specs.Chain.{members, chain-test}
@@ -22,8 +21,7 @@ use Rattle.lock_table.specs.Record.{no-thread, no-object}
 use Rattle.lock_table.specs.Access.{thread-at, object-at, next-of, phase-number-at}
 use Rattle.lock_table.specs.Parked.{chain-named, thread-chain, first-in, chain-first}
 use Rattle.lock_table.specs.declared.record.{Monitor.Monitor, Table.Table}
-use Rattle.lock_table.proofs.Records.{thread-none}
-use Rattle.lock_table.proofs.Walks.{next-none}
+use Rattle.lock_table.proofs.{Records.thread-none, Walks.next-none}
 use Rattle.sound_records.specs.Records.{used-object-fits, empty-object}
 use Rattle.sound_records.specs.OnePass.{thread-passes}
 use Rattle.sound_records.proofs.Reading.{Within, ObjectFits, ThreadFits, chain-kinds, parked-busy, no-object-fits, no-thread-fits}

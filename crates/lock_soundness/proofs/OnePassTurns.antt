@@ -9,9 +9,7 @@ use lib.ListN.{getD}
 use borrow.Author.Tests.{ne-eqb, le-ltb}
 use Rattle.laws.specs.Choice.{pick}
 use Rattle.chains.specs.Chain.{chain-test}
-use Rattle.lock_table.specs.Limits.{thread-limit}
-use Rattle.lock_table.specs.Record.{no-thread}
-use Rattle.lock_table.specs.Access.{object-at}
+use Rattle.lock_table.specs.{Limits.thread-limit, Record.no-thread, Access.object-at}
 use Rattle.lock_table.specs.declared.record.{ThreadRecord.ThreadRecord, ObjectRecord.ObjectRecord, Table.Table}
 use Rattle.sound_records.specs.Records.{names-chain, empty-object}
 use Rattle.sound_records.proofs.Reading.{reads-empty-object}

@@ -7,8 +7,7 @@ use native.Mathlib.Omega.{arith}
 use lib.Dec.{eqb, ltb}
 use lib.ListN.{getD}
 use borrow.Author.Tests.{ne-eqb, le-ltb, lt-ltb, eqb-false, ltb-false}
-use Rattle.laws.specs.Choice.{pick}
-use Rattle.laws.specs.Sequence.{tabulate}
+use Rattle.laws.specs.{Choice.pick, Sequence.tabulate}
 use Rattle.laws.proofs.Choice.{Equal, equal, Below, below, split}
 use Rattle.laws.proofs.Sequence.{tabulate-at}
 use Rattle.lock_table.specs.Limits.{thread-limit, object-limit}

@@ -11,11 +11,8 @@ use denote.Laws.{Is}
 use denote.Shadow.{shadow}
 use denote.Array.{each}
 use Rattle.laws.proofs.Choice.{by-test}
-use Rattle.lock_table.specs.Limits.{object-limit}
+use Rattle.lock_table.specs.{Limits.object-limit, Record.no-object, Access.object-at, WellTyped.WellTyped}
 use Rattle.lock_word.specs.Depth.{depth-limit}
-use Rattle.lock_table.specs.Record.{no-object}
-use Rattle.lock_table.specs.Access.{object-at}
-use Rattle.lock_table.specs.WellTyped.{WellTyped}
 use Rattle.lock_table.specs.declared.record.{ObjectRecord.ObjectRecord, Table.Table}
 use Rattle.lock_table.proofs.record.ThreadRecord.{the-field as thread-field}
 use Rattle.lock_table.proofs.record.ObjectRecord.{the-field as object-field}

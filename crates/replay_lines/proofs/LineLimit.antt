@@ -8,9 +8,8 @@ use Rattle.laws.specs.Count.{one-if}
 use Rattle.laws.proofs.Choice.{either-way}
 use Rattle.replay_text.specs.Digits.{decimal}
 use Rattle.replay_text.proofs.Lengths.{decimal-fits}
-use Rattle.replay_lines.specs.Grammar.{read-line}
+use Rattle.replay_lines.specs.{Grammar.read-line, Cutting.line-limit}
 use Rattle.replay_lines.specs.LineText.{spaced, line-break, Writes}
-use Rattle.replay_lines.specs.Cutting.{line-limit}
 use Rattle.replay_lines.specs.declared.reading.Line.{Line}
 use Rattle.replay_lines.specs.declared.reading.Line.the-variants.{Malformed}
 use Rattle.replay_lines.proofs.ReadBack.{read-written}

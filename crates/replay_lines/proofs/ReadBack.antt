@@ -10,8 +10,7 @@ use lib.Dec.{eqb, ltb}
 use lib.ListN.{length, drop}
 use lib.Seq.{drop-append-seam}
 use borrow.Author.Tests.{eqb-true, ltb-false}
-use Rattle.laws.specs.Choice.{pick}
-use Rattle.laws.specs.Count.{one-if}
+use Rattle.laws.specs.{Choice.pick, Count.one-if}
 use Rattle.laws.proofs.Choice.{by-test}
 use Rattle.replay_text.specs.Digits.{decimal}
 use Rattle.replay_text.specs.Bytes.{newline, space}

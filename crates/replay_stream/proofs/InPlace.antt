@@ -5,12 +5,10 @@ use mathlib.Core.Bool.{Bool, true}
 use lib.Dec.{leb}
 use borrow.Author.Tests.{leb-false}
 use Rattle.laws.proofs.Choice.{split, false≢true}
-use Rattle.lock_rules.specs.Numbers.{first-refusal}
-use Rattle.lock_rules.specs.Gate.{event-thread}
+use Rattle.lock_rules.specs.{Numbers.first-refusal, Gate.event-thread}
 use Rattle.lock_rules.specs.declared.event.Event.{Event}
-use Rattle.lock_table.specs.Phase.{phase-number}
+use Rattle.lock_table.specs.{Phase.phase-number, WellTyped.WellTyped}
 use Rattle.lock_table.specs.Access.{thread-at, object-at}
-use Rattle.lock_table.specs.WellTyped.{WellTyped}
 use Rattle.lock_table.specs.declared.record.{ThreadRecord.ThreadRecord, Table.Table}
 use Rattle.lock_soundness.specs.Sound.{sound-of}
 use Rattle.lock_engine.specs.Outcome.{reply-returned, reply-woken}

@@ -2,8 +2,7 @@
 use Prim.Native.Nat.{ℕ}
 use mathlib.Core.Path.{_≡_, refl, ap, sym, _∙_}
 use borrow.Author.Tests.{lt-ltb}
-use Rattle.lock_table.specs.Access.{thread-at}
-use Rattle.lock_table.specs.Narrow.{narrow-of}
+use Rattle.lock_table.specs.{Access.thread-at, Narrow.narrow-of}
 use Rattle.lock_table.specs.declared.record.{ThreadRecord.ThreadRecord, ObjectRecord.ObjectRecord, Table.Table}
 use Rattle.lock_table.proofs.Narrowed.{narrowed, narrow-thread, narrow-object}
 use Rattle.lock_engine.specs.Outcome.{reply-returned, reply-woken}

@@ -6,13 +6,11 @@ use mathlib.Core.Bool.{Bool, true, false}
 use mathlib.Core.List.{[]}
 use Rattle.lock_rules.specs.declared.event.Event.{Event}
 use Rattle.lock_rules.specs.declared.event.Event.the-variants.{Begin as BeginEvent, Step as StepEvent}
-use Rattle.lock_table.specs.Access.{thread-at}
+use Rattle.lock_table.specs.{Access.thread-at, WellTyped.WellTyped, Narrow.narrow-of}
 use Rattle.lock_table.specs.Fresh.{sized-request, refused-of, InRange, fresh-of}
-use Rattle.lock_table.specs.WellTyped.{WellTyped}
 use Rattle.lock_table.proofs.FreshTables.{fresh-made, fresh-either}
 use Rattle.lock_table.specs.declared.record.Table.{Table}
 use Rattle.lock_table.specs.declared.fresh_table.{FreshRequest.FreshRequest, FreshTable.FreshTable}
-use Rattle.lock_table.specs.Narrow.{narrow-of}
 use Rattle.lock_soundness.specs.Sound.{sound-of}
 use Rattle.lock_rules.specs.Gate.{gate, event-thread}
 use Rattle.lock_rules.specs.declared.event.Refusal.the-variants.{NotSound}

@@ -5,8 +5,7 @@ use mathlib.Core.Bool.{Bool}
 use mathlib.Core.List.{List, _++_}
 use native.Mathlib.Omega.{arith}
 use lib.ListN.{length, take, drop}
-use Rattle.replay_lines.specs.Cutting.{line-end}
-use Rattle.replay_lines.specs.Grammar.{read-line}
+use Rattle.replay_lines.specs.{Cutting.line-end, Grammar.read-line}
 use Rattle.replay_text.specs.Text.{answer-text, line-room}
 use Rattle.replay_text.specs.Written.{Put}
 use Rattle.replay_text.proofs.Lengths.{answer-fits}

@@ -8,12 +8,11 @@ use native.Mathlib.Omega.{arith}
 use lib.Dec.{eqb}
 use borrow.Author.Tests.{le-leb}
 use Rattle.laws.specs.Choice.{pick, both, implies}
-use Rattle.lock_word.specs.Layout.{count-limit}
+use Rattle.lock_word.specs.{Layout.count-limit, Depth.depth-limit}
 use Rattle.lock_word.specs.Read.{read-word, read-flat}
 use Rattle.lock_word.specs.declared.reading.LockWord.the-variants.{Free, Flat, Anonymous, Reserved, Fat}
 use Rattle.lock_word.specs.declared.reading.Decoded.{Decoded}
 use Rattle.lock_word.specs.declared.reading.Decoded.the-variants.{Valid, Invalid}
-use Rattle.lock_word.specs.Depth.{depth-limit}
 use Rattle.lock_table.specs.Operation.{operation-number}
 use Rattle.lock_table.specs.Phase.{phase-number, carried-number}
 use Rattle.lock_table.specs.Record.{no-thread, no-monitor, no-object, with-word}

@@ -8,8 +8,7 @@ use native.Mathlib.Omega.{arith}
 use native.Mathlib.Nat.{zero-add, suc-add, zero-mul, suc-mul, add-assoc, add-comm}
 use lib.ListN.{length, getD, set, take, drop, length-append, length-drop}
 use lib.Seq.{paste-zero, getD-append-add, getD-set-same, getD-set-other, length-take-le, take-at, drop-at, drop-append-add, drop-drop}
-use Rattle.laws.specs.Every.{all-below}
-use Rattle.laws.specs.Sequence.{tabulate}
+use Rattle.laws.specs.{Every.all-below, Sequence.tabulate}
 use Rattle.laws.proofs.Every.{all-below-at, all-of}
 use Rattle.laws.proofs.Sequence.{tabulate-at, tabulate-all}
 use Rattle.table_bytes.specs.Rows.{Field, size, record-bytes, Numbers, numbers-in, joined, overwritten}

@@ -8,9 +8,8 @@ use Rattle.lock_table.specs.Limits.{thread-limit, object-limit}
 use Rattle.lock_table.specs.declared.record.Table.{Table}
 use Rattle.table_bytes.specs.ThreadBytes.{thread-of, thread-known}
 use Rattle.table_bytes.specs.ObjectBytes.{object-of, object-known}
-use Rattle.table_bytes.specs.Layout.{table-size}
+use Rattle.table_bytes.specs.{Layout.table-size, Writing.bytes-of}
 use Rattle.table_bytes.specs.Reading.{table-of, is-table}
-use Rattle.table_bytes.specs.Writing.{bytes-of}
 use Rattle.table_bytes.proofs.Parts.{area-known, area-back}
 use Rattle.table_bytes.proofs.ThreadBytes.{thread-back, thread-read-known}
 use Rattle.table_bytes.proofs.ObjectBytes.{object-back, object-read-known}

@@ -10,8 +10,7 @@ use lib.Dec.{ltb}
 use lib.ListN.{length, getD, take, drop, length-append, length-drop}
 use lib.Seq.{take-all, getD-drop, getD-append-add}
 use borrow.Author.Tests.{ltb-true}
-use Rattle.laws.specs.Choice.{both}
-use Rattle.laws.specs.Sequence.{tabulate}
+use Rattle.laws.specs.{Choice.both, Sequence.tabulate}
 use Rattle.laws.proofs.Choice.{both-first, both-second}
 use Rattle.table_bytes.specs.Rows.{Field, size, number-bytes, record-bytes, number-in, Numbers, numbers-in}
 use Rattle.table_bytes.specs.Reading.{byte-at}

@@ -5,9 +5,7 @@ use mathlib.Core.Bool.{Bool, true}
 use mathlib.Core.List.{List, [], _∷_, _++_}
 use lib.Dec.{eqb}
 use lib.ListN.{length}
-use Rattle.laws.specs.Choice.{both}
-use Rattle.laws.specs.Every.{all-below}
-use Rattle.laws.specs.Sequence.{tabulate}
+use Rattle.laws.specs.{Choice.both, Every.all-below, Sequence.tabulate}
 use Rattle.laws.proofs.Choice.{both-first, both-second}
 use Rattle.laws.proofs.Sequence.{tabulate-all}
 use Rattle.lock_table.specs.Limits.{thread-limit, object-limit}
@@ -17,11 +15,7 @@ use Rattle.table_bytes.specs.ObjectBytes.{object-layout, object-of, obje
 use Rattle.table_bytes.specs.Layout.{thread-size, object-size, threads-start, objects-start, table-size}
 use Rattle.table_bytes.specs.Reading.{AreBytes, byte-at, thread-numbers, object-numbers, table-of, is-table}
 use Rattle.table_bytes.specs.Writing.{bytes-of}
-use Rattle.table_bytes.proofs.Rows.{tabulate-more}
-use Rattle.table_bytes.proofs.Parts.{area-same}
-use Rattle.table_bytes.proofs.ThreadBytes.{thread-same}
-use Rattle.table_bytes.proofs.ObjectBytes.{object-same}
-use Rattle.table_bytes.proofs.Written.{table-long}
+use Rattle.table_bytes.proofs.{Rows.tabulate-more, Parts.area-same, ThreadBytes.thread-same, ObjectBytes.object-same, Written.table-long}
 
 run-of-two : (f : ℕ → ℕ) → f 0 ∷ f 1 ∷ [] ≡ tabulate 2 f
 unfolding tabulate

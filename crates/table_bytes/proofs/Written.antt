@@ -12,11 +12,8 @@ use Rattle.laws.proofs.Choice.{both-first}
 use Rattle.lock_table.specs.Limits.{thread-limit, object-limit}
 use Rattle.lock_table.specs.Record.{no-thread, no-object}
 use Rattle.lock_table.specs.declared.record.Table.{Table}
-use Rattle.table_bytes.specs.Rows.{overwritten}
-use Rattle.table_bytes.specs.ThreadBytes.{thread-layout}
-use Rattle.table_bytes.specs.ObjectBytes.{object-layout}
+use Rattle.table_bytes.specs.{Rows.overwritten, ThreadBytes.thread-layout, ObjectBytes.object-layout, Reading.is-table}
 use Rattle.table_bytes.specs.Layout.{threads-start, objects-start, table-size}
-use Rattle.table_bytes.specs.Reading.{is-table}
 use Rattle.table_bytes.specs.Writing.{threads-bytes, objects-bytes, bytes-of, kept-over}
 use Rattle.table_bytes.proofs.Parts.{Area, records-length, overwritten-next, overwritten-length}
 

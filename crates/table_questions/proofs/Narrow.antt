@@ -8,13 +8,12 @@ use borrow.Author.Tests.{lt-leb}
 use Rattle.laws.specs.Choice.{both, within}
 use Rattle.lock_table.specs.Limits.{thread-limit, object-limit}
 use Rattle.lock_table.specs.Access.{thread-at, object-at}
-use Rattle.lock_table.specs.Ownership.{ownership-at}
+use Rattle.lock_table.specs.{Ownership.ownership-at, Narrow.narrow-of}
 use Rattle.lock_table.specs.declared.record.Table.{Table}
 use Rattle.lock_table.proofs.Narrowed.{narrowed}
 use Rattle.laws.proofs.Choice.{both-no}
 use Rattle.lock_rules.specs.declared.event.Refusal.{Refusal}
 use Rattle.lock_rules.specs.declared.event.Refusal.the-variants.{NoSuchThread, NoSuchObject}
-use Rattle.lock_table.specs.Narrow.{narrow-of}
 use Rattle.table_questions.specs.Questions.{said-of, thread-value, object-value, thread-in, object-in}
 use Rattle.table_questions.specs.declared.asking.{ThreadQuestion.ThreadQuestion, ObjectQuestion.ObjectQuestion}
 

@@ -3,11 +3,7 @@ use mathlib.Core.Path.{refl}
 use Rattle.lock_word.specs.Read.{read-word, read-flat, read-reserved, fat-of}
 use Rattle.lock_word.specs.Meaning.{owned-by}
 use Rattle.laws.specs.Sequence.{tabulate}
-use Rattle.lock_table.specs.Access.{object-at}
-use Rattle.lock_table.specs.Fresh.{first-word}
-use Rattle.lock_table.specs.Operation.{operation-number}
-use Rattle.lock_table.specs.Phase.{phase-number}
-use Rattle.lock_table.specs.Parked.{chain-named}
+use Rattle.lock_table.specs.{Access.object-at, Fresh.first-word, Operation.operation-number, Phase.phase-number, Parked.chain-named}
 use Rattle.lock_perform.specs.Moving.{thread-set}
 use Rattle.sound_records.specs.Records.{names-chain, unused-fits, saves-depth}
 use Rattle.lock_rules.specs.Rules.{exit-tell}
@@ -15,10 +11,7 @@ use Rattle.replay_lines.specs.Number.{is-digit, read-digits, read-number, read-
 use Rattle.replay_lines.specs.Grammar.{end-line, read-step, read-line}
 use Rattle.replay_text.specs.Digits.{digit-byte, digits}
 use Rattle.replay_text.specs.Text.{word-text}
-use Rattle.worked_examples.specs.Words.{WordExamples}
-use Rattle.worked_examples.specs.Records.{RecordExamples}
-use Rattle.worked_examples.specs.Rules.{RuleExamples}
-use Rattle.worked_examples.specs.Lines.{LineExamples}
+use Rattle.worked_examples.specs.{Words.WordExamples, Records.RecordExamples, Rules.RuleExamples, Lines.LineExamples}
 
 pub word-examples : WordExamples
 unfolding read-word read-flat read-reserved fat-of owned-by
