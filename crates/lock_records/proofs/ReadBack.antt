@@ -106,6 +106,13 @@ module _ (objects n o kept saved : ℕ) (own : ThreadRecord) (is-number : IsNumb
   Back phase operation =
       let thread = with-activity own (activity-of operation o phase kept saved) in ThreadFits objects n thread → IsWritten objects n thread
 
+  -- the record of a thread that is not idle is that of a fine state
+  made : (phase : Phase) (operation : Operation) (state : ThreadState) → busy? phase ≡ true → StateFine state
+      → activity-of operation o phase kept saved ≡ write-activity n o state → Back phase operation
+  made phase operation state test fine written fits =
+      let home : Within 1 objects o = fits .operation (busy-phase phase test) .0 in
+      record { state = state; fine = fine; written = ap (with-activity own) written; home = λ busy. home; number = λ busy. is-number }
+
   -- a phase that uses neither kept word nor saved depth
   plain : (phase : Phase) (operation : Operation) → both (busy? phase) (both (unkept? phase) (unsaved? phase)) ≡ true
       → let state = read-activity (activity-of operation o phase 0 0) in
@@ -114,13 +121,7 @@ module _ (objects n o kept saved : ℕ) (own : ThreadRecord) (is-number : IsNumb
       let rest : both (unkept? phase) (unsaved? phase) ≡ true = both-second (busy? phase) _ test in
       let no-kept : kept ≡ 0 = fits .unused .kept (unkept-phase phase (both-first (unkept? phase) _ rest)) in
       let no-saved : saved ≡ 0 = fits .unused .saved (unsaved-phase phase (both-second (unkept? phase) _ rest)) in
-      record {
-        state = read-activity (activity-of operation o phase 0 0);
-        fine = fine;
-        written = ap (with-activity own) ((λ j. activity-of operation o phase (no-kept j) (no-saved j)) ∙ sym written);
-        home = λ busy. fits .operation (busy-phase phase (both-first (busy? phase) _ test)) .0;
-        number = λ busy. is-number;
-      }
+      made phase operation _ (both-first (busy? phase) _ test) fine ((λ j. activity-of operation o phase (no-kept j) (no-saved j)) ∙ sym written) fits
 
   -- one that uses the saved depth
   saving : (phase : Phase) (operation : Operation) → both (busy? phase) (unkept? phase) ≡ true → SavesDepth (phase-number phase) (carried-number phase)
@@ -129,13 +130,8 @@ module _ (objects n o kept saved : ℕ) (own : ThreadRecord) (is-number : IsNumb
       → Back phase operation
   saving phase operation test saves fine written fits =
       let no-kept : kept ≡ 0 = fits .unused .kept (unkept-phase phase (both-second (busy? phase) _ test)) in
-      record {
-        state = read-activity (activity-of operation o phase 0 saved);
-        fine = fine (fits .saved saves);
-        written = ap (with-activity own) ((λ j. activity-of operation o phase (no-kept j) saved) ∙ sym written);
-        home = λ busy. fits .operation (busy-phase phase (both-first (busy? phase) _ test)) .0;
-        number = λ busy. is-number;
-      }
+      made phase operation _ (both-first (busy? phase) _ test) (fine (fits .saved saves)) ((λ j. activity-of operation o phase (no-kept j) saved) ∙ sym written)
+      fits
 
   -- phase 2, which uses the kept word
   storing : (operation : Operation) (doing : ℕ → Doing) → ((count : ℕ) → KeptCountFits operation count → DoingFine (doing count))
@@ -145,13 +141,8 @@ module _ (objects n o kept saved : ℕ) (own : ThreadRecord) (is-number : IsNumb
   storing operation doing fine written fits =
       let (count, is-kept, fits-count) = kept-is n operation kept (fits .kept refl) in
       let no-saved : saved ≡ 0 = fits .unused .saved (unsaved-phase Store refl) in
-      record {
-        state = Running (doing count);
-        fine = fine count fits-count;
-        written = ap (with-activity own) ((λ j. activity-of operation o Store (is-kept j) (no-saved j)) ∙ sym (written count));
-        home = λ busy. fits .operation (busy-phase Store refl) .0;
-        number = λ busy. is-number;
-      }
+      made Store operation (Running (doing count)) refl (fine count fits-count)
+      ((λ j. activity-of operation o Store (is-kept j) (no-saved j)) ∙ sym (written count)) fits
 
   -- an idle thread has no operation and no object
   idle : (operation : Operation) → Back IdlePhase operation
