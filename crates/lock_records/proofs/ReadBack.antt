@@ -1,5 +1,5 @@
 -- A thread record whose fields are as soundness asks is some fine state, written: the one that it is read as.
-use Prim.Native.Nat.{ℕ, _<_}
+use Prim.Native.Nat.{ℕ}
 use mathlib.Core.Path.{_≡_, refl, sym, ap, _∙_}
 use mathlib.Core.Logic.{_≢_, inl, inr}
 use mathlib.Core.Bool.{Bool, true, false, not}
@@ -7,7 +7,7 @@ use native.Mathlib.Omega.{arith}
 use lib.Dec.{T, eqb, ltb}
 use borrow.Author.Tests.{eqb-false, ltb-true}
 use Rattle.laws.specs.Choice.{both}
-use Rattle.laws.proofs.Choice.{false≢true, both-first, both-second}
+use Rattle.laws.proofs.Choice.{either-way, false≢true, both-first, both-second}
 use Rattle.lock_word.specs.Read.{read-word}
 use Rattle.lock_word.specs.Write.{write-word, reserved-word, IsNumber}
 use Rattle.lock_word.specs.declared.reading.LockWord.the-variants.{Free, Flat, Anonymous, Reserved, Fat}
@@ -63,13 +63,9 @@ unkept-phase : (phase : Phase) → unkept? phase ≡ true → phase-number phase
 unkept-phase phase test = eqb-false (phase-number phase) 2 (reads-not (eqb (phase-number phase) 2) .read test)
 
 unsaved-phase : (phase : Phase) → unsaved? phase ≡ true → SavesDepth (phase-number phase) (carried-number phase) → ⊥
-unsaved-phase phase test =
+unsaved-phase phase test saves =
     let (small, other) = reads-both (reads-ltb (phase-number phase) 14) (reads-not (eqb (carried-number phase) 15)) .read test in
-    at small (eqb-false (carried-number phase) 15 other)
-  where
-    at : phase-number phase < 14 → carried-number phase ≢ 15 → SavesDepth (phase-number phase) (carried-number phase) → ⊥
-    at small other (inl (low, high)) = omega (arith, low, small)
-    at small other (inr carries) = other carries
+    either-way saves (λ inside. omega (arith, inside .0, small)) (eqb-false (carried-number phase) 15 other)
 
 -- the operation may be in the phase
 abbrev may-be-in? : Phase → Operation → Bool
