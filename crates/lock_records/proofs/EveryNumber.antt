@@ -36,10 +36,6 @@ use Rattle.lock_records.proofs.ReadBack.{IsWritten, fits-written, none-
 abbrev pub thread-read : Table → ℕ → ListThread
 thread-read t n = record { object = thread-at t n .object; state = read-thread (thread-at t n) }
 
-object-none : (t : Table) → object-at t 0 ≡ no-object
-unfolding object-at
-object-none t = refl
-
 -- no chain of the empty record has a thread
 no-first : (chain : Chain) → first-in no-monitor (chain-number chain) ≡ 0
 unfolding first-in
@@ -59,7 +55,7 @@ module _ (t : Table) (sound : Sound t) where
   thread-where = by-range (thread-at t) no-thread (t .threadcount) thread-limit (thread-none t) (thread-past t) (sound .threads-past)
 
   pub object-where : (o : ℕ) → Within 1 (t .objectcount) o ⊎ (object-at t o ≡ no-object)
-  object-where = by-range (object-at t) no-object (t .objectcount) object-limit (object-none t) (object-beyond t) (sound .objects-past)
+  object-where = by-range (object-at t) no-object (t .objectcount) object-limit (unfold object-at in refl) (object-beyond t) (sound .objects-past)
 
   -- every thread record is a fine state, written
   pub written-at : (n : ℕ) → IsWritten (t .objectcount) n (thread-at t n)
@@ -103,13 +99,10 @@ module _ (t : Table) (sound : Sound t) where
   parked-at chain n names =
       either-way (thread-where n)
       (λ used. subst (λ (k : ℕ). 0 < count n (threads-in-chain t (thread-at t n .object) k)) names (sound .parked n (used .0) (used .1) some))
-      (λ empty. absurd (some (ap thread-chain empty ∙ no-chain)))
+      (λ empty. absurd (some (ap thread-chain empty ∙ unfold chain-named phase-number in refl)))
     where
       some : thread-chain (thread-at t n) ≢ 0
       some none = omega (arith, none, names, chain-number-low chain)
-
-      no-chain : thread-chain no-thread ≡ 0
-      no-chain = unfold chain-named phase-number in refl
 
   -- so each thread is in each chain as often as its state, seen from there, says
   pub counted-at : (o : ℕ) (chain : Chain) (n : ℕ)

@@ -17,7 +17,6 @@ use Rattle.lock_rules.proofs.Tables.{fresh-word, fresh}
 use Rattle.lock_table.specs.Limits.{thread-limit, object-limit}
 use Rattle.lock_table.specs.Record.{no-thread, no-object, with-word}
 use Rattle.lock_table.specs.Fresh.{first-word, fresh-thread, fresh-object, InRange, fresh-of}
-use Rattle.lock_table.specs.declared.record.ObjectRecord.{ObjectRecord}
 use Rattle.lock_table.specs.declared.fresh_table.FreshRequest.{FreshRequest}
 use Rattle.lock_table.proofs.FreshTables.{fresh-made, fresh-thread-at, fresh-used, fresh-past}
 use Rattle.lock_perform.specs.State.{write-activity}
@@ -54,10 +53,6 @@ first-word-fits threads o true = refl
 first-word-fits threads o false = refl
 
 module _ (request : FreshRequest) (in-range : InRange request) where
-  -- what an object in use is given
-  abbrev used : ObjectRecord
-  used = with-word no-object (first-word (request .reserved))
-
   pub fresh-represents : Represents (request .threads) (request .objects) (fresh-of request .table) (fresh (request .reserved))
   unfolding write-activity
   fresh-represents =
@@ -69,7 +64,7 @@ module _ (request : FreshRequest) (in-range : InRange request) where
         object-room = in-range .3;
         given = record {
           thread = λ n. no-thread;
-          object = λ o. used;
+          object = λ o. with-word no-object (first-word (request .reserved));
           thread-fits = λ n low high. no-thread-fits (request .objects) n;
           thread-past = λ n past. refl;
           object-fits = λ o low high. word-alone-fits (request .threads) o (first-word (request .reserved)) (first-word-fits (request .threads) o (request .reserved));
