@@ -14,7 +14,8 @@ use Rattle.laws.proofs.Count.{count-none, count-same, count-other}
 use Rattle.chains.specs.Chain.{members, last-of, first-with, linked}
 
 -- what holds of the new value at its place, and of the old ones elsewhere, holds of each
-pub by-update : {A : Type 0} (P : A → Type 0) (f : ℕ → A) (place : ℕ) (value : A) (n : ℕ) → (n ≡ place → P value) → (n ≢ place → P (f n)) → P (update f place value n)
+pub by-update : {A : Type 0} (P : A → Type 0) (f : ℕ → A) (place : ℕ) (value : A) (n : ℕ) → (n ≡ place → P value) → (n ≢ place → P (f n))
+    → P (update f place value n)
 unfolding update
 by-update P f place value n = by-equal P n place
 
@@ -90,12 +91,11 @@ behind-member next first (x ∷ xs) n chain h =
 
 -- a chain that ends does not come back to its first thread
 pub chain-first-once : (next : ℕ → ℕ) (first x : ℕ) (rest : List ℕ) → Chain next first (x ∷ rest) → count x rest ≡ 0
-chain-first-once next first x rest chain = let never : 0 < count x rest → ⊥ = comes-back in omega arith
-  where
-    comes-back : 0 < count x rest → ⊥
-    comes-back h =
-        let (shorter, c, less) = behind-member next (next x) rest x (chain .2) h in
-        omega (arith, ap length (chain-unique next (next x) shorter rest c (chain .2)))
+chain-first-once next first x rest chain =
+    let never : 0 < count x rest → ⊥ = λ h.
+    let (shorter, c, less) = behind-member next (next x) rest x (chain .2) h in
+    omega (arith, ap length (chain-unique next (next x) shorter rest c (chain .2))) in
+    omega arith
 
 -- nor to any other: no thread is in it twice
 pub chain-once : (next : ℕ → ℕ) (first : ℕ) (list : List ℕ) (n : ℕ) → Chain next first list → count n list ≤ 1
@@ -157,10 +157,9 @@ hung-behind : (next : ℕ → ℕ) (front x : ℕ) (rest : List ℕ) (back : ℕ
     → ((n : ℕ) → 0 < count n (x ∷ rest) → count n moved ≡ 0) → Chain (update next (last x rest) back) front (x ∷ (rest ++ moved))
 unfolding count
 hung-behind next front x [] back moved (same, real, ends) chain apart =
+    let untouched : (n : ℕ) → 0 < count n moved → update next x back n ≡ next n =
+    λ n h. update-other next x back n (λ e. omega (arith, h, apart n (rw e (omega (arith, count-same x []))))) in
     (same, real, rw (update-same next x back) (chain-frame next (update next x back) back moved untouched chain))
-  where
-    untouched : (n : ℕ) → 0 < count n moved → update next x back n ≡ next n
-    untouched n h = update-other next x back n (λ e. omega (arith, h, apart n (rw e (omega (arith, count-same x [])))))
 hung-behind next front x (y ∷ rest) back moved (same, real, behind) chain apart =
     let far : x ≢ last y rest = λ e. omega (arith, chain-first-once next front x (y ∷ rest) (same, real, behind), rw (← e) at (last-member y rest)) in
     (same, real, rw (update-other next (last y rest) back x far) (hung-behind next (next x) y rest back moved behind chain (λ n h. apart n (omega arith))))

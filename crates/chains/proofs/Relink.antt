@@ -98,15 +98,16 @@ module _ (next first : ℕ → ℕ) (list : ℕ → List ℕ) (moved : List ℕ)
           let absent : count n new ≡ 0 = rw (update-same list c new) at (out c) in
           either-way (equal? (count n (list c)) 0)
           (λ old. relinked .kept n absent old
-          ∙ aside .loose n (λ d. either-way (equal? d c) (λ e. rw e old) (λ away. rw (update-other list c new d away) at (out d))) (omega (arith, absent, comes n)))
+          ∙ aside .loose n (λ d. either-way (equal? d c) (λ e. rw e old) (λ away. rw (update-other list c new d away) at (out d)))
+          (omega (arith, absent, comes n)))
           (λ some. relinked .gone n absent (omega (arith, some)))
 
 -- with nobody aside
 pub chains-relink : (next first : ℕ → ℕ) (list : ℕ → List ℕ) → Chains next first list → (c : ℕ) (next′ : ℕ → ℕ) (start : ℕ) (new : List ℕ)
     → Relinked next first list c next′ start new → Chains next′ (update first c start) (update list c new)
 chains-relink next first list chains c next′ start new relinked =
-    relink-aside next first list [] (record { chain = chains .chain; apart = chains .apart; loose = λ n out none. chains .loose n out }) c next′ start new relinked
-    (λ n. omega (arith, count-none n))
+    relink-aside next first list [] (record { chain = chains .chain; apart = chains .apart; loose = λ n out none. chains .loose n out }) c next′ start new
+    relinked (λ n. omega (arith, count-none n))
 
 -- the threads of a list that pass a test, and those that do not, each in order
 abbrev pub passing : (ℕ → Bool) → List ℕ → List ℕ
@@ -180,9 +181,11 @@ module _ (next first : ℕ → ℕ) (list : ℕ → List ℕ) (chains : Chains n
       (update (update list c []) to (list to ++ list c))
   chains-move fuel to apart short =
       let same : update list c [] to ≡ list to = update-other list c [] to (λ e. apart (sym e)) in
-      relink-aside next (update first c 0) (update list c []) (list c) taken to (linked fuel next (first to) (first c)) (first-with (first to) (first c)) (list to ++ list c)
+      relink-aside next (update first c 0) (update list c []) (list c) taken to (linked fuel next (first to) (first c)) (first-with (first to) (first c))
+      (list to ++ list c)
       (record {
-        chain = chain-link fuel next (first to) (list to) (first c) (list c) (chains .chain to) (chains .chain c) short (λ n h. others list (chains .apart) to c n apart h);
+        chain = chain-link fuel next (first to) (list to) (first c) (list c) (chains .chain to) (chains .chain c) short
+            (λ n h. others list (chains .apart) to c n apart h);
         came = λ n d h old. free n (omega (arith, h, old, ap (count n) same, count-append n (list to) (list c))) d;
         gone = λ n out h. absurd (omega (arith, out, h, ap (count n) same, count-append n (list to) (list c)));
         kept = λ n out old. linked-other fuel next (first to) (list to) (first c) n (chains .chain to) short (sym (ap (count n) same) ∙ old);
@@ -226,7 +229,8 @@ module _ (next first : ℕ → ℕ) (list : ℕ → List ℕ) (chains : Chains n
       chains-relink next first list chains c (follow new next) (head new) new
       (record {
         chain = chain-follow new next (more 0 (λ e. real (sym e)) ∙ no-zero)
-            (λ m. either-way (equal? m n) (λ e. rw e (omega (arith, counted n, count-same n back, old-count n, out c))) (λ away. omega (arith, more m away, once m)));
+            (λ m. either-way (equal? m n) (λ e. rw e (omega (arith, counted n, count-same n back, old-count n, out c)))
+            (λ away. omega (arith, more m away, once m)));
         came = λ m d h old. either-way (equal? m n) (λ e. rw e (out d)) (λ away. absurd (omega (arith, h, old, more m away)));
         gone = λ m none h. absurd (omega (arith, h, none, least m));
         kept = λ m none old. follow-other new next m none;

@@ -2,13 +2,12 @@
 use Prim.Native.Nat.{ℕ, _≤_, _<_}
 use mathlib.Core.Path.{_≡_, refl, sym, ap, _∙_, subst}
 use mathlib.Core.Logic.{_⊎_, inl, inr}
-use mathlib.Core.Bool.{Bool, true, false}
 use mathlib.Core.List.{List, [], _∷_}
 use native.Mathlib.Omega.{arith}
 use lib.Dec.{eqb}
 use lib.ListN.{length}
-use Rattle.laws.specs.{Choice.pick, Update.update, Count.count}
-use Rattle.laws.proofs.Choice.{by-equal}
+use Rattle.laws.specs.{Update.update, Count.count}
+use Rattle.laws.proofs.Choice.{by-test, by-equal}
 use Rattle.laws.proofs.Count.{count-none, count-same}
 use Rattle.chains.specs.Chain.{first-with, linked}
 use Rattle.chains.specs.declared.named.Chain.{Chain}
@@ -172,21 +171,20 @@ module _ (threads objects : ℕ) (t : Table) (lists : ListTable) (represents : R
           rw (
             ← (placed-all o (lists .threads) moved (represents .links .next) (list from) thread-limit (first from) (chained from) (brief from) (home from)),
             update-number (represents .links .first) o from Chain.Entry 0,
-          ) (at (eqb (place-of Chain.Entry) (place-of from)))
+          )
+          (by-test
+          (λ front. Moves (represents .given .thread) t (hang thread-limit (move-all thread-limit t (first from)) front (first from))
+          (walk thread-limit (represents .links .next) (change moved) (lists .threads) (first from))
+          (linked thread-limit (represents .links .next) front (first from))) (eqb (place-of Chain.Entry) (place-of from))
+          (λ e. moves-hang (represents .given .thread) t _ _ (represents .links .next) moves [] 0 (first from) refl (omega arith)
+          (λ n h. absurd (omega (arith, h, count-none n))))
+          (λ e. moves-hang (represents .given .thread) t _ _ (represents .links .next) moves (list Chain.Entry) (first Chain.Entry) (first from)
+          (chained Chain.Entry) (brief Chain.Entry) (inside Chain.Entry)))
         where
           moves : Moves (represents .given .thread) t (move-all thread-limit t (first from)) (walk thread-limit (represents .links .next) (change moved) (lists .threads) (first from))
               (represents .links .next)
           moves =
               moves-all (represents .given .thread) t (represents .links .next) (list from) thread-limit (first from) t (lists .threads) begun (chained from) (brief from) (inside from)
-
-          at : (own : Bool)
-              → Moves (represents .given .thread) t (hang thread-limit (move-all thread-limit t (first from)) (pick own 0 (first Chain.Entry)) (first from))
-              (walk thread-limit (represents .links .next) (change moved) (lists .threads) (first from))
-              (linked thread-limit (represents .links .next) (pick own 0 (first Chain.Entry)) (first from))
-          at true = moves-hang (represents .given .thread) t _ _ (represents .links .next) moves [] 0 (first from) refl (omega arith) (λ n h. absurd (omega (arith, h, count-none n)))
-          at false =
-              moves-hang (represents .given .thread) t _ _ (represents .links .next) moves (list Chain.Entry) (first Chain.Entry) (first from) (chained Chain.Entry) (brief Chain.Entry)
-              (inside Chain.Entry)
 
       -- an effect of thread i with any work
       module _ (i : ℕ) (effect : Effect) where

@@ -152,34 +152,23 @@ module _ (threads objects : ℕ) (t : Table) (lists : ListTable) (represents : R
     stranded n parked found =
         let busy : T (unfinished (lists .threads n .state)) = busy-parked (lists .threads n .state) parked in
         let (thread, real, small) = busy-in threads objects lists sound n busy in
-        rw (home-is threads objects t lists represents sound n busy) (at real small found)
-      where
-        home : ℕ
-        home = lists .threads n .object
-
-        at : 1 ≤ home → home ≤ objects → ListOwned (lists .objects home) n ⊎ ListBusy lists n
-            → OwnedByOther t home n ⊎ BusyOther t home n
-        at real small (inl (some, other)) =
-            inl
-            (rw (ownership-is home real small, represents .threadcount) (
-              (
-                omega (arith, some),
-                owner-small threads (lists .objects home .word) (lists .objects home .holder) (lists .objects home .depth) (sound .sound home .word)
-                    (sound .sound home .holder),
-              ),
-              other,
-            ))
-        at real small (inr (other, away, free, busy, same)) =
-            let steps : Steps (phase-number-at t other) =
-            rw (phase-is other) (steps-unparked (lists .threads other .state) free busy) in
-            inr (
-              other,
-              rw (represents .threadcount) (busy-in threads objects lists sound other busy .0),
-              away,
-              steps .0,
-              steps .1,
-              home-is threads objects t lists represents sound other busy ∙ same,
-            )
+        let home = lists .threads n .object in
+        let own = lists .objects home in
+        rw (home-is threads objects t lists represents sound n busy)
+        (either-way found
+        (λ (some, other). inl
+        (rw (ownership-is home real small, represents .threadcount)
+        ((omega (arith, some), owner-small threads (own .word) (own .holder) (own .depth) (sound .sound home .word) (sound .sound home .holder)), other)))
+        (λ (other, away, free, busy, same).
+        let steps : Steps (phase-number-at t other) = rw (phase-is other) (steps-unparked (lists .threads other .state) free busy) in
+        inr (
+          other,
+          rw (represents .threadcount) (busy-in threads objects lists sound other busy .0),
+          away,
+          steps .0,
+          steps .1,
+          home-is threads objects t lists represents sound other busy ∙ same,
+        )))
 
     pub represents-agrees : (plain : Plain) → World lists plain → Agrees t plain
     represents-agrees plain world =

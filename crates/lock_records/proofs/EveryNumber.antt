@@ -2,11 +2,12 @@
 use Prim.Native.Nat.{ℕ, zero, suc, _≤_, _<_}
 use mathlib.Core.Path.{_≡_, refl, sym, ap, _∙_, subst}
 use mathlib.Core.Logic.{_≢_, _⊎_, inl, inr}
-use mathlib.Core.Bool.{Bool, true, false}
+use mathlib.Core.Bool.{true}
 use native.Mathlib.Omega.{arith}
 use lib.Dec.{ltb, leb}
+use borrow.Author.Tests.{ltb-true, ltb-false, leb-true, leb-false}
 use Rattle.laws.specs.Count.{count}
-use Rattle.laws.proofs.Choice.{either-way, equal?, Below, below, AtMost, at-most}
+use Rattle.laws.proofs.Choice.{split, either-way, equal?}
 use Rattle.laws.proofs.Count.{count-none}
 use Rattle.chains.proofs.Chain.{Chain as Linked, members-none, chain-once}
 use Rattle.lock_rules.proofs.Each.{each-chain}
@@ -35,10 +36,6 @@ use Rattle.lock_records.proofs.ReadBack.{IsWritten, fits-written, none-
 abbrev pub thread-read : Table → ℕ → ListThread
 thread-read t n = record { object = thread-at t n .object; state = read-thread (thread-at t n) }
 
-object-none : (t : Table) → object-at t 0 ≡ no-object
-unfolding object-at
-object-none t = refl
-
 -- no chain of the empty record has a thread
 no-first : (chain : Chain) → first-in no-monitor (chain-number chain) ≡ 0
 unfolding first-in
@@ -47,20 +44,18 @@ no-first = each-chain _ (search)
 -- records by number, of which those in use are 1 to `last`: any other is empty
 by-range : {A : Type 0} (at : ℕ → A) (none : A) (last limit : ℕ) → at 0 ≡ none → ((n : ℕ) → limit < n → at n ≡ none)
     → ((n : ℕ) → 1 ≤ n → n ≤ limit → last < n → at n ≡ none) → (n : ℕ) → Within 1 last n ⊎ (at n ≡ none)
-by-range at none last limit first beyond past n = by (equal? n 0) (leb n last) (at-most n last) (ltb limit n) (below limit n)
-  where
-    by : (n ≡ 0) ⊎ (n ≢ 0) → (used : Bool) → AtMost used n last → (far : Bool) → Below far limit n → Within 1 last n ⊎ (at n ≡ none)
-    by (inl zero-it-is) used is-used far is-far = inr (ap at zero-it-is ∙ first)
-    by (inr some) true is-used far is-far = inl (omega (arith, some), is-used)
-    by (inr some) false unused true is-far = inr (beyond n is-far)
-    by (inr some) false unused false near = inr (past n (omega (arith, some)) near unused)
+by-range at none last limit first beyond past n =
+    either-way (equal? n 0) (λ e. inr (ap at e ∙ first))
+    (λ some. split (leb n last) (λ used. inl (omega (arith, some), leb-true n last used))
+    (λ unused. inr (split (ltb limit n) (λ far. beyond n (ltb-true limit n far))
+    (λ near. past n (omega (arith, some)) (ltb-false limit n near) (leb-false n last unused)))))
 
 module _ (t : Table) (sound : Sound t) where
   pub thread-where : (n : ℕ) → Within 1 (t .threadcount) n ⊎ (thread-at t n ≡ no-thread)
   thread-where = by-range (thread-at t) no-thread (t .threadcount) thread-limit (thread-none t) (thread-past t) (sound .threads-past)
 
   pub object-where : (o : ℕ) → Within 1 (t .objectcount) o ⊎ (object-at t o ≡ no-object)
-  object-where = by-range (object-at t) no-object (t .objectcount) object-limit (object-none t) (object-beyond t) (sound .objects-past)
+  object-where = by-range (object-at t) no-object (t .objectcount) object-limit (unfold object-at in refl) (object-beyond t) (sound .objects-past)
 
   -- every thread record is a fine state, written
   pub written-at : (n : ℕ) → IsWritten (t .objectcount) n (thread-at t n)
@@ -104,13 +99,10 @@ module _ (t : Table) (sound : Sound t) where
   parked-at chain n names =
       either-way (thread-where n)
       (λ used. subst (λ (k : ℕ). 0 < count n (threads-in-chain t (thread-at t n .object) k)) names (sound .parked n (used .0) (used .1) some))
-      (λ empty. absurd (some (ap thread-chain empty ∙ no-chain)))
+      (λ empty. absurd (some (ap thread-chain empty ∙ unfold chain-named phase-number in refl)))
     where
       some : thread-chain (thread-at t n) ≢ 0
       some none = omega (arith, none, names, chain-number-low chain)
-
-      no-chain : thread-chain no-thread ≡ 0
-      no-chain = unfold chain-named phase-number in refl
 
   -- so each thread is in each chain as often as its state, seen from there, says
   pub counted-at : (o : ℕ) (chain : Chain) (n : ℕ)

@@ -16,6 +16,7 @@ use Rattle.lock_rules.specs.{Numbers.phase-of, Rules.onward}
 use Rattle.lock_rules.proofs.Each.{each-doing, each-carried}
 use Rattle.lock_rules.proofs.Status.{unfinished}
 use Rattle.lock_rules.specs.declared.{Suspension.Suspension, OnwardStep.OnwardStep, Doing.Doing, ThreadState.ThreadState}
+use Rattle.lock_rules.specs.declared.Doing.the-variants.{EnterStore, ExitStore}
 use Rattle.lock_rules.specs.declared.ThreadState.the-variants.{Idle, Running, Queued, Contending, Waiting}
 use Rattle.lock_rules.proofs.ListSound.{SuspensionFine, DoingFine, StateFine}
 use Rattle.lock_table.specs.{Limits.thread-limit, Operation.operation-number, Parked.chain-named}
@@ -51,26 +52,20 @@ module _ (objects n o : ℕ) (own : ThreadRecord) (low : 1 ≤ n) (high : n ≤ 
       operation-number phase-number carried-number doing-activity
   doing-fits doing fine home out =
       each-doing (λ d. DoingFine d → fits? objects n (with-activity own (doing-activity n o d)) ≡ true) (
-        (
-          search (home, out),
-          λ count fine. rw (home, out, kept-read n count low high (omega arith), eq-eqb n n refl, le-leb count (count-limit - 1) (omega arith)),
-          search (home, out),
-          search (home, out),
-          search (home, out),
-          search (home, out),
-        ),
-        (
-          search (home, out),
-          λ count fine. rw (home, out, kept-read n count low high (fine .1), eq-eqb n n refl, le-leb 1 count (fine .0), le-leb count count-limit (fine .1)),
-          search (home, out),
-          search (home, out),
-          search (home, out),
-          search (home, out),
-        ),
+        (search (home, out), enters, search (home, out), search (home, out), search (home, out), search (home, out)),
+        (search (home, out), exits, search (home, out), search (home, out), search (home, out), search (home, out)),
         search (home, out, saved-inside),
         search (home, out),
         search (home, out),
       ) doing fine
+    where
+      enters : (count : ℕ) → DoingFine (EnterStore count) → fits? objects n (with-activity own (doing-activity n o (EnterStore count))) ≡ true
+      enters count fine =
+          rw (home, out, kept-read n count low high (omega arith), eq-eqb n n refl, le-leb count (count-limit - 1) (omega arith))
+
+      exits : (count : ℕ) → DoingFine (ExitStore count) → fits? objects n (with-activity own (doing-activity n o (ExitStore count))) ≡ true
+      exits count (some, most) =
+          rw (home, out, kept-read n count low high most, eq-eqb n n refl, le-leb 1 count some, le-leb count count-limit most)
 
   carried-fits : (carried : OnwardStep) → DoingFine (onward carried) → Home → fits? objects n (with-activity own (carried-activity o carried)) ≡ true
   unfolding operation-fits uses-phase carries-phase kept-fits saves-depth saved-fits chain-named unused-fits

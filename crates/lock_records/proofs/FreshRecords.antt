@@ -10,12 +10,11 @@ use Rattle.chains.specs.declared.named.Chain.{Chain}
 use Rattle.chains.proofs.Links.{Links, LinksRepresent}
 use Rattle.lock_word.specs.Read.{read-word, read-flat, read-reserved}
 use Rattle.lock_word.specs.Write.{write-word}
-use Rattle.lock_rules.proofs.Objects.{chain-of}
+use Rattle.lock_rules.proofs.{Each.each-chain, Objects.chain-of}
 use Rattle.lock_rules.proofs.Tables.{fresh-word, fresh}
 use Rattle.lock_table.specs.Limits.{thread-limit, object-limit}
 use Rattle.lock_table.specs.Record.{no-thread, no-object, with-word}
 use Rattle.lock_table.specs.Fresh.{first-word, fresh-thread, fresh-object, InRange, fresh-of}
-use Rattle.lock_table.specs.declared.record.ObjectRecord.{ObjectRecord}
 use Rattle.lock_table.specs.declared.fresh_table.FreshRequest.{FreshRequest}
 use Rattle.lock_table.proofs.FreshTables.{fresh-made, fresh-thread-at, fresh-used, fresh-past}
 use Rattle.lock_perform.specs.State.{write-activity}
@@ -33,9 +32,7 @@ fresh-represent reserved =
     record { chain = λ c. rw (none c); apart = λ c d n h k. absurd (omega (arith, h, ap (count n) (none c), count-none n)); loose = λ n h. refl }
   where
     empty : (o : ℕ) (chain : Chain) → chain-of chain (fresh reserved .objects o) ≡ []
-    empty o Chain.Entry = refl
-    empty o Chain.Contention = refl
-    empty o Chain.Waiting = refl
+    empty o = each-chain _ (search)
 
     none : (c : ℕ) → lists-of (fresh reserved .objects) c ≡ []
     none = by-number (λ c. lists-of (fresh reserved .objects) c ≡ []) (λ o chain. list-at (fresh reserved .objects) o chain ∙ empty o chain)
@@ -53,14 +50,7 @@ first-word-fits threads o true = refl
 first-word-fits threads o false = refl
 
 module _ (request : FreshRequest) (in-range : InRange request) where
-  abbrev objects : ℕ
-  objects = request .objects
-
-  -- what an object in use is given
-  abbrev used : ObjectRecord
-  used = with-word no-object (first-word (request .reserved))
-
-  pub fresh-represents : Represents (request .threads) objects (fresh-of request .table) (fresh (request .reserved))
+  pub fresh-represents : Represents (request .threads) (request .objects) (fresh-of request .table) (fresh (request .reserved))
   unfolding write-activity
   fresh-represents =
       rw (fresh-made request in-range)
@@ -71,8 +61,8 @@ module _ (request : FreshRequest) (in-range : InRange request) where
         object-room = in-range .3;
         given = record {
           thread = λ n. no-thread;
-          object = λ o. used;
-          thread-fits = λ n low high. no-thread-fits objects n;
+          object = λ o. with-word no-object (first-word (request .reserved));
+          thread-fits = λ n low high. no-thread-fits (request .objects) n;
           thread-past = λ n past. refl;
           object-fits = λ o low high. word-alone-fits (request .threads) o (first-word (request .reserved)) (first-word-fits (request .threads) o (request .reserved));
         };

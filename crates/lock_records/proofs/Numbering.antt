@@ -192,17 +192,13 @@ module _ (objects : ℕ → ListObject) (thread o : ℕ) (effect : Effect) where
 
   -- no work touches another object's chains
   other-lists : (work : ChainWork) (c : ℕ) → ((chain : Chain) → c ≢ number o chain) → work-lists thread o work (lists-of objects) c ≡ lists-of objects c
-  other-lists work c away = at work (λ chain list value. update-other list (number o chain) value c (away chain))
-    where
-      at : (work : ChainWork) → ((chain : Chain) (list : ℕ → List ℕ) (value : List ℕ) → update list (number o chain) value c ≡ list c)
-          → work-lists thread o work (lists-of objects) c ≡ lists-of objects c
-      at Stay same = refl
-      at (Join chain) same = simp same
-      at (JoinAndHand chain) same = simp same
-      at Hand same = simp same
-      at (Move from First) same = simp same
-      at (Move from All) same = simp same
-      at (SendBack owner) same = refl
+  other-lists Stay c away = refl
+  other-lists (Join chain) c away = update-other _ _ _ c (away chain)
+  other-lists (JoinAndHand chain) c away = update-other _ _ _ c (away chain) ∙ update-other _ _ _ c (away Chain.Entry)
+  other-lists Hand c away = update-other _ _ _ c (away Chain.Entry)
+  other-lists (Move from First) c away = update-other _ _ _ c (away Chain.Entry) ∙ update-other _ _ _ c (away from)
+  other-lists (Move from All) c away = update-other _ _ _ c (away Chain.Entry) ∙ update-other _ _ _ c (away from)
+  other-lists (SendBack owner) c away = refl
 
   pub lists-work : (work : ChainWork) → work-lists thread o work (lists-of objects) ≡ lists-of (update objects o (object-after work thread now))
   lists-work work =

@@ -1,9 +1,8 @@
 -- The engine's operations, of which one stands for none, against those that a begin asks for.
 use Prim.Native.Nat.{ℕ}
-use mathlib.Core.Path.{_≡_, refl}
-use mathlib.Core.Bool.{Bool, true, false}
+use mathlib.Core.Path.{_≡_}
 use lib.Dec.{eqb}
-use Rattle.laws.specs.Choice.{pick}
+use Rattle.laws.proofs.Choice.{split}
 use Rattle.lock_rules.proofs.Each.{each-operation}
 use Rattle.lock_rules.specs.{Numbers.asked-for, Rules.begun}
 use Rattle.lock_rules.specs.Operations.{Operation as AskedOperation, Enter as AskEnter, Exit as AskExit, Wait as AskWait, Notify as AskNotify}
@@ -33,17 +32,9 @@ asked-of NotifyAll = Known AskNotifyAll
 -- both read a number alike
 pub asked-from : (number : ℕ) → asked-for number ≡ asked-of (operation-from number)
 unfolding asked-for operation-from
-asked-from number = at (eqb number 1) (eqb number 2) (eqb number 3) (eqb number 4) (eqb number 5)
-  where
-    at : (a b c d e : Bool)
-        → pick a (Known AskEnter) (pick b (Known AskExit) (pick c (Known AskWait) (pick d (Known AskNotify) (pick e (Known AskNotifyAll) Unknown))))
-        ≡ asked-of (pick a Enter (pick b Exit (pick c Wait (pick d Notify (pick e NotifyAll Idle)))))
-    at true b c d e = refl
-    at false true c d e = refl
-    at false false true d e = refl
-    at false false false true e = refl
-    at false false false false true = refl
-    at false false false false false = refl
+asked-from number =
+    split (eqb number 1) (λ e. rw e) (λ no. rw no (split (eqb number 2) (λ e. rw e) (λ no. rw no (split (eqb number 3) (λ e. rw e) (λ no. rw no
+    (split (eqb number 4) (λ e. rw e) (λ no. rw no (split (eqb number 5) (λ e. rw e) (λ no. rw no)))))))))
 
 -- begin sets phase 1
 pub begun-written : (n o : ℕ) (operation : AskedOperation) → write-activity n o (Running (begun operation)) ≡ activity-of (operation-of operation) o Look 0 0

@@ -1,5 +1,5 @@
 -- A thread record whose fields are as soundness asks is some fine state, written: the one that it is read as.
-use Prim.Native.Nat.{ℕ, _<_}
+use Prim.Native.Nat.{ℕ}
 use mathlib.Core.Path.{_≡_, refl, sym, ap, _∙_}
 use mathlib.Core.Logic.{_≢_, inl, inr}
 use mathlib.Core.Bool.{Bool, true, false, not}
@@ -7,7 +7,7 @@ use native.Mathlib.Omega.{arith}
 use lib.Dec.{T, eqb, ltb}
 use borrow.Author.Tests.{eqb-false, ltb-true}
 use Rattle.laws.specs.Choice.{both}
-use Rattle.laws.proofs.Choice.{false≢true, both-first, both-second}
+use Rattle.laws.proofs.Choice.{either-way, false≢true, both-first, both-second}
 use Rattle.lock_word.specs.Read.{read-word}
 use Rattle.lock_word.specs.Write.{write-word, reserved-word, IsNumber}
 use Rattle.lock_word.specs.declared.reading.LockWord.the-variants.{Free, Flat, Anonymous, Reserved, Fat}
@@ -63,13 +63,9 @@ unkept-phase : (phase : Phase) → unkept? phase ≡ true → phase-number phase
 unkept-phase phase test = eqb-false (phase-number phase) 2 (reads-not (eqb (phase-number phase) 2) .read test)
 
 unsaved-phase : (phase : Phase) → unsaved? phase ≡ true → SavesDepth (phase-number phase) (carried-number phase) → ⊥
-unsaved-phase phase test =
+unsaved-phase phase test saves =
     let (small, other) = reads-both (reads-ltb (phase-number phase) 14) (reads-not (eqb (carried-number phase) 15)) .read test in
-    at small (eqb-false (carried-number phase) 15 other)
-  where
-    at : phase-number phase < 14 → carried-number phase ≢ 15 → SavesDepth (phase-number phase) (carried-number phase) → ⊥
-    at small other (inl (low, high)) = omega (arith, low, small)
-    at small other (inr carries) = other carries
+    either-way saves (λ inside. omega (arith, inside .0, small)) (eqb-false (carried-number phase) 15 other)
 
 -- the operation may be in the phase
 abbrev may-be-in? : Phase → Operation → Bool
@@ -106,6 +102,13 @@ module _ (objects n o kept saved : ℕ) (own : ThreadRecord) (is-number : IsNumb
   Back phase operation =
       let thread = with-activity own (activity-of operation o phase kept saved) in ThreadFits objects n thread → IsWritten objects n thread
 
+  -- the record of a thread that is not idle is that of a fine state
+  made : (phase : Phase) (operation : Operation) (state : ThreadState) → busy? phase ≡ true → StateFine state
+      → activity-of operation o phase kept saved ≡ write-activity n o state → Back phase operation
+  made phase operation state test fine written fits =
+      let home : Within 1 objects o = fits .operation (busy-phase phase test) .0 in
+      record { state = state; fine = fine; written = ap (with-activity own) written; home = λ busy. home; number = λ busy. is-number }
+
   -- a phase that uses neither kept word nor saved depth
   plain : (phase : Phase) (operation : Operation) → both (busy? phase) (both (unkept? phase) (unsaved? phase)) ≡ true
       → let state = read-activity (activity-of operation o phase 0 0) in
@@ -114,13 +117,7 @@ module _ (objects n o kept saved : ℕ) (own : ThreadRecord) (is-number : IsNumb
       let rest : both (unkept? phase) (unsaved? phase) ≡ true = both-second (busy? phase) _ test in
       let no-kept : kept ≡ 0 = fits .unused .kept (unkept-phase phase (both-first (unkept? phase) _ rest)) in
       let no-saved : saved ≡ 0 = fits .unused .saved (unsaved-phase phase (both-second (unkept? phase) _ rest)) in
-      record {
-        state = read-activity (activity-of operation o phase 0 0);
-        fine = fine;
-        written = ap (with-activity own) ((λ j. activity-of operation o phase (no-kept j) (no-saved j)) ∙ sym written);
-        home = λ busy. fits .operation (busy-phase phase (both-first (busy? phase) _ test)) .0;
-        number = λ busy. is-number;
-      }
+      made phase operation _ (both-first (busy? phase) _ test) fine ((λ j. activity-of operation o phase (no-kept j) (no-saved j)) ∙ sym written) fits
 
   -- one that uses the saved depth
   saving : (phase : Phase) (operation : Operation) → both (busy? phase) (unkept? phase) ≡ true → SavesDepth (phase-number phase) (carried-number phase)
@@ -129,13 +126,8 @@ module _ (objects n o kept saved : ℕ) (own : ThreadRecord) (is-number : IsNumb
       → Back phase operation
   saving phase operation test saves fine written fits =
       let no-kept : kept ≡ 0 = fits .unused .kept (unkept-phase phase (both-second (busy? phase) _ test)) in
-      record {
-        state = read-activity (activity-of operation o phase 0 saved);
-        fine = fine (fits .saved saves);
-        written = ap (with-activity own) ((λ j. activity-of operation o phase (no-kept j) saved) ∙ sym written);
-        home = λ busy. fits .operation (busy-phase phase (both-first (busy? phase) _ test)) .0;
-        number = λ busy. is-number;
-      }
+      made phase operation _ (both-first (busy? phase) _ test) (fine (fits .saved saves)) ((λ j. activity-of operation o phase (no-kept j) saved) ∙ sym written)
+      fits
 
   -- phase 2, which uses the kept word
   storing : (operation : Operation) (doing : ℕ → Doing) → ((count : ℕ) → KeptCountFits operation count → DoingFine (doing count))
@@ -145,13 +137,8 @@ module _ (objects n o kept saved : ℕ) (own : ThreadRecord) (is-number : IsNumb
   storing operation doing fine written fits =
       let (count, is-kept, fits-count) = kept-is n operation kept (fits .kept refl) in
       let no-saved : saved ≡ 0 = fits .unused .saved (unsaved-phase Store refl) in
-      record {
-        state = Running (doing count);
-        fine = fine count fits-count;
-        written = ap (with-activity own) ((λ j. activity-of operation o Store (is-kept j) (no-saved j)) ∙ sym (written count));
-        home = λ busy. fits .operation (busy-phase Store refl) .0;
-        number = λ busy. is-number;
-      }
+      made Store operation (Running (doing count)) refl (fine count fits-count)
+      ((λ j. activity-of operation o Store (is-kept j) (no-saved j)) ∙ sym (written count)) fits
 
   -- an idle thread has no operation and no object
   idle : (operation : Operation) → Back IdlePhase operation

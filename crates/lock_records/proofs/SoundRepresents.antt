@@ -160,9 +160,6 @@ module _ (t : Table) (sound : Sound t) where
       inr (used .1, low, high))
       (λ empty. inl (ap read-thread empty ∙ idle-none)))
 
-  fine-read : (n : ℕ) → StateFine (read-thread (thread-at t n))
-  fine-read n = subst StateFine (sym (state-back (t .objectcount) n (thread-at t n) (written-at t sound n))) (written-at t sound n .fine)
-
   -- and object by object
   module _ (depths : DepthsFit t) where
     object-fine : (o : ℕ) → ObjectFine (t .threadcount) (object-at t o)
@@ -183,7 +180,7 @@ module _ (t : Table) (sound : Sound t) where
     sound-read =
         record {
           range = range-read;
-          fine = fine-read;
+          fine = λ n. subst StateFine (sym (state-back (t .objectcount) n (thread-at t n) (written-at t sound n))) (written-at t sound n .fine);
           sound = λ o.
               record {
                 nobody = seen-idle o (thread-read t 0) (ap read-thread (thread-none t) ∙ idle-none);

@@ -65,13 +65,9 @@ known-operation (suc (suc (suc (suc (suc (suc more)))))) inside none =
     false≢true (rw (le-leb 1 number (omega arith), lt-leb number operation-limit (omega arith)) at inside)
 
 -- the status of a record that is written is that of its state
-status-doing : (n o : ℕ) (doing : Doing) → thread-status (doing-activity n o doing .phase) ≡ Ready
-unfolding thread-status doing-activity
-status-doing n o = each-doing _ (search)
-
 status-written : (n o : ℕ) (state : ThreadState) → thread-status (write-activity n o state .phase) ≡ status-of state
-unfolding thread-status write-activity carried-activity
-status-written n o = each-state _ (search, status-doing n o, each-carried _ (search), search, search)
+unfolding thread-status write-activity doing-activity carried-activity
+status-written n o = each-state _ (search, each-doing _ (search), each-carried _ (search), search, search)
 
 module _ (t : Table) where
   -- a begin: the object is written as it stands
