@@ -25,14 +25,10 @@ use Rattle.lock_table.specs.declared.record.ThreadRecord.{ThreadRecord}
 use Rattle.lock_table.specs.Record.{with-activity, with-next}
 use Rattle.lock_perform.specs.State.{doing-activity, carried-activity, write-activity, write-thread}
 use Rattle.sound_records.specs.Records.{uses-phase, carries-phase, operation-fits, kept-count-fits, reserved-for, kept-fits, saves-depth}
-use Rattle.sound_records.specs.Records.{saved-fits, unused-fits, used-thread-fits}
-use Rattle.sound_records.proofs.Reading.{Within, ThreadFits, reads-thread}
+use Rattle.sound_records.specs.Records.{saved-fits, unused-fits}
+use Rattle.sound_records.proofs.Reading.{Within, ThreadFits, activity-fits?, written-thread-fits}
 use Rattle.laws.proofs.Facts.{reads-within}
 use Rattle.lock_records.proofs.Naming.{running-names-none}
-
--- the clauses that are about one thread's record, as one test that computes on a record that is written
-abbrev fits? : ℕ → ℕ → ThreadRecord → Bool
-fits? objects n thread = used-thread-fits objects n (phase-number (thread .phase)) (carried-number (thread .phase)) thread
 
 -- a kept word is read as it was written
 kept-read : (n count : ℕ) → 1 ≤ n → n ≤ thread-limit → count ≤ count-limit → read-word (reserved-word n count) ≡ Valid (Reserved (thread-number n) count)
@@ -47,11 +43,11 @@ module _ (objects n o : ℕ) (own : ThreadRecord) (low : 1 ≤ n) (high : n ≤ 
   abbrev Home : Type 0
   Home = within 1 objects o ≡ true
 
-  doing-fits : (doing : Doing) → DoingFine doing → Home → own .next ≡ 0 → fits? objects n (with-activity own (doing-activity n o doing)) ≡ true
+  doing-fits : (doing : Doing) → DoingFine doing → Home → own .next ≡ 0 → activity-fits? objects n (with-activity own (doing-activity n o doing)) ≡ true
   unfolding operation-fits uses-phase carries-phase kept-fits reserved-for kept-count-fits saves-depth saved-fits chain-named unused-fits
       operation-number phase-number carried-number doing-activity
   doing-fits doing fine home out =
-      each-doing (λ d. DoingFine d → fits? objects n (with-activity own (doing-activity n o d)) ≡ true) (
+      each-doing (λ d. DoingFine d → activity-fits? objects n (with-activity own (doing-activity n o d)) ≡ true) (
         (search (home, out), enters, search (home, out), search (home, out), search (home, out), search (home, out)),
         (search (home, out), exits, search (home, out), search (home, out), search (home, out), search (home, out)),
         search (home, out, saved-inside),
@@ -59,22 +55,22 @@ module _ (objects n o : ℕ) (own : ThreadRecord) (low : 1 ≤ n) (high : n ≤ 
         search (home, out),
       ) doing fine
     where
-      enters : (count : ℕ) → DoingFine (EnterStore count) → fits? objects n (with-activity own (doing-activity n o (EnterStore count))) ≡ true
+      enters : (count : ℕ) → DoingFine (EnterStore count) → activity-fits? objects n (with-activity own (doing-activity n o (EnterStore count))) ≡ true
       enters count fine =
           rw (home, out, kept-read n count low high (omega arith), eq-eqb n n refl, le-leb count (count-limit - 1) (omega arith))
 
-      exits : (count : ℕ) → DoingFine (ExitStore count) → fits? objects n (with-activity own (doing-activity n o (ExitStore count))) ≡ true
+      exits : (count : ℕ) → DoingFine (ExitStore count) → activity-fits? objects n (with-activity own (doing-activity n o (ExitStore count))) ≡ true
       exits count (some, most) =
           rw (home, out, kept-read n count low high most, eq-eqb n n refl, le-leb 1 count some, le-leb count count-limit most)
 
-  carried-fits : (carried : OnwardStep) → DoingFine (onward carried) → Home → fits? objects n (with-activity own (carried-activity o carried)) ≡ true
+  carried-fits : (carried : OnwardStep) → DoingFine (onward carried) → Home → activity-fits? objects n (with-activity own (carried-activity o carried)) ≡ true
   unfolding operation-fits uses-phase carries-phase kept-fits saves-depth saved-fits chain-named unused-fits
       operation-number phase-number carried-number onward-number carried-activity
   carried-fits carried fine home =
-      each-carried (λ c. DoingFine (onward c) → fits? objects n (with-activity own (carried-activity o c)) ≡ true) (search (home, saved-inside)) carried fine
+      each-carried (λ c. DoingFine (onward c) → activity-fits? objects n (with-activity own (carried-activity o c)) ≡ true) (search (home, saved-inside)) carried fine
 
   state-fits : (state : ThreadState) → StateFine state → (T (unfinished state) → Home) → (chain-named (phase-of state) ≡ 0 → own .next ≡ 0)
-      → fits? objects n (write-thread n o state own) ≡ true
+      → activity-fits? objects n (write-thread n o state own) ≡ true
   unfolding operation-fits uses-phase carries-phase kept-fits saves-depth saved-fits chain-named unused-fits
       operation-number phase-number carried-number write-activity
   state-fits Idle fine home out = rw (out refl)
@@ -89,6 +85,5 @@ pub written-fits : (objects n o : ℕ) (given : ThreadRecord) (next : ℕ) → 1
     → (state : ThreadState) → StateFine state → (T (unfinished state) → Within 1 objects o) → (chain-named (phase-of state) ≡ 0 → next ≡ 0)
     → ThreadFits objects n (write-thread n o state (with-next given next))
 written-fits objects n o given next low high fits state fine home out =
-    let own = with-next given next in
-    reads-thread objects n (write-thread n o state own) .read
-    (state-fits objects n o own low high state fine (λ busy. reads-within 1 objects o .make (home busy)) out)
+    written-thread-fits objects n given next (write-activity n o state) fits
+    (state-fits objects n o (with-next given next) low high state fine (λ busy. reads-within 1 objects o .make (home busy)) out)

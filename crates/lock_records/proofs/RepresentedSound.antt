@@ -20,11 +20,11 @@ use Rattle.lock_table.specs.declared.record.{ObjectRecord.ObjectRecord, Table.T
 use Rattle.lock_table.proofs.Walks.{next-none}
 use Rattle.lock_perform.specs.State.{write-activity, write-thread}
 use Rattle.lock_records.proofs.Numbering.{number, lists-of, list-at, by-number}
-use Rattle.lock_records.proofs.Written.{phase-written, word-read}
-use Rattle.lock_records.proofs.Represents.{thread-record, Represents, next-is}
+use Rattle.lock_records.proofs.Written.{phase-written, word-written, word-read}
+use Rattle.lock_records.proofs.Represents.{thread-record, monitor-record, Represents, next-is}
 use Rattle.lock_records.proofs.Readings.{past-idle, busy-in, thread-is, home-is, first-is, chained}
 use Rattle.lock_soundness.specs.Sound.{sound-of}
-use Rattle.sound_records.proofs.Reading.{Within, chain-kinds, ObjectFits, ThreadFits}
+use Rattle.sound_records.proofs.Reading.{Within, chain-kinds, ObjectFits, ThreadFits, written-object-fits}
 use Rattle.lock_soundness.proofs.Chained.{follow, chain-leads}
 use Rattle.lock_soundness.proofs.Reading.{threads-in-chain, Sound, sound-made}
 use Rattle.lock_records.proofs.Naming.{chain-number, chain-number-low, by-chain, named-once, unnamed-never, in-named, named-busy}
@@ -132,17 +132,16 @@ module _ (t : Table) (lists : ListTable) (represents : Represents (t .threadcoun
   object-fits : (o : ℕ) → 1 ≤ o → o ≤ t .objectcount → ObjectFits (t .threadcount) o (object-at t o)
   object-fits o low high =
       subst (ObjectFits (t .threadcount) o) (sym (represents .object-is o low high))
-      (record {
-        word =
-            rw
-            (word-read (t .threadcount) o (represents .thread-room) low (omega (arith, high, represents .object-room)) (lists .objects o .word)
-            (sound .sound o .word)) (word-fits (t .threadcount) o (lists .objects o .word) (sound .sound o .word));
-        holder = sound .sound o .holder;
-        unheld = λ unheld. (
-          sound .sound o .shallow unheld,
-          first-is (t .threadcount) (t .objectcount) t lists represents sound o Chain.Entry ∙ ap head (sound .sound o .empty unheld),
-        );
-      })
+      (written-object-fits (t .threadcount) o (represents .given .object o) (word-written o (lists .objects o .word))
+      (monitor-record o (represents .links) (lists .objects o .holder) (lists .objects o .depth)) (lists .objects o .flag) (represents .given .object-fits o low high)
+      (rw
+      (word-read (t .threadcount) o (represents .thread-room) low (omega (arith, high, represents .object-room)) (lists .objects o .word)
+      (sound .sound o .word)) (word-fits (t .threadcount) o (lists .objects o .word) (sound .sound o .word)))
+      (sound .sound o .holder)
+      (λ unheld. (
+        sound .sound o .shallow unheld,
+        first-is (t .threadcount) (t .objectcount) t lists represents sound o Chain.Entry ∙ ap head (sound .sound o .empty unheld),
+      )))
 
   clauses-hold : 1 ≤ t .threadcount → 1 ≤ t .objectcount → Sound t
   clauses-hold some-thread some-object =

@@ -79,10 +79,10 @@ rule-high table (Begin operation thread object) = refl
 rule-high table (Step thread) = refl
 
 pub demand-one : DemandOne
-demand-one table whole event = (
+demand-one table typed event = (
   refused-by-first (refusals table event) (handle table event) (numbered-high
       (gate-rows (sound-of table) (table .threadcount) (table .objectcount) event (thread-status (thread-at table (event-thread event) .phase)))
       (rule-rows table event) (rule-high table event))
-      (event-ended table whole event .refused),
-  event-ended table whole event .left,
+      (event-ended table typed event .refused),
+  event-ended table typed event .left,
 )

@@ -3,7 +3,7 @@ use crate::operation::Operation;
 use crate::phase::Phase;
 use lock_word::Depth;
 ghost use mathlib.Core.Path.{_≡_};
-ghost use Rattle.lock_table.specs.Record.{no-thread, no-monitor, no-object, no-activity, with-activity, idle, with-phase, with-next};
+ghost use Rattle.lock_table.specs.Record.{no-thread, no-monitor, no-object, no-activity, with-activity, with-phase, with-next};
 ghost use Rattle.lock_table.specs.Record.{with-word, with-flag, with-monitor};
 
 // The most threads and objects that a table can have.
@@ -118,13 +118,6 @@ impl ThreadRecord {
             phase: phase,
             ..self
         }
-    }
-
-    // The thread with no operation: who ends one comes through here.
-    pub fn idle(self) -> ThreadRecord
-        ensures { λ r. ⌜ r ≡ idle self ⌝ }
-    {
-        self.with_activity(no_activity())
     }
 
     pub fn with_phase(self, phase: Phase) -> ThreadRecord

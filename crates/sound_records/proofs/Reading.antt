@@ -15,14 +15,14 @@ use Rattle.lock_word.specs.declared.reading.Decoded.{Decoded}
 use Rattle.lock_word.specs.declared.reading.Decoded.the-variants.{Valid, Invalid}
 use Rattle.lock_table.specs.Operation.{operation-number}
 use Rattle.lock_table.specs.Phase.{phase-number, carried-number}
-use Rattle.lock_table.specs.Record.{no-thread, no-monitor, no-object, with-word}
+use Rattle.lock_table.specs.Record.{no-thread, no-monitor, no-object, with-activity, with-next, with-word, with-flag, with-monitor}
 use Rattle.lock_table.specs.Parked.{chain-named, thread-chain}
 use Rattle.lock_table.specs.declared.operation.Operation.{Operation}
 use Rattle.lock_table.specs.declared.operation.Operation.the-variants.{Idle, Enter, Exit, Wait, Notify, NotifyAll}
 use Rattle.lock_table.specs.declared.phase.Phase.{Phase}
 use Rattle.lock_table.specs.declared.phase.Phase.the-variants.{Idle as idle-phase, Look, Store, Cancel, GoIn, Queued, Check, Try, Contending, Test}
 use Rattle.lock_table.specs.declared.phase.Phase.the-variants.{Tell, Leave, Inflate, GiveUp, Waiting, Resume}
-use Rattle.lock_table.specs.declared.record.{ThreadRecord.ThreadRecord, Monitor.Monitor, ObjectRecord.ObjectRecord}
+use Rattle.lock_table.specs.declared.record.{ThreadRecord.ThreadRecord, Activity.Activity, Monitor.Monitor, ObjectRecord.ObjectRecord}
 use Rattle.sound_records.specs.Records.{word-fits, uses-phase, carries-phase, operation-fits, kept-count-fits, reserved-for, kept-fits}
 use Rattle.sound_records.specs.Records.{saves-depth, saved-fits, unheld-fits, names-chain, unused-fits, used-object-fits, used-thread-fits}
 use Rattle.sound_records.specs.Records.{empty-thread, empty-monitor, empty-object}
@@ -255,6 +255,25 @@ reads-thread objects n thread =
     (reads-both (reads-kept n phase thread) (reads-both (reads-saved phase carried thread) (reads-unused phase carried thread))))
     (λ (operation, (kept, (saved, unused))). record { operation = operation; kept = kept; saved = saved; unused = unused })
     (λ fits. (fits .operation, (fits .kept, (fits .saved, fits .unused))))
+
+-- What is written into a record that fits leaves what stands beside it, of which the clauses above ask nothing yet. So a thread's record fits where the
+-- clauses that go by its phase pass,
+abbrev pub activity-fits? : ℕ → ℕ → ThreadRecord → Bool
+activity-fits? objects n thread =
+    let phase = phase-number (thread .phase) in
+    let carried = carried-number (thread .phase) in
+    both (operation-fits objects phase carried thread)
+    (both (kept-fits n phase thread) (both (saved-fits phase carried thread) (unused-fits phase carried thread)))
+
+pub written-thread-fits : (objects n : ℕ) (given : ThreadRecord) (next : ℕ) (activity : Activity) → ThreadFits objects n given
+    → let thread = with-activity (with-next given next) activity in activity-fits? objects n thread ≡ true → ThreadFits objects n thread
+written-thread-fits objects n given next activity fits = reads-thread objects n (with-activity (with-next given next) activity) .read
+
+-- and an object's where its word and its monitor fit
+pub written-object-fits : (threads o : ℕ) (given : ObjectRecord) (word : ℕ) (monitor : Monitor) (flag : Bool) → ObjectFits threads o given
+    → WordFits threads o (read-word word) → monitor .holder ≤ threads → UnheldFits monitor
+    → ObjectFits threads o (with-flag (with-monitor (with-word given word) monitor) flag)
+written-object-fits threads o given word monitor flag fits valid holder unheld = record { word = valid; holder = holder; unheld = unheld }
 
 -- an object's record with nothing but a word
 pub word-alone-fits : (threads o word : ℕ) → word-fits threads o (read-word word) ≡ true → ObjectFits threads o (with-word no-object word)

@@ -3,7 +3,7 @@ use mathlib.Core.Path.{refl}
 use Rattle.lock_word.specs.Read.{read-word, read-flat, read-reserved, fat-of}
 use Rattle.lock_word.specs.Meaning.{owned-by}
 use Rattle.laws.specs.Sequence.{tabulate}
-use Rattle.lock_table.specs.{Access.object-at, Fresh.first-word, Operation.operation-number, Phase.phase-number, Parked.chain-named}
+use Rattle.lock_table.specs.{Access.object-at, Fresh.first-word, Fresh.fresh-of, Fresh.fresh-object, Operation.operation-number, Phase.phase-number, Parked.chain-named}
 use Rattle.lock_perform.specs.Moving.{thread-set}
 use Rattle.sound_records.specs.Records.{names-chain, unused-fits, saves-depth}
 use Rattle.lock_rules.specs.Rules.{exit-tell}
@@ -29,7 +29,7 @@ word-examples =
     }
 
 pub record-examples : RecordExamples
-unfolding tabulate object-at first-word operation-number phase-number chain-named names-chain unused-fits saves-depth thread-set
+unfolding tabulate object-at fresh-of fresh-object first-word operation-number phase-number chain-named names-chain unused-fits saves-depth thread-set
 record-examples =
     record {
       free = refl;

@@ -1,12 +1,12 @@
 -- Examples of records: the words of a fresh table, what soundness asks of a thread's record, a monitor that is handed on, and a field in bytes.
 use mathlib.Core.Path.{_≡_}
-use mathlib.Core.Bool.{true, false}
+use mathlib.Core.Bool.{Bool, true, false}
 use mathlib.Core.List.{[], _∷_, _++_}
 use Prim.Native.Nat.{ℕ, _+_}
 use lib.ListN.{replicate}
 use Rattle.lock_table.specs.Record.{no-thread, with-activity, with-next}
 use Rattle.lock_table.specs.Access.{object-at}
-use Rattle.lock_table.specs.Fresh.{first-word}
+use Rattle.lock_table.specs.Fresh.{sized-request, fresh-of}
 use Rattle.lock_table.specs.Monitor.{hand-of}
 use Rattle.lock_table.specs.declared.operation.Operation.the-variants.{Enter}
 use Rattle.lock_table.specs.declared.phase.Phase.{Phase}
@@ -23,6 +23,10 @@ use Rattle.table_bytes.specs.Reading.{table-of}
 abbrev pub entering : ℕ → Phase → ThreadRecord
 entering kept phase = with-activity no-thread (record { kept = kept; saved = 0; object = 1; operation = Enter; phase = phase })
 
+-- the word of the one object of a fresh table
+abbrev pub fresh-word : Bool → ℕ
+fresh-word reserved = object-at (fresh-of (sized-request 1 1 reserved) .table) 1 .word
+
 -- thread 1 holds the monitor, and thread 2 is the first in its entry chain
 abbrev pub held : Monitor
 held = record { depth = 1; holder = 1; entry = 2; contention = 0; waiting = 0 }
@@ -33,8 +37,8 @@ holder-by place = object-at (table-of (replicate place 0 ++ (3 ∷ []))) 1 .moni
 
 pub record RecordExamples : Type 0 where
   -- the words of a fresh table: free, and anonymously reserved
-  pub free : first-word false ≡ 0x000000
-  pub reserved : first-word true ≡ 0x000002
+  pub free : fresh-word false ≡ 0x000000
+  pub reserved : fresh-word true ≡ 0x000002
   -- a kept word in phase 2 and in phase 1
   pub kept-used : unused-fits 2 0 (entering 0x000106 Look) ≡ true
   pub kept-unused : unused-fits 1 0 (entering 0x000106 Look) ≡ false
