@@ -42,6 +42,8 @@ record-examples =
       handed-holder = refl;
       handed-entry = refl;
       handed-set = refl;
+      joined-front = refl;
+      joined-back = refl;
       flag-place = refl;
       holder-place = refl;
     }

@@ -4,6 +4,7 @@ use mathlib.Core.Bool.{Bool, true, false}
 use mathlib.Core.List.{[], _∷_, _++_}
 use Prim.Native.Nat.{ℕ, _+_}
 use lib.ListN.{replicate}
+use Rattle.chains.specs.declared.named.Chain.{Chain}
 use Rattle.lock_table.specs.Record.{no-thread, with-activity, with-next}
 use Rattle.lock_table.specs.Access.{object-at}
 use Rattle.lock_table.specs.Fresh.{sized-request, fresh-of}
@@ -14,7 +15,7 @@ use Rattle.lock_table.specs.declared.phase.Phase.the-variants.{Look, Queued}
 use Rattle.lock_table.specs.declared.phase.Onward.the-variants.{ToCheck}
 use Rattle.lock_table.specs.declared.record.ThreadRecord.{ThreadRecord}
 use Rattle.lock_table.specs.declared.record.Monitor.{Monitor}
-use Rattle.lock_perform.specs.Moving.{plan-hand}
+use Rattle.lock_perform.specs.Moving.{joining, plan-hand}
 use Rattle.sound_records.specs.Records.{names-chain, unused-fits}
 use Rattle.table_bytes.specs.Layout.{objects-start}
 use Rattle.table_bytes.specs.Reading.{table-of}
@@ -51,6 +52,9 @@ pub record RecordExamples : Type 0 where
   pub handed-entry : hand-of held 3 .monitor .entry ≡ 3
   -- which unparks thread 2 alone: bit 1 of the set
   pub handed-set : plan-hand held (with-next no-thread 3) .unparked ≡ 2
+  -- thread 3 joins the entry chain, which begins with thread 2: it is hung behind that chain, not the chain behind itself
+  pub joined-front : joining no-thread held 0 Chain.Entry 3 .front ≡ 2
+  pub joined-back : joining no-thread held 0 Chain.Entry 3 .back ≡ 3
   -- object 1 in bytes: four of its word, one of its flag, one of its holder
   pub flag-place : holder-by (objects-start + 4) ≡ 0
   pub holder-place : holder-by (objects-start + 5) ≡ 3
