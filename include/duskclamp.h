@@ -22,7 +22,7 @@
  *     DUSKCLAMP_RETURNED(answer) == DUSKCLAMP_FINISHED
  * and never `answer == DUSKCLAMP_FINISHED`.
  *
- * Stack: a begin, a step and a run need up to 6.1 KB, a fresh table 5.5 KB and a question 6.0 KB, beside what memcpy and memset need. The frames of the
+ * Stack: a begin, a step and a run need up to 6.1 KB, a fresh table 5.9 KB and a question 6.0 KB, beside what memcpy and memset need. The frames of the
  * machine code add up to that along the deepest calls, and no function calls itself; bench/stack.c, on a stack filled with a pattern, measures no more.
  */
 #ifndef DUSKCLAMP_H
