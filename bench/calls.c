@@ -1,12 +1,11 @@
 /* Makes one call of the library for C over and over, each time on the same table: the bytes are copied back before it. bench/calls.py times it, and
  * takes off what the copying costs.
- * Arguments: table (typical, idle, worst), call (none, begin, step, refused, run), events in a call of run, repeats. */
+ * Arguments: table (typical, idle, worst, waiting), call (none, begin, step, refused, tick, run, ticks), events in a call of run or ticks, repeats. */
 #include "duskclamp.h"
 #include <stdio.h>
 #include <stdlib.h>
 #include <string.h>
 
-#define EVENT_SIZE 8
 #define MOST_EVENTS 64
 
 static uint8_t saved[DUSKCLAMP_TABLE_SIZE], table[DUSKCLAMP_TABLE_SIZE];
@@ -46,31 +45,44 @@ static void make_worst(void) {
         perform(thread, DUSKCLAMP_ENTER, 1);
 }
 
-#ifdef HAS_RUN
-/* An enter and an exit of the last object, five events, again and again: kind (0 begins, 1 steps), thread, operation, object. */
-static const uint8_t turn[5][EVENT_SIZE] = {{0, 0, DUSKCLAMP_ENTER}, {1}, {0, 0, DUSKCLAMP_EXIT}, {1}, {1}};
+/* Six of 8 threads are in timed waits at 3 of 16 objects, with the longest limit. */
+static void make_waiting(void) {
+    caller = 8, last_object = 16;
+    duskclamp_fresh(saved, sizeof saved, caller, last_object, 0);
+    for (uint32_t thread = 1; thread < caller - 1; thread++) {
+        perform(thread, DUSKCLAMP_ENTER, 1 + thread % 3);
+        duskclamp_timed_wait(saved, sizeof saved, thread, 1 + thread % 3, DUSKCLAMP_TICKS);
+        while (DUSKCLAMP_RETURNED(duskclamp_step(saved, sizeof saved, thread)) == DUSKCLAMP_GONE_ON) {
+        }
+    }
+}
 
-static void run_events(size_t count, long repeats) {
-    static uint8_t events[MOST_EVENTS][EVENT_SIZE];
+/* An enter and an exit of the last object, five events, again and again; thread and object are filled in. */
+static const duskclamp_event turn[5] = {{DUSKCLAMP_KIND_BEGIN, 0, DUSKCLAMP_ENTER, 0, 0}, {DUSKCLAMP_KIND_STEP, 0, 0, 0, 0},
+    {DUSKCLAMP_KIND_BEGIN, 0, DUSKCLAMP_EXIT, 0, 0}, {DUSKCLAMP_KIND_STEP, 0, 0, 0, 0}, {DUSKCLAMP_KIND_STEP, 0, 0, 0, 0}};
+static const duskclamp_event tick = {DUSKCLAMP_KIND_TICK, 0, 0, 0, 0};
+
+static void run_events(int ticks, size_t count, long repeats) {
+    static duskclamp_event events[MOST_EVENTS];
     static uint64_t answers[MOST_EVENTS];
     for (size_t place = 0; place < count; place++) {
-        memcpy(events[place], turn[place % 5], EVENT_SIZE);
-        events[place][1] = (uint8_t)caller;
-        if (events[place][0] == 0)
-            events[place][3] = (uint8_t)last_object;
+        events[place] = ticks ? tick : turn[place % 5];
+        if (!ticks) {
+            events[place].thread = (uint8_t)caller;
+            events[place].object = (uint8_t)last_object;
+        }
     }
     for (; repeats > 0; repeats--) {
         memcpy(table, saved, sizeof table);
-        kept = duskclamp_run(table, sizeof table, &events[0][0], count * EVENT_SIZE, answers, count);
+        kept = duskclamp_run(table, sizeof table, (const uint8_t *)events, count * sizeof *events, answers, count);
     }
     for (size_t place = 0; place < count; place++)
         if (DUSKCLAMP_RETURNED(answers[place]) > DUSKCLAMP_FINISHED)
             fprintf(stderr, "calls: event %zu is answered %u\n", place, DUSKCLAMP_RETURNED(answers[place])), exit(1);
 }
-#endif
 
 static void call(const char *name, long repeats) {
-    int begins = !strcmp(name, "begin"), steps = !strcmp(name, "step"), refused = !strcmp(name, "refused");
+    int begins = !strcmp(name, "begin"), steps = !strcmp(name, "step"), refused = !strcmp(name, "refused"), ticks = !strcmp(name, "tick");
     if (steps)
         duskclamp_begin(saved, sizeof saved, caller, DUSKCLAMP_ENTER, last_object);
     for (; repeats > 0; repeats--) {
@@ -79,11 +91,13 @@ static void call(const char *name, long repeats) {
             kept = duskclamp_begin(table, sizeof table, caller, DUSKCLAMP_ENTER, last_object);
         else if (steps || refused)
             kept = duskclamp_step(table, sizeof table, caller);
+        else if (ticks)
+            kept = duskclamp_tick(table, sizeof table);
         else
             kept = table[repeats % sizeof table];
     }
     uint32_t expected = steps ? DUSKCLAMP_FINISHED : refused ? DUSKCLAMP_THREAD_IDLE : DUSKCLAMP_GONE_ON;
-    if ((begins || steps || refused) && DUSKCLAMP_RETURNED(kept) != expected)
+    if ((begins || steps || refused || ticks) && DUSKCLAMP_RETURNED(kept) != expected)
         fprintf(stderr, "calls: %s is answered %u\n", name, DUSKCLAMP_RETURNED(kept)), exit(1);
 }
 
@@ -96,14 +110,14 @@ int main(int count, char **arguments) {
         make_typical();
     else if (!strcmp(arguments[1], "idle"))
         make_idle();
+    else if (!strcmp(arguments[1], "waiting"))
+        make_waiting();
     else
         make_worst();
-#ifdef HAS_RUN
-    if (!strcmp(arguments[2], "run")) {
-        run_events(strtoul(arguments[3], NULL, 10), atol(arguments[4]));
+    if (!strcmp(arguments[2], "run") || !strcmp(arguments[2], "ticks")) {
+        run_events(!strcmp(arguments[2], "ticks"), strtoul(arguments[3], NULL, 10), atol(arguments[4]));
         return 0;
     }
-#endif
     call(arguments[2], atol(arguments[4]));
     return 0;
 }

@@ -23,13 +23,16 @@ static volatile uint64_t answer;
 static void call_nothing(void) { answer = 0; }
 static void call_fresh(void) { answer = duskclamp_fresh(table, sizeof table, sizes, 4, kind); }
 static void call_begin(void) { answer = duskclamp_begin(table, sizeof table, thread, operation, object); }
+static void call_timed_wait(void) { answer = duskclamp_timed_wait(table, sizeof table, thread, object, 1 + operation); }
+static void call_tick(void) { answer = duskclamp_tick(table, sizeof table); }
 static void call_step(void) { answer = duskclamp_step(table, sizeof table, thread); }
 
-/* The same begin and step in one call. */
+/* The same begin, step and tick in one call. */
 static void call_run(void) {
-    uint64_t answers[2];
-    duskclamp_event events[2] = {{DUSKCLAMP_KIND_BEGIN, (uint8_t)thread, (uint8_t)operation, (uint8_t)object, 0}, {DUSKCLAMP_KIND_STEP, (uint8_t)thread, 0, 0, 0}};
-    answer = duskclamp_run(table, sizeof table, (const uint8_t *)events, sizeof events, answers, 2);
+    uint64_t answers[3];
+    duskclamp_event events[3] = {{DUSKCLAMP_KIND_BEGIN, (uint8_t)thread, (uint8_t)operation, (uint8_t)object, 3},
+        {DUSKCLAMP_KIND_STEP, (uint8_t)thread, 0, 0, 0}, {DUSKCLAMP_KIND_TICK, 0, 0, 0, 0}};
+    answer = duskclamp_run(table, sizeof table, (const uint8_t *)events, sizeof events, answers, 3);
 }
 
 static void call_questions(void) {
@@ -69,26 +72,28 @@ static void keep(size_t *most, size_t found) {
 }
 
 int main(void) {
-    size_t fresh = 0, begin = 0, step = 0, run = 0, questions = 0, nothing = used(call_nothing);
+    size_t fresh = 0, begin = 0, step = 0, tick = 0, run = 0, questions = 0, nothing = used(call_nothing);
     for (int round = 0; round < 8; round++) {
         sizes = 32;
         kind = round % 2;
         keep(&fresh, used(call_fresh));
         for (int event = 0; event < EVENTS; event++) {
             thread = draw(32) + 1;
-            operation = draw(5) + 1;
+            operation = draw(6) + 1;
             object = draw(4) + 1;
             if (event % 2 == 0) {
-                keep(&begin, used(call_begin));
+                keep(&begin, used(operation == DUSKCLAMP_TIMED_WAIT ? call_timed_wait : call_begin));
                 keep(&step, used(call_step));
             } else {
                 keep(&run, used(call_run));
             }
+            if (event % 16 == 8)
+                keep(&tick, used(call_tick));
             if (event % 16 == 0)
                 keep(&questions, used(call_questions));
         }
     }
-    printf("fresh %zu, begin %zu, step %zu, run %zu, questions %zu bytes\n", fresh - nothing, begin - nothing, step - nothing, run - nothing,
-           questions - nothing);
+    printf("fresh %zu, begin %zu, step %zu, tick %zu, run %zu, questions %zu bytes\n", fresh - nothing, begin - nothing, step - nothing,
+           tick - nothing, run - nothing, questions - nothing);
     return 0;
 }

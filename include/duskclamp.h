@@ -7,14 +7,14 @@
  * A table is DUSKCLAMP_TABLE_SIZE bytes, which the caller owns, keeps and may copy. No call keeps a pointer, allocates, or blocks. Two calls on
  * one table at the same time are a data race, as on any other memory: the caller sees to it that there is one at a time.
  *
- * `bytes` must point to `length` bytes that may be read and, in duskclamp_fresh, duskclamp_begin, duskclamp_step and duskclamp_run, written. That is
- * all that is asked of a caller, with the events and the room for answers of duskclamp_run: any bytes and any numbers are answered. A refused event
- * stores nothing in the table, save that 18 and 19 make the thread's record that of an idle one. What each call answers, and which bytes it leaves, is
- * proved of the library; this declaration of it is not checked against its source.
+ * `bytes` must point to `length` bytes that may be read and, where they are not const, written. That is all that is asked of a caller, with the events
+ * and the room for answers of duskclamp_run: any bytes and any numbers are answered. A refused event stores nothing in the table, save that 18 and 19
+ * make the thread's record that of an idle one. What each call answers, and which bytes it leaves, is proved of the library; this declaration of it is
+ * not checked against its source.
  *
  * What bytes are no table, and are answered 11 by every call that takes a table:
  *  - any number of bytes but DUSKCLAMP_TABLE_SIZE;
- *  - an operation above 5, a phase above 15, or a contention flag above 1 in any of the 96 records;
+ *  - an operation above 6, a phase above 15, or a contention flag above 1 in any of the 96 records;
  *  - a phase that a queued thread carries (phase 5) that is not 6, 10, 12 or 15, or a carried phase other than 0 in any other phase.
  * All other bytes are a table. It may still not be sound: then events are answered 11 too, and questions by what its records say.
  *
@@ -22,8 +22,8 @@
  *     DUSKCLAMP_RETURNED(answer) == DUSKCLAMP_FINISHED
  * and never `answer == DUSKCLAMP_FINISHED`.
  *
- * Stack: a begin, a step and a run need up to 6.1 KB, a fresh table 5.9 KB and a question 6.0 KB, beside what memcpy and memset need. The frames of the
- * machine code add up to that along the deepest calls, and no function calls itself; bench/stack.c, on a stack filled with a pattern, measures no more.
+ * Stack: a step, a tick and a run need up to 12.1 KB, a begin 6.8 KB, a fresh table and a question 6.6 KB, beside what memcpy and memset need. So
+ * measured by bench/stack.c, on a stack filled with a pattern, over a long schedule; no function calls itself.
  */
 #ifndef DUSKCLAMP_H
 #define DUSKCLAMP_H
@@ -37,19 +37,22 @@ extern "C" {
 
 /* The version of the library that this header declares; duskclamp_version gives that of the library which is linked. */
 #define DUSKCLAMP_VERSION_MAJOR 0
-#define DUSKCLAMP_VERSION_MINOR 3
+#define DUSKCLAMP_VERSION_MINOR 4
 #define DUSKCLAMP_VERSION_PATCH 0
 #define DUSKCLAMP_VERSION ((DUSKCLAMP_VERSION_MAJOR << 16) | (DUSKCLAMP_VERSION_MINOR << 8) | DUSKCLAMP_VERSION_PATCH)
 
 /* The version of the bytes of a table. It rises whenever they change; a table that is kept or sent should go with it. */
-#define DUSKCLAMP_LAYOUT_VERSION 1
+#define DUSKCLAMP_LAYOUT_VERSION 2
 
-/* How many bytes a table has: two of sizes, 32 thread records and 64 object records of 11 bytes each. */
-#define DUSKCLAMP_TABLE_SIZE 1058
+/* How many bytes a table has: two of sizes, 32 thread records of 13 bytes each and 64 object records of 11. */
+#define DUSKCLAMP_TABLE_SIZE 1122
 
 /* The most threads and objects of a table. Both are numbered from 1; 0 means none. */
 #define DUSKCLAMP_THREADS 32
 #define DUSKCLAMP_OBJECTS 64
+
+/* The longest limit of a timed wait, in ticks; the shortest is 1. */
+#define DUSKCLAMP_TICKS 65535
 
 /* The operations; an idle thread has 0. */
 #define DUSKCLAMP_ENTER 1
@@ -57,6 +60,7 @@ extern "C" {
 #define DUSKCLAMP_WAIT 3
 #define DUSKCLAMP_NOTIFY 4
 #define DUSKCLAMP_NOTIFY_ALL 5
+#define DUSKCLAMP_TIMED_WAIT 6 /* a wait that runs out after so many ticks */
 
 /* The phases of a thread. */
 #define DUSKCLAMP_PHASE_IDLE 0        /* at no operation */
@@ -77,23 +81,24 @@ extern "C" {
 #define DUSKCLAMP_PHASE_RESUME 15     /* holder, about to take its saved depth back */
 
 /* The returned numbers. From 11 up nothing is changed, save that 18 and 19 make the thread idle. */
-#define DUSKCLAMP_GONE_ON 0            /* begun, or gone on */
-#define DUSKCLAMP_FINISHED 1           /* the operation is finished, and the thread idle */
-#define DUSKCLAMP_PARKED 2             /* the thread is parked until another's step lets it go on */
-#define DUSKCLAMP_NOT_SOUND 11         /* no table, or one that is not sound */
-#define DUSKCLAMP_NO_SUCH_THREAD 12    /* the thread is not one of the table's */
-#define DUSKCLAMP_NO_SUCH_OBJECT 13    /* the object is not one of the table's */
-#define DUSKCLAMP_NOT_IDLE 14          /* begin: the thread is at an operation */
-#define DUSKCLAMP_THREAD_IDLE 15       /* step: the thread is at no operation */
-#define DUSKCLAMP_THREAD_PARKED 16     /* step: the thread is parked */
-#define DUSKCLAMP_NO_SUCH_OPERATION 17 /* begin: the operation is not 1 to 5 */
-#define DUSKCLAMP_NOT_OWNER 18         /* exit, wait or notify of a thread that does not own the object */
-#define DUSKCLAMP_TOO_DEEP 19          /* enter at depth 65,535 */
-#define DUSKCLAMP_NO_RULE 20           /* the step has no rule; never from a fresh table on */
-#define DUSKCLAMP_SIZE_OUT_OF_RANGE 22 /* fresh: threads not 1 to 32, or objects not 1 to 64 */
+#define DUSKCLAMP_GONE_ON 0             /* begun, or gone on */
+#define DUSKCLAMP_FINISHED 1            /* the operation is finished, and the thread idle */
+#define DUSKCLAMP_PARKED 2              /* the thread is parked until another's step or a tick lets it go on */
+#define DUSKCLAMP_NOT_SOUND 11          /* no table, or one that is not sound */
+#define DUSKCLAMP_NO_SUCH_THREAD 12     /* the thread is not one of the table's */
+#define DUSKCLAMP_NO_SUCH_OBJECT 13     /* the object is not one of the table's */
+#define DUSKCLAMP_NOT_IDLE 14           /* begin: the thread is at an operation */
+#define DUSKCLAMP_THREAD_IDLE 15        /* step: the thread is at no operation */
+#define DUSKCLAMP_THREAD_PARKED 16      /* step: the thread is parked */
+#define DUSKCLAMP_NO_SUCH_OPERATION 17  /* begin: the operation is not 1 to 6 */
+#define DUSKCLAMP_NOT_OWNER 18          /* exit, wait or notify of a thread that does not own the object */
+#define DUSKCLAMP_TOO_DEEP 19           /* enter at depth 65,535 */
+#define DUSKCLAMP_NO_RULE 20            /* the step has no rule; never from a fresh table on */
+#define DUSKCLAMP_SIZE_OUT_OF_RANGE 22  /* fresh: threads not 1 to 32, or objects not 1 to 64 */
+#define DUSKCLAMP_LIMIT_OUT_OF_RANGE 23 /* begin of a timed wait: the limit is not 1 to DUSKCLAMP_TICKS */
 
-/* An event's answer: the returned number in bits 0 to 7; with 1, how many threads a notify woke in bits 8 to 15, else 0; in bit 16 whether the
- * step committed its operation. */
+/* An event's answer: the returned number in bits 0 to 7; the woken number in bits 8 to 15: with 1, how many threads a notify woke, or, of a timed wait,
+ * 1 if it ran out, else 0; in bit 16 whether the step committed its operation. */
 #define DUSKCLAMP_RETURNED(answer) ((uint32_t)((answer) & 0xff))
 #define DUSKCLAMP_WOKEN(answer) ((uint32_t)(((answer) >> 8) & 0xff))
 #define DUSKCLAMP_COMMITS(answer) ((uint32_t)(((answer) >> 16) & 1))
@@ -110,32 +115,44 @@ size_t duskclamp_table_size(void);
  * 0; or 11 if `length` is not DUSKCLAMP_TABLE_SIZE; or 22. */
 uint32_t duskclamp_fresh(uint8_t *bytes, size_t length, uint32_t threads, uint32_t objects, uint32_t reserved);
 
-/* The thread begins the operation on the object. Returned: 0, or the first of 11, 12, 17, 13, 14 that applies. */
+/* The thread begins the operation on the object. Returned: 0, or the first of 11, 12, 17, 13, 14, 23 that applies; 23 of a timed wait, which has no
+ * limit here. */
 uint32_t duskclamp_begin(uint8_t *bytes, size_t length, uint32_t thread, uint32_t operation, uint32_t object);
+
+/* The thread begins a timed wait on the object: a wait that runs out after `limit` ticks in the waiting chain. Returned: 0, or the first of 11, 12, 13,
+ * 14, 23 that applies. */
+uint32_t duskclamp_timed_wait(uint8_t *bytes, size_t length, uint32_t thread, uint32_t object, uint32_t limit);
 
 /* The thread takes one step of its operation. Returned: 0, 1, 2, or the first of 11, 12, 15, 16, 18, 19, 20 that applies. */
 uint32_t duskclamp_step(uint8_t *bytes, size_t length, uint32_t thread);
 
-/* An event of duskclamp_run, eight bytes. The limit is reserved and 0: no event reads it yet. */
+/* One tick of the clock, taken from every timed wait that is in a waiting chain. Those with none left run out: they join the entry chain, from the lowest
+ * object up and who waited longest first, and a monitor without a holder is handed to the first there. A wait that ran out finishes with the woken
+ * number 1. Returned: 0 or 11. */
+uint32_t duskclamp_tick(uint8_t *bytes, size_t length);
+
+/* An event of duskclamp_run, eight bytes; a tick reads the kind alone, a step the kind and the thread. */
 typedef struct duskclamp_event {
     uint8_t kind;
     uint8_t thread;
-    uint8_t operation; /* of a begin; a step reads neither this nor the object */
+    uint8_t operation;
     uint8_t object;
-    uint32_t limit;
+    uint32_t limit; /* of a timed wait, in bytes 4 to 7, the lowest first; no other operation looks at it */
 } duskclamp_event;
 
 /* The kinds. Any other is the begin of no operation: 17, unless 11 or 12 applies. */
 #define DUSKCLAMP_KIND_BEGIN 0
 #define DUSKCLAMP_KIND_STEP 1
+#define DUSKCLAMP_KIND_TICK 2
 
 /* How many bytes an event has. */
 #define DUSKCLAMP_EVENT_SIZE 8
 
-/* Runs the events one behind the other on the table, as calls of duskclamp_begin and duskclamp_step would, and writes the answer of each: what such a
- * call answers in bits 0 to 31, and 0 in bits 32 to 63. `events` points to `events_length` bytes, DUSKCLAMP_EVENT_SIZE for each event, and `answers`
- * has room for `answers_length` answers; neither overlaps the table or the other. As many events are run as there are whole ones and as there is room
- * for, and that number is given back; no other answer is written. A refused event does not end the run.
+/* Runs the events one behind the other on the table, as calls of duskclamp_begin, duskclamp_timed_wait, duskclamp_step and duskclamp_tick would, and
+ * writes the answer of each: what such a call answers in bits 0 to 31, and 0 in bits 32 to 63. `events` points to `events_length` bytes,
+ * DUSKCLAMP_EVENT_SIZE for each event, and `answers` has room for `answers_length` answers; neither overlaps the table or the other. As many events
+ * are run as there are whole ones and as there is room for, and that number is given back; no other answer is written. A refused event does not end
+ * the run.
  * The table is read, tested for soundness and written back once, not for each event: a sound table stays sound, and one that is not stays as it is. If
  * no event changes it, nothing is stored in it. */
 size_t duskclamp_run(uint8_t *bytes, size_t length, const uint8_t *events, size_t events_length, uint64_t *answers, size_t answers_length);
@@ -163,6 +180,9 @@ uint64_t duskclamp_saved_depth(const uint8_t *bytes, size_t length, uint32_t thr
 
 /* The thread behind this one in the chain it is in, 0 for none. */
 uint64_t duskclamp_next(const uint8_t *bytes, size_t length, uint32_t thread);
+
+/* The ticks that a timed wait has left. They fall only while it is in the waiting chain; 0 when it ran out, and for any other operation. */
+uint64_t duskclamp_ticks(const uint8_t *bytes, size_t length, uint32_t thread);
 
 /* Who keeps a thread that is parked for entry, in phase 5 or 8: the thread that owns its object by the lock word, where that is another; else the
  * monitor's holder, which is on its way in or out; else, and in any other phase, 0. DUSKCLAMP_IS_HOLDER tells the second from the first. */
@@ -205,6 +225,7 @@ static inline const char *duskclamp_returned_name(uint32_t returned) {
     case DUSKCLAMP_TOO_DEEP: return "too deep";
     case DUSKCLAMP_NO_RULE: return "no rule for the step";
     case DUSKCLAMP_SIZE_OUT_OF_RANGE: return "size out of range";
+    case DUSKCLAMP_LIMIT_OUT_OF_RANGE: return "limit out of range";
     default: return "unknown";
     }
 }
@@ -217,6 +238,7 @@ static inline const char *duskclamp_operation_name(uint32_t operation) {
     case DUSKCLAMP_WAIT: return "wait";
     case DUSKCLAMP_NOTIFY: return "notify";
     case DUSKCLAMP_NOTIFY_ALL: return "notify all";
+    case DUSKCLAMP_TIMED_WAIT: return "timed wait";
     default: return "unknown";
     }
 }
@@ -243,7 +265,7 @@ static inline const char *duskclamp_phase_name(uint32_t phase) {
     }
 }
 
-/* Whether a thread in this phase is parked: its steps are answered 16 until another's step lets it go on. */
+/* Whether a thread in this phase is parked: its steps are answered 16 until another's step or a tick lets it go on. */
 static inline int duskclamp_phase_is_parked(uint32_t phase) {
     return phase == DUSKCLAMP_PHASE_QUEUED || phase == DUSKCLAMP_PHASE_CONTENDING || phase == DUSKCLAMP_PHASE_WAITING;
 }

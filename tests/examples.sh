@@ -1,5 +1,5 @@
 #!/bin/sh
-# Every schedule of examples/, through the proved program and the second one, byte for byte.
+# Every schedule of examples/, through the proved program and the second one, byte for byte; where its output is stored, against that too.
 # tests/examples.sh PROGRAM REFERENCE; the last line is 'N passed, M failed'.
 set -u
 . "$(dirname "$0")/counting.sh"
@@ -19,6 +19,8 @@ for schedule in "$examples"/*.txt "$work/to-the-limit.txt"; do
     "$reference" <"$schedule" >"$work/expected"
     verdict=different
     [ -s "$work/expected" ] && cmp "$work/found" "$work/expected" && verdict=same
+    stored=${schedule%.txt}.expected
+    [ ! -f "$stored" ] || cmp "$work/found" "$stored" || verdict=different
     check "$(basename "$schedule")" "$verdict" same
 done
 finish

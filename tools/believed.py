@@ -5,7 +5,7 @@
     tools/believed.py --check    fails if the list is not up to date; last line 'N passed, M failed'
 
 From a statement, follows every name that its definition uses, through the `use` lines, and lists the files of specs/ in which the definitions stand.
-Demand 3 is a claim about the engine's begin and step, so these are not followed there: the code computes them, and the claim bounds what they do. Demand 2
+Demand 3 is a claim about the engine's begin, step and tick, so these are not followed there: the code computes them, and the claim bounds what they do. Demand 2
 is what they say.
 """
 import pathlib

@@ -1,17 +1,18 @@
-/* Three threads at one object: the first waits on it, the second then owns it, and the third parks. The table is printed at the end: each thread with
- * its operation, its phase and who keeps it, each object with its word, owner, flag and chains. */
+/* Three threads at one object: the first waits on it, the second then owns it, and the third parks. A fourth waits on an object of its own until its
+ * wait runs out. The table is printed at the end: each thread with its operation, its phase and who keeps it, each object with its word, owner, flag
+ * and chains. */
 #include "duskclamp.h"
 #include <inttypes.h>
 #include <stdio.h>
 
-#define THREADS 3
-#define OBJECTS 2
+#define THREADS 4
+#define OBJECTS 3
+#define LIMIT 2
 
 static uint8_t table[DUSKCLAMP_TABLE_SIZE];
 
-/* Begins the operation and takes its steps until it is finished, parks, or is refused. */
-static void run(uint32_t thread, uint32_t operation, uint32_t object) {
-    uint32_t answer = duskclamp_begin(table, sizeof table, thread, operation, object);
+/* Takes the steps of an operation whose begin was answered so, until it is finished, parks, or is refused. */
+static void take_steps(uint32_t answer, uint32_t thread, uint32_t operation, uint32_t object) {
     uint32_t steps = 0;
     while (DUSKCLAMP_RETURNED(answer) == DUSKCLAMP_GONE_ON) {
         answer = duskclamp_step(table, sizeof table, thread);
@@ -21,15 +22,35 @@ static void run(uint32_t thread, uint32_t operation, uint32_t object) {
            duskclamp_returned_name(DUSKCLAMP_RETURNED(answer)), steps);
 }
 
-/* Three events in one call: thread 2 enters another object, and thread 3, which is parked, is refused its step. */
+static void run(uint32_t thread, uint32_t operation, uint32_t object) {
+    take_steps(duskclamp_begin(table, sizeof table, thread, operation, object), thread, operation, object);
+}
+
+/* A wait with a limit, which nobody notifies: after as many ticks it has run out, and its thread owns the object again. */
+static void run_out(uint32_t thread, uint32_t object) {
+    run(thread, DUSKCLAMP_ENTER, object);
+    take_steps(duskclamp_timed_wait(table, sizeof table, thread, object, LIMIT), thread, DUSKCLAMP_TIMED_WAIT, object);
+    for (uint32_t tick = 1; tick <= LIMIT; tick++) {
+        uint32_t returned = DUSKCLAMP_RETURNED(duskclamp_tick(table, sizeof table));
+        uint32_t phase = DUSKCLAMP_VALUE(duskclamp_phase(table, sizeof table, thread));
+        uint32_t left = DUSKCLAMP_VALUE(duskclamp_ticks(table, sizeof table, thread));
+        printf("tick %" PRIu32 ": %" PRIu32 ", thread %" PRIu32 " %s, ticks left: %" PRIu32 "\n", tick, returned, thread,
+               duskclamp_phase_name(phase), left);
+    }
+    uint32_t answer = duskclamp_step(table, sizeof table, thread);
+    printf("thread %" PRIu32 " %s, run out: %" PRIu32 "\n", thread, duskclamp_returned_name(DUSKCLAMP_RETURNED(answer)), DUSKCLAMP_WOKEN(answer));
+}
+
+/* Four events in one call: thread 2 enters another object, thread 3, which is parked, is refused its step, and the clock ticks. */
 static void run_events(void) {
     duskclamp_event events[] = {
         {DUSKCLAMP_KIND_BEGIN, 2, DUSKCLAMP_ENTER, 2, 0},
         {DUSKCLAMP_KIND_STEP, 2, 0, 0, 0},
         {DUSKCLAMP_KIND_STEP, 3, 0, 0, 0},
+        {DUSKCLAMP_KIND_TICK, 0, 0, 0, 0},
     };
-    uint64_t answers[3];
-    size_t count = duskclamp_run(table, sizeof table, (const uint8_t *)events, sizeof events, answers, 3);
+    uint64_t answers[4];
+    size_t count = duskclamp_run(table, sizeof table, (const uint8_t *)events, sizeof events, answers, 4);
     for (size_t place = 0; place < count; place++)
         printf("event %zu of the run: %s\n", place + 1, duskclamp_returned_name(DUSKCLAMP_RETURNED(answers[place])));
 }
@@ -90,8 +111,9 @@ int main(void) {
     run(2, DUSKCLAMP_ENTER, 1);
     run(3, DUSKCLAMP_ENTER, 1);
     run(3, DUSKCLAMP_ENTER, 2);
-    run(2, DUSKCLAMP_ENTER, 3);
+    run(2, DUSKCLAMP_ENTER, 4);
     run(2, DUSKCLAMP_EXIT, 2);
+    run_out(4, 3);
     run_events();
     print_threads();
     print_objects();

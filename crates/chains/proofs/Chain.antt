@@ -11,7 +11,8 @@ use Rattle.laws.specs.{Update.update, Count.count}
 use Rattle.laws.proofs.Choice.{by-equal, either-way, equal?}
 use Rattle.laws.proofs.Update.{update-same, update-other, update-id}
 use Rattle.laws.proofs.Count.{count-none, count-same, count-other}
-use Rattle.chains.specs.Chain.{members, last-of, first-with, linked}
+use Rattle.chains.specs.Chain.{members}
+use Rattle.chains.specs.Joining.{last-of, first-with, linked}
 
 -- what holds of the new value at its place, and of the old ones elsewhere, holds of each
 pub by-update : {A : Type 0} (P : A → Type 0) (f : ℕ → A) (place : ℕ) (value : A) (n : ℕ) → (n ≡ place → P value) → (n ≢ place → P (f n))

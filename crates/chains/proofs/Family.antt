@@ -22,7 +22,14 @@ pub record Chains (next first : ℕ → ℕ) (list : ℕ → List ℕ) : Type 0 
 pub record Aside (next first : ℕ → ℕ) (list : ℕ → List ℕ) (moved : List ℕ) : Type 0 where
   pub chain : (c : ℕ) → Chain next (first c) (list c)
   pub apart : Apart list
+  pub out : (n c : ℕ) → 0 < count n moved → count n (list c) ≡ 0
   pub loose : (n : ℕ) → ((c : ℕ) → count n (list c) ≡ 0) → count n moved ≡ 0 → next n ≡ 0
+
+-- threads that are in no chain are aside
+pub chains-aside : (next first : ℕ → ℕ) (list : ℕ → List ℕ) (moved : List ℕ) → Chains next first list
+    → ((n c : ℕ) → 0 < count n moved → count n (list c) ≡ 0) → Aside next first list moved
+chains-aside next first list moved chains out =
+    record { chain = chains .chain; apart = chains .apart; out = out; loose = λ n none also. chains .loose n none }
 
 -- what is in list c is in no other
 pub others : (list : ℕ → List ℕ) → Apart list → (c d n : ℕ) → d ≢ c → 0 < count n (list c) → count n (list d) ≡ 0

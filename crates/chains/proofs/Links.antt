@@ -1,18 +1,22 @@
--- The links of all chains and the lists that they stand for: threads leave, join and move on both alike.
--- Every action on the chains of a table is one of these four or a few of them in a row.
+-- The links of all chains and the lists that they stand for: threads leave, join, move and part on both alike.
+-- Every action on the chains of a table is one of these five or a few of them in a row.
 use Prim.Native.Nat.{ℕ, _≤_}
 use mathlib.Core.Path.{_≡_, refl, sym, ap, _∙_, subst, fun-ext}
 use mathlib.Core.Logic.{_≢_}
+use mathlib.Core.Bool.{Bool}
 use native.Mathlib.Omega.{arith}
 use mathlib.Core.List.{List, [], _∷_, _++_, tail, append-nil}
 use lib.ListN.{length, take}
 use Rattle.laws.specs.{Update.update, Count.count}
 use Rattle.laws.proofs.Choice.{either-way, equal?}
 use Rattle.laws.proofs.Update.{update-same, update-other, update-id}
-use Rattle.chains.specs.Chain.{first-with, linked}
+use Rattle.chains.specs.Joining.{first-with, linked, no-ends}
 use Rattle.chains.proofs.Chain.{by-update, Chain, head, chain-head, linked-none, first-with-none}
 use Rattle.chains.proofs.Family.{Chains, chains-zero}
-use Rattle.chains.proofs.Relink.{chains-join, chains-leave, chains-left, chains-move}
+use Rattle.laws.specs.Filter.{failing}
+use Rattle.laws.proofs.Filter.{passing}
+use Rattle.chains.proofs.Relink.{chains-join, chains-leave, chains-left, chains-move, aside-join-other}
+use Rattle.chains.proofs.Parting.{part, chains-part}
 
 -- the threads' next indexes, and the first thread of each chain by the chain's number
 pub record Links : Type 0 where
@@ -63,6 +67,18 @@ move-links fuel from to links =
 
 abbrev pub move-lists : ℕ → ℕ → (ℕ → List ℕ) → ℕ → List ℕ
 move-lists from to list = let rest = update list from [] in update rest to (rest to ++ list from)
+
+-- the threads of a chain that pass a test move, in order, to the end of another; the rest stay in order
+abbrev pub part-links : ℕ → (ℕ → Bool) → ℕ → ℕ → Links → Links
+part-links fuel test from to links =
+    let p = part fuel test (links .next) no-ends no-ends (links .first from) in
+    record {
+      next = linked fuel (p .next) (links .first to) (p .taken .first);
+      first = update (update (links .first) from (p .left .first)) to (first-with (links .first to) (p .taken .first));
+    }
+
+abbrev pub part-lists : (ℕ → Bool) → ℕ → ℕ → (ℕ → List ℕ) → ℕ → List ℕ
+part-lists test from to list = update (update list from (failing test (list from))) to (list to ++ passing test (list from))
 
 -- a place emptied and filled again
 update-back : {A : Type 0} (f : ℕ → A) (place : ℕ) (value : A) → update (update f place value) place (f place) ≡ f
@@ -166,3 +182,12 @@ module _ (links : Links) (list : ℕ → List ℕ) (represented : LinksRepresent
       (λ e. rw (← e, update-same list from [], update-same (links .first) from 0, update-back list from [], update-back (links .first) from 0) represented)
       (λ apart. rw (update-other list from [] to (λ e. apart (sym e)), update-other (links .first) from 0 to (λ e. apart (sym e)))
       (chains-move (links .next) (links .first) list represented from fuel to apart short))
+
+  -- those that pass a test move to the end of another chain
+  pub represent-part : (fuel : ℕ) (test : ℕ → Bool) (from to : ℕ) → from ≢ to → length (list from) ≤ fuel → length (list to) ≤ fuel
+      → LinksRepresent (part-links fuel test from to links) (part-lists test from to list)
+  represent-part fuel test from to apart short-from short-to =
+      let p = part fuel test (links .next) no-ends no-ends (links .first from) in
+      let (aside, leave) = chains-part (links .next) (links .first) list represented from fuel test short-from in
+      aside-join-other (p .next) (links .first) list from (p .left .first) (failing test (list from)) (passing test (list from)) aside fuel to (p .taken .first)
+      leave apart short-to

@@ -1,22 +1,19 @@
 -- A chain whose members change in any way: some leave, wherever they stand, and others, which were in no chain, come in at any place.
--- Leaving as the first, leaving by a test, joining at the end and coming in at a place are cases of one law.
+-- Leaving as the first, joining at the end, moving and coming in at a place are cases of one law. Threads on their way from chain to chain are aside.
 use Prim.Native.Nat.{ℕ, suc, _+_, _≤_, _<_}
 use mathlib.Core.Path.{_≡_, refl, sym, ap, _∙_}
-use mathlib.Core.Logic.{_≢_, _⊎_, inl, inr}
-use mathlib.Core.Bool.{Bool, true, false}
+use mathlib.Core.Logic.{_≢_}
 use mathlib.Core.List.{List, [], _∷_, _++_}
 use native.Mathlib.Omega.{arith}
-use lib.Dec.{eqb}
 use lib.ListN.{length}
-use borrow.Author.Tests.{eq-eqb, ne-eqb}
-use Rattle.laws.specs.{Choice.pick, Update.update, Count.count}
+use Rattle.laws.specs.{Update.update, Count.count}
 use Rattle.laws.proofs.Choice.{either-way, equal?}
 use Rattle.laws.proofs.Update.{update-same, update-other}
 use Rattle.laws.proofs.Count.{count-none, count-same, count-other, count-append}
-use Rattle.chains.specs.Chain.{first-with, linked}
+use Rattle.chains.specs.Joining.{first-with, linked}
 use Rattle.chains.proofs.Chain.{by-update, Chain, head, chain-frame, chain-without-zero, chain-first-once, chain-once, chain-leave, chain-link}
 use Rattle.chains.proofs.Chain.{linked-other}
-use Rattle.chains.proofs.Family.{Chains, Aside, others}
+use Rattle.chains.proofs.Family.{Chains, Aside, chains-aside, others}
 
 -- the next indexes, with those of a list's threads set so that they stand in its order
 abbrev pub follow : List ℕ → (ℕ → ℕ) → ℕ → ℕ
@@ -29,16 +26,6 @@ unfolding count
 follow-other [] next n out = refl
 follow-other (x ∷ rest) next n out =
     update-other (follow rest next) x (head rest) n (λ e. omega (arith, out, ap (λ (m : ℕ). count m (x ∷ rest)) e, count-same x rest)) ∙ follow-other rest next n (omega (arith, out))
-
--- the next indexes, with those of a list's threads cleared
-abbrev pub loosen : List ℕ → (ℕ → ℕ) → ℕ → ℕ
-loosen list next n = pick (eqb (count n list) 0) (next n) 0
-
-pub loosen-other : (list : List ℕ) (next : ℕ → ℕ) (n : ℕ) → count n list ≡ 0 → loosen list next n ≡ next n
-loosen-other list next n out = rw (eq-eqb (count n list) 0 out)
-
-pub loosen-in : (list : List ℕ) (next : ℕ → ℕ) (n : ℕ) → 0 < count n list → loosen list next n ≡ 0
-loosen-in list next n h = rw (ne-eqb (count n list) 0 (λ e. omega (arith, e, h)))
 
 -- a list of threads, each once, is a chain by them
 pub chain-follow : (list : List ℕ) (next : ℕ → ℕ) → count 0 list ≡ 0 → ((n : ℕ) → count n list ≤ 1) → Chain (follow list next) (head list) list
@@ -106,28 +93,36 @@ module _ (next first : ℕ → ℕ) (list : ℕ → List ℕ) (moved : List ℕ)
 pub chains-relink : (next first : ℕ → ℕ) (list : ℕ → List ℕ) → Chains next first list → (c : ℕ) (next′ : ℕ → ℕ) (start : ℕ) (new : List ℕ)
     → Relinked next first list c next′ start new → Chains next′ (update first c start) (update list c new)
 chains-relink next first list chains c next′ start new relinked =
-    relink-aside next first list [] (record { chain = chains .chain; apart = chains .apart; loose = λ n out none. chains .loose n out }) c next′ start new
-    relinked (λ n. omega (arith, count-none n))
+    relink-aside next first list [] (chains-aside next first list [] chains (λ n d h. absurd (omega (arith, h, count-none n)))) c next′ start new relinked
+    (λ n. omega (arith, count-none n))
 
--- the threads of a list that pass a test, and those that do not, each in order
-abbrev pub passing : (ℕ → Bool) → List ℕ → List ℕ
-passing test [] = []
-passing test (x ∷ rest) = pick (test x) (x ∷ passing test rest) (passing test rest)
-
-abbrev pub failing : (ℕ → Bool) → List ℕ → List ℕ
-failing test [] = []
-failing test (x ∷ rest) = pick (test x) (failing test rest) (x ∷ failing test rest)
-
--- each thread is among the ones or among the others
-pub count-parted : (test : ℕ → Bool) (list : List ℕ) (n : ℕ) → count n list ≡ count n (passing test list) + count n (failing test list)
-unfolding count
-count-parted test [] n = refl
-count-parted test (x ∷ rest) n = at (test x) (count-parted test rest n)
+-- threads that are aside, as a chain of their own, join the end of chain `to`
+pub aside-join : (next first : ℕ → ℕ) (list : ℕ → List ℕ) (moved : List ℕ) → Aside next first list moved → (fuel to back : ℕ) → Chain next back moved
+    → length (list to) ≤ fuel → Chains (linked fuel next (first to) back) (update first to (first-with (first to) back)) (update list to (list to ++ moved))
+aside-join next first list moved aside fuel to back chain short =
+    relink-aside next first list moved aside to (linked fuel next (first to) back) (first-with (first to) back) (list to ++ moved)
+    (record {
+      chain = chain-link fuel next (first to) (list to) back moved (aside .chain to) chain short strange;
+      came = λ n d h old. aside .out n d (omega (arith, h, old, counted n));
+      gone = λ n none h. absurd (omega (arith, none, h, counted n));
+      kept = λ n none old. linked-other fuel next (first to) (list to) back n (aside .chain to) short old;
+    }) (λ n. omega (arith, counted n))
   where
-    at : (b : Bool) → count n rest ≡ count n (passing test rest) + count n (failing test rest)
-        → count n (x ∷ rest) ≡ count n (pick b (x ∷ passing test rest) (passing test rest)) + count n (pick b (failing test rest) (x ∷ failing test rest))
-    at true later = omega (arith, later)
-    at false later = omega (arith, later)
+    counted : (n : ℕ) → count n (list to ++ moved) ≡ count n (list to) + count n moved
+    counted n = count-append n (list to) moved
+
+    strange : (n : ℕ) → 0 < count n (list to) → count n moved ≡ 0
+    strange n h = let never : 0 < count n moved → ⊥ = λ k. omega (arith, h, aside .out n to k) in omega arith
+
+-- the same where chain c, another one, was changed before: they come to the end of chain `to` as it was
+pub aside-join-other : (next first : ℕ → ℕ) (list : ℕ → List ℕ) (c start : ℕ) (rest moved : List ℕ)
+    → Aside next (update first c start) (update list c rest) moved → (fuel to back : ℕ) → Chain next back moved → c ≢ to → length (list to) ≤ fuel
+    → Chains (linked fuel next (first to) back) (update (update first c start) to (first-with (first to) back))
+    (update (update list c rest) to (list to ++ moved))
+aside-join-other next first list c start rest moved aside fuel to back chain apart short =
+    let other : to ≢ c = λ e. apart (sym e) in
+    rw (update-other first c start to other, update-other list c rest to other) at
+    (aside-join next (update first c start) (update list c rest) moved aside fuel to back chain (rw (update-other list c rest to other) short))
 
 module _ (next first : ℕ → ℕ) (list : ℕ → List ℕ) (chains : Chains next first list) (c : ℕ) where
   once : (n : ℕ) → count n (list c) ≤ 1
@@ -163,63 +158,37 @@ module _ (next first : ℕ → ℕ) (list : ℕ → List ℕ) (chains : Chains n
   pub chains-join : (fuel n : ℕ) → length (list c) ≤ fuel → n ≢ 0 → ((d : ℕ) → count n (list d) ≡ 0)
       → Chains (linked fuel next (first c) n) (update first c (first-with (first c) n)) (update list c (list c ++ (n ∷ [])))
   chains-join fuel n short real out =
-      chains-relink next first list chains c (linked fuel next (first c) n) (first-with (first c) n) (list c ++ (n ∷ []))
-      (record {
-        chain = chain-link fuel next (first c) (list c) n (n ∷ []) (chains .chain c) (refl, real, chains .loose n out) short
-            (λ m h. either-way (new m) (λ e. absurd (omega (arith, h, ap (λ (k : ℕ). count k (list c)) e, out c))) (λ none. none));
-        came = λ m d h old. either-way (new m) (λ e. rw e (out d)) (λ none. absurd (omega (arith, h, old, count-append m (list c) (n ∷ []), none)));
-        gone = λ m none h. absurd (omega (arith, none, h, count-append m (list c) (n ∷ [])));
-        kept = λ m none old. linked-other fuel next (first c) (list c) n m (chains .chain c) short old;
-      })
+      aside-join next first list (n ∷ []) (chains-aside next first list (n ∷ []) chains alone) fuel c n (refl, real, chains .loose n out) short
     where
-      new : (m : ℕ) → (m ≡ n) ⊎ (count m (n ∷ []) ≡ 0)
-      new m = either-way (equal? m n) inl (λ away. inr (count-other m n [] away ∙ count-none m))
+      alone : (m d : ℕ) → 0 < count m (n ∷ []) → count m (list d) ≡ 0
+      alone m d h = either-way (equal? m n) (λ e. rw e (out d)) (λ away. absurd (omega (arith, h, count-other m n [] away, count-none m)))
+
+  -- the threads `moved` leave chain c and are aside; `rest`, the others, is the chain then
+  module _ (next′ : ℕ → ℕ) (start : ℕ) (rest moved : List ℕ) (parted : (n : ℕ) → count n (list c) ≡ count n moved + count n rest) (stays : Chain next′ start rest)
+      (kept : (n : ℕ) → count n (list c) ≡ 0 → next′ n ≡ next n) where
+    fewer : (d n : ℕ) → count n (update list c rest d) ≤ count n (list d)
+    fewer d n = by-update (λ l. count n l ≤ count n (list d)) list c rest d (λ e. rw e (omega (arith, parted n))) (λ away. omega arith)
+
+    pub chains-set-aside : Aside next′ (update first c start) (update list c rest) moved
+    chains-set-aside =
+        record {
+          chain = λ d. either-way (equal? d c) (λ e. rw (e, update-same first c start, update-same list c rest) stays)
+              (λ away. rw (update-other first c start d away, update-other list c rest d away)
+              (chain-frame next next′ (first d) (list d) (λ n h. kept n (others list (chains .apart) d c n (λ e. away (sym e)) h)) (chains .chain d)));
+          apart = λ a b n h k. chains .apart a b n (omega (arith, h, fewer a n)) (omega (arith, k, fewer b n));
+          out = λ n d h. by-update (λ l. count n l ≡ 0) list c rest d (λ e. omega (arith, h, parted n, once n))
+              (λ away. others list (chains .apart) c d n away (omega (arith, h, parted n)));
+          loose = λ n none out. let old : count n (list c) ≡ 0 = omega (arith, parted n, out, rw (update-same list c rest) at (none c)) in
+              kept n old ∙ chains .loose n (λ d. either-way (equal? d c) (λ e. rw e old) (λ away. rw (update-other list c rest d away) at (none d)));
+        }
 
   -- all threads of chain c, in order, move to the end of chain `to`
   pub chains-move : (fuel to : ℕ) → c ≢ to → length (list to) ≤ fuel
       → Chains (linked fuel next (first to) (first c)) (update (update first c 0) to (first-with (first to) (first c)))
       (update (update list c []) to (list to ++ list c))
-  chains-move fuel to apart short =
-      let same : update list c [] to ≡ list to = update-other list c [] to (λ e. apart (sym e)) in
-      relink-aside next (update first c 0) (update list c []) (list c) taken to (linked fuel next (first to) (first c)) (first-with (first to) (first c))
-      (list to ++ list c)
-      (record {
-        chain = chain-link fuel next (first to) (list to) (first c) (list c) (chains .chain to) (chains .chain c) short
-            (λ n h. others list (chains .apart) to c n apart h);
-        came = λ n d h old. free n (omega (arith, h, old, ap (count n) same, count-append n (list to) (list c))) d;
-        gone = λ n out h. absurd (omega (arith, out, h, ap (count n) same, count-append n (list to) (list c)));
-        kept = λ n out old. linked-other fuel next (first to) (list to) (first c) n (chains .chain to) short (sym (ap (count n) same) ∙ old);
-      }) (λ n. omega (arith, count-append n (list to) (list c)))
-    where
-      free : (n : ℕ) → 0 < count n (list c) → (d : ℕ) → count n (update list c [] d) ≡ 0
-      free n h d = by-update (λ l. count n l ≡ 0) list c [] d (λ e. count-none n) (λ away. others list (chains .apart) c d n away h)
-
-      less : (d n : ℕ) → 0 < count n (update list c [] d) → 0 < count n (list d)
-      less d n = by-update (λ l. 0 < count n l → 0 < count n (list d)) list c [] d (λ e h. absurd (omega (arith, h, count-none n))) (λ away h. h)
-
-      taken : Aside next (update first c 0) (update list c []) (list c)
-      taken =
-          record {
-            chain = λ d. either-way (equal? d c) (λ e. rw (e, update-same first c 0, update-same list c []))
-                (λ away. rw (update-other first c 0 d away, update-other list c [] d away) (chains .chain d));
-            apart = λ a b n h k. chains .apart a b n (less a n h) (less b n k);
-            loose = λ n out none. chains .loose n (λ d. either-way (equal? d c) (λ e. rw e none) (λ away. rw (update-other list c [] d away) at (out d)));
-          }
-
-  -- the members of chain c that pass a test leave it; the others stay in order
-  pub chains-remove : (test : ℕ → Bool) → let rest = failing test (list c) in
-      Chains (follow rest (loosen (passing test (list c)) next)) (update first c (head rest)) (update list c rest)
-  chains-remove test =
-      let left = passing test (list c) in
-      let rest = failing test (list c) in
-      let parted = count-parted test (list c) in
-      chains-relink next first list chains c (follow rest (loosen left next)) (head rest) rest
-      (record {
-        chain = chain-follow rest (loosen left next) (omega (arith, parted 0, no-zero)) (λ n. omega (arith, parted n, once n));
-        came = λ n d h old. absurd (omega (arith, h, old, parted n));
-        gone = λ n out h. follow-other rest (loosen left next) n out ∙ loosen-in left next n (omega (arith, h, out, parted n));
-        kept = λ n out old. follow-other rest (loosen left next) n out ∙ loosen-other left next n (omega (arith, old, parted n));
-      })
+  chains-move fuel to =
+      aside-join-other next first list c 0 [] (list c) (chains-set-aside next 0 [] (list c) (λ n. omega (arith, count-none n)) refl (λ n old. refl))
+      fuel to (first c) (chains .chain c)
 
   -- thread n, in no chain, comes into chain c at a place
   pub chains-insert : (n : ℕ) (front back : List ℕ) → list c ≡ front ++ back → n ≢ 0 → ((d : ℕ) → count n (list d) ≡ 0)

@@ -6,7 +6,6 @@ use mathlib.Core.List.{List, [], _∷_}
 use lib.Dec.{eqb}
 use lib.ListN.{length}
 use Rattle.laws.specs.Choice.{pick}
-use Rattle.laws.specs.Update.{update}
 
 -- the chain's threads, in order
 unfoldable pub members : ℕ → (ℕ → ℕ) → ℕ → List ℕ
@@ -17,11 +16,6 @@ members (suc fuel) next first = pick (eqb first 0) [] (first ∷ members fuel ne
 abbrev pub chain-length : ℕ → (ℕ → ℕ) → ℕ → ℕ
 chain-length fuel next first = length (members fuel next first)
 
--- the last thread of a chain that has one
-unfoldable pub last-of : ℕ → (ℕ → ℕ) → ℕ → ℕ
-last-of zero next first = first
-last-of (suc fuel) next first = pick (eqb (next first) 0) first (last-of fuel next (next first))
-
 -- the chain ends within `fuel` links, and each of its threads passes `ok`
 unfoldable pub chain-test : ℕ → (ℕ → ℕ) → (ℕ → Bool) → ℕ → Bool
 chain-test zero next ok first = eqb first 0
@@ -31,11 +25,3 @@ chain-test (suc fuel) next ok first = pick (eqb first 0) true (pick (ok first) (
 unfoldable pub in-chain : ℕ → (ℕ → ℕ) → ℕ → ℕ → Bool
 in-chain zero next n first = false
 in-chain (suc fuel) next n first = pick (eqb first 0) false (pick (eqb first n) true (in-chain fuel next n (next first)))
-
--- chain `back` hung behind chain `front`: the first thread of the two together, and the next indexes.
--- One thread joins as a chain of its own; all threads of a chain move as that chain.
-abbrev pub first-with : ℕ → ℕ → ℕ
-first-with front back = pick (eqb front 0) back front
-
-unfoldable pub linked : ℕ → (ℕ → ℕ) → ℕ → ℕ → ℕ → ℕ
-linked fuel next front back = pick (eqb front 0) next (update next (last-of fuel next front) back)

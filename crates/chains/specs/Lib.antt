@@ -1,2 +1,3 @@
--- What a chain is, and what a walk along it computes.
+-- What a chain is, what a walk along it computes, and chains joined at their ends.
 pub mod Chain
+pub mod Joining

@@ -1,5 +1,10 @@
 // Chains of threads: a first thread followed by next indexes, over any next function. Nothing here knows tables or locks.
-// The definitions are in specs/ and the laws in proofs/; of code there are only the names of the chains, for rules and tables alike.
+// The definitions are in specs/ and the laws in proofs/; of code there are the names of the chains, for rules and tables alike, and the ends of one that
+// grows.
+mod ends;
 mod named;
 
+pub use ends::Ends;
+pub use ends::first_with;
+pub use ends::no_ends;
 pub use named::Chain;

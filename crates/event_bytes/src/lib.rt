@@ -1,7 +1,7 @@
-// An event in bytes, for callers that hand over many at once: kind, thread, operation, object, and four bytes that no event reads yet.
+// An event in bytes, for callers that hand over many at once: kind, thread, operation, object, and a limit in four bytes, the lowest first.
 use lock_rules::Event;
 ghost use mathlib.Core.Path.{_≡_};
-ghost use Rattle.event_bytes.specs.Encoding.{event-from};
+ghost use Rattle.event_bytes.specs.Encoding.{limit-from, event-from};
 
 // How many bytes an event has.
 pub const EVENT_SIZE: usize = 8;
@@ -10,25 +10,39 @@ pub const BEGIN_KIND: u8 = 0;
 
 pub const STEP_KIND: u8 = 1;
 
+pub const TICK_KIND: u8 = 2;
+
 const NO_OPERATION: u8 = 0;
 
-// The event of these bytes. A kind that is neither a begin nor a step is taken as the begin of no operation, which the engine refuses with 17.
-pub fn event_from(kind: u8, thread: u8, operation: u8, object: u8) -> Event
-    ensures { λ r. ⌜ r ≡ event-from kind thread operation object ⌝ }
+// The limit of these bytes.
+pub fn limit_from(first: u8, second: u8, third: u8, fourth: u8) -> u32
+    ensures { λ r. ⌜ r ≡ limit-from first second third fourth ⌝ }
+{
+    (first as u32) + (second as u32) * 256 + (third as u32) * 65536 + (fourth as u32) * 16777216
+}
+
+// The event of these bytes. A kind that is none is taken as the begin of no operation, which the engine refuses with 17.
+pub fn event_from(kind: u8, thread: u8, operation: u8, object: u8, limit: u32) -> Event
+    ensures { λ r. ⌜ r ≡ event-from kind thread operation object limit ⌝ }
 {
     if kind == BEGIN_KIND {
         return Event::Begin {
             operation: operation,
             thread: thread,
             object: object,
+            limit: limit,
         };
     }
     if kind == STEP_KIND {
         return Event::Step { thread: thread };
     }
+    if kind == TICK_KIND {
+        return Event::Tick;
+    }
     Event::Begin {
         operation: NO_OPERATION,
         thread: thread,
         object: object,
+        limit: limit,
     }
 }

@@ -2,6 +2,7 @@
 pub mod Choice
 pub mod Update
 pub mod Count
+pub mod Filter
 pub mod Every
 pub mod Sequence
 pub mod Facts

@@ -2,5 +2,6 @@
 pub mod Choice
 pub mod Update
 pub mod Count
+pub mod Filter
 pub mod Every
 pub mod Sequence

@@ -3,18 +3,24 @@ use Prim.Native.Nat.{ℕ, zero, suc}
 use mathlib.Core.Path.{_≡_, ap, _∙_}
 use lib.Dec.{eqb}
 use lib.ListN.{length}
+use Rattle.laws.specs.Choice.{within}
 use Rattle.laws.proofs.Choice.{by-test}
 use Rattle.lock_rules.specs.Gate.{event-thread}
 use Rattle.lock_rules.specs.declared.event.Event.{Event}
 use Rattle.lock_rules.specs.declared.ChainWork.{ChainWork}
 use Rattle.lock_table.specs.Limits.{thread-limit, object-limit}
-use Rattle.lock_table.specs.Access.{thread-at, set-thread, set-object, next-of}
+use Rattle.lock_table.specs.Access.{thread-at, set-thread, object-at, set-object, next-of}
 use Rattle.lock_table.specs.Chain.{hang, moved, move-all}
 use Rattle.lock_table.specs.declared.record.{ThreadRecord.ThreadRecord, ObjectRecord.ObjectRecord, Monitor.Monitor, Table.Table}
 use Rattle.lock_table.proofs.Records.{thread-beside, object-beside}
 use Rattle.lock_perform.specs.Moving.{CarriedOut, relink, moved-whole, after-whole, carry-out}
-use Rattle.lock_perform.specs.Perform.{stays, settled}
-use Rattle.lock_engine.specs.Handle.{handle-trusting, handle}
+use Rattle.lock_clock.specs.Waiters.{no-parting, part-waiters}
+use Rattle.lock_clock.specs.Tick.{hand-if-free, tick-object, tick-to, tick}
+use Rattle.lock_clock.specs.declared.waiters.{Parting.Parting, PartedWaiters.PartedWaiters}
+use Rattle.lock_clock.specs.declared.ticking.Monitored.{Monitored}
+use Rattle.lock_engine.specs.Handle.{work-stays, work-done-by, outcome-of, handle-trusting, handle}
+use Rattle.lock_engine.specs.declared.turning.{Work.Work, Turn.Turn}
+use Rattle.lock_engine.specs.declared.turning.Work.the-variants.{Chains, Tick}
 
 pub record Full (table : Table) : Type 0 where
   pub threads : length (table .threads) ≡ thread-limit
@@ -56,12 +62,45 @@ full-carried table monitor work thread number full =
     by-test (λ (after : CarriedOut). Full (after .table)) (eqb (moved-whole work monitor) 0) (λ none. full-relink monitor work thread number full)
     (λ some. full-relink monitor work thread number (full-move thread-limit table (moved-whole work monitor) full))
 
-full-settled : (table : Table) (thread number : ℕ) (own : ThreadRecord) (object : ObjectRecord) (work : ChainWork) → Full table
-    → Full (settled table thread number own object work)
-full-settled table thread number own object work full =
-    by-test Full (stays work) (λ stay. full-object number object (full-thread thread own full))
-    (λ some. full-object _ _ (full-thread _ _ (full-carried table (object .monitor) work thread number full)))
+-- a tick: the waiters of each object parted, those that ran out hung behind the entry chain, and the monitor handed
+full-parted : (fuel : ℕ) (table : Table) (parting : Parting) (at : ℕ) → Full table → Full (part-waiters fuel table parting at .table)
+unfolding part-waiters
+full-parted zero table parting at full = full
+full-parted (suc fuel) table parting at full =
+    by-test (λ (parted : PartedWaiters). Full (parted .table)) (within 1 thread-limit at)
+    (λ inside. full-parted fuel _ _ _ (full-thread _ _ (full-thread _ _ full))) (λ outside. full)
+
+full-handed : (table : Table) (monitor : Monitor) → Full table → Full (hand-if-free table monitor .table)
+unfolding hand-if-free
+full-handed table monitor full =
+    by-test (λ (after : Monitored). Full (after .table)) (eqb (monitor .holder) 0) (λ free. full-thread _ _ full) (λ held. full)
+
+full-object-ticked : (table : Table) (number : ℕ) → Full table → Full (tick-object table number)
+unfolding tick-object
+full-object-ticked table number full =
+    by-test Full (eqb (object-at table number .monitor .waiting) 0) (λ none. full)
+    (λ some. full-object _ _ (full-handed _ _ (full-hang thread-limit _ _ _ (full-parted thread-limit table no-parting _ full))))
+
+full-ticked-to : (number : ℕ) (table : Table) → Full table → Full (tick-to number table)
+unfolding tick-to
+full-ticked-to zero table full = full
+full-ticked-to (suc number) table full = full-object-ticked (tick-to number table) (suc number) (full-ticked-to number table full)
+
+pub full-tick : (table : Table) → Full table → Full (tick table)
+full-tick table full = full-ticked-to object-limit table full
+
+-- the work of a turn, and the outcome of an event
+pub full-work : (work : Work) (table : Table) (thread number : ℕ) (turn : Turn) → Full table → Full (work-done-by work table thread number turn .table)
+unfolding work-done-by
+full-work (Chains work) table thread number turn full =
+    full-object _ _ (full-thread _ _ (full-carried table (turn .object .monitor) work thread number full))
+full-work Tick table thread number turn full = full-tick table full
+
+full-outcome : (table : Table) (thread number : ℕ) (turn : Turn) → Full table → Full (outcome-of table thread number turn .table)
+full-outcome table thread number turn full =
+    by-test Full (work-stays (turn .work)) (λ stay. full-object number (turn .object) (full-thread thread (turn .own) full))
+    (λ some. full-work (turn .work) table thread number turn full)
 
 pub full-handle : (table : Table) (event : Event) → Full table → Full (handle table event .table)
 unfolding handle handle-trusting
-full-handle table event full = full-settled table (event-thread event) _ _ _ _ full
+full-handle table event full = full-outcome table (event-thread event) _ _ full

@@ -12,9 +12,9 @@ use borrow.Author.Tests.{leb-true, le-leb, lt-leb}
 use Rattle.laws.specs.Choice.{pick, both, within}
 use Rattle.laws.proofs.Choice.{split, both-second}
 use Rattle.chains.specs.Chain.{chain-length}
-use Rattle.lock_rules.specs.Gate.{gate, event-thread}
+use Rattle.lock_rules.specs.Gate.{gate, event-thread, event-object}
 use Rattle.lock_rules.specs.declared.event.{Event.Event, ThreadStatus.ThreadStatus, Refusal.Refusal, Gate.Gate}
-use Rattle.lock_rules.specs.declared.event.Event.the-variants.{Begin, Step}
+use Rattle.lock_rules.specs.declared.event.Event.the-variants.{Begin, Step, Tick}
 use Rattle.lock_rules.specs.declared.event.Refusal.the-variants.{NotSound, NoSuchThread}
 use Rattle.lock_rules.specs.declared.event.Gate.the-variants.{Open, Shut}
 use Rattle.lock_rules.specs.declared.ChainWork.the-variants.{Stay}
@@ -24,21 +24,27 @@ use Rattle.lock_table.specs.Access.{thread-at, set-thread, object-at, set-objec
 use Rattle.lock_table.specs.declared.record.{ThreadRecord.ThreadRecord, ObjectRecord.ObjectRecord, Table.Table}
 use Rattle.lock_table.specs.Operation.{operation-from}
 use Rattle.lock_table.proofs.Records.{thread-in, object-in, set-thread-in, set-thread-out, set-object-in, set-object-out, object-unchanged}
-use Rattle.lock_perform.specs.Perform.{stays, work-done}
+use Rattle.lock_perform.specs.Perform.{stays}
 use Rattle.lock_perform.proofs.Lengths.{length-none}
 use Rattle.lock_engine.specs.Turn.{begun, gate-turn, open-turn, step-turn}
 use Rattle.lock_gate.specs.Status.{thread-status}
 use Rattle.lock_table.specs.Place.{thread-place, object-place}
 use Rattle.lock_table.proofs.Places.{Has, Lacks, has?, place-has}
-use Rattle.lock_engine.specs.Handle.{event-object, trusted, turn-with, work-done-of, handle-with, handle-trusting}
+use Rattle.lock_engine.specs.Handle.{trusted, turn-with, work-stays, work-done-of, handle-with, handle-trusting}
 use Rattle.lock_engine.specs.declared.outcome.{Reply.Reply, Outcome.Outcome}
-use Rattle.lock_engine.specs.declared.outcome.Reply.the-variants.{Begun, Refused}
+use Rattle.lock_engine.specs.declared.outcome.Reply.the-variants.{Accepted, Refused}
+use Rattle.lock_engine.specs.declared.turning.Work.the-variants.{Chains}
 use Rattle.lock_engine.specs.declared.turning.Turn.{Turn}
 use Rattle.lock_engine.specs.declared.settling.WorkDone.{WorkDone}
 
 lacks-within : (limit size number : ℕ) → size ≤ limit → Lacks limit number → within 1 size number ≡ false
 lacks-within limit size number small (inl none) = rw (none) refl
 lacks-within limit size number small (inr past) = rw (le-leb 1 number (omega (arith, past)), lt-leb number size (omega (arith, past, small))) refl
+
+-- the first record is always there
+pub first-there : (limit : ℕ) → 1 ≤ limit → Lacks limit 1 → ⊥
+first-there limit some (inl none) = omega (arith, none)
+first-there limit some (inr past) = omega (arith, some, past)
 
 -- both records stored in place
 abbrev pub stored : Table → ℕ → ℕ → ThreadRecord → ObjectRecord → Table
@@ -69,40 +75,45 @@ pub record Parts : Type 0 where
   pub reply : Reply
 
 abbrev pub kept-turn : Parts → ObjectRecord → Turn
-kept-turn parts object = record { own = parts .own; object = object; work = Stay; reply = parts .reply; commits = false }
+kept-turn parts object = record { own = parts .own; object = object; work = Chains Stay; reply = parts .reply; commits = false }
 
+-- a tick is about the first object, which has a record: its row is never met
 abbrev pub parts-of : Gate → Event → ThreadRecord → Parts
-parts-of Open (Begin operation thread number) own = record { own = begun own (operation-from operation) number; reply = Begun }
+parts-of Open (Begin operation thread number limit) own =
+    record { own = begun own (operation-from operation) number limit; reply = Accepted }
 parts-of Open (Step thread) own = record { own = own; reply = Refused NotSound }
+parts-of Open Tick own = record { own = own; reply = Accepted }
 parts-of (Shut refusal) event own = record { own = own; reply = Refused refusal }
 
 pub keeps-object : (gate : Gate) (event : Event) (own : ThreadRecord) (object : ObjectRecord) (waiters : ℕ)
     → Lacks object-limit (event-object event (own .object)) → gate-turn gate event own object waiters ≡ kept-turn (parts-of gate event own) object
 unfolding gate-turn open-turn step-turn
-keeps-object Open (Begin operation thread number) own object waiters lacks = refl
+keeps-object Open (Begin operation thread number limit) own object waiters lacks = refl
 keeps-object Open (Step thread) own object waiters lacks = rw (lacks-within object-limit object-limit (own .object) (omega arith) lacks) refl
-keeps-object (Shut refusal) (Begin operation thread number) own object waiters lacks = refl
+keeps-object Open Tick own object waiters lacks = absurd (first-there object-limit (omega arith) lacks)
+keeps-object (Shut refusal) (Begin operation thread number limit) own object waiters lacks = refl
 keeps-object (Shut refusal) (Step thread) own object waiters lacks = refl
+keeps-object (Shut refusal) Tick own object waiters lacks = refl
 
 -- an event of a thread that has no record is refused, whatever is read in its place
 pub shut-thread : (issound : Bool) (threads objects : ℕ) (event : Event) → Lacks thread-limit (event-thread event)
     → (refusal : Refusal) × ((status : ThreadStatus) → gate (both issound (leb threads thread-limit)) threads objects event status ≡ Shut refusal)
 shut-thread issound threads objects event lacks =
-    split (both issound (leb threads thread-limit)) (λ is. (NoSuchThread, λ status. at event (below-limit is) is status))
+    split (both issound (leb threads thread-limit)) (λ is. (NoSuchThread, λ status. at event lacks (below-limit is) is status))
     (λ is. (NotSound, λ status. unsound event is status))
   where
     below-limit : both issound (leb threads thread-limit) ≡ true → within 1 threads (event-thread event) ≡ false
     below-limit is = lacks-within thread-limit threads (event-thread event) (leb-true threads thread-limit (both-second issound _ is)) lacks
 
-    at : (event : Event) → within 1 threads (event-thread event) ≡ false → both issound (leb threads thread-limit) ≡ true → (status : ThreadStatus)
+    at : (event : Event) → Lacks thread-limit (event-thread event) → within 1 threads (event-thread event) ≡ false → both issound (leb threads thread-limit) ≡ true → (status : ThreadStatus)
         → gate (both issound (leb threads thread-limit)) threads objects event status ≡ Shut NoSuchThread
-    at (Begin operation thread object) out is status = rw (is, out) refl
-    at (Step thread) out is status = rw (is, out) refl
+    at (Begin operation thread object limit) lacks out is status = rw (is, out) refl
+    at (Step thread) lacks out is status = rw (is, out) refl
+    at Tick lacks out is status = absurd (first-there thread-limit (omega arith) lacks)
 
     unsound : (event : Event) → both issound (leb threads thread-limit) ≡ false → (status : ThreadStatus)
         → gate (both issound (leb threads thread-limit)) threads objects event status ≡ Shut NotSound
-    unsound (Begin operation thread object) is status = rw is refl
-    unsound (Step thread) is status = rw is refl
+    unsound event is status = rw is refl
 
 module _ (t : Table) (event : Event) (issound : Bool) where
   -- the thread's record as the code reads it, and the number of the object that it finds by it
@@ -119,9 +130,9 @@ module _ (t : Table) (event : Event) (issound : Bool) where
   abbrev pub stored-outcome : Turn → Outcome
   stored-outcome turn =
       record {
-        table = pick (stays (turn .work))
+        table = pick (work-stays (turn .work))
             (stored t (thread-place (event-thread event)) (object-place number-in-place) (turn .own) (turn .object))
-            (work-done t (event-thread event) number-in-place (turn .own) (turn .object) (turn .work));
+            (work-done-of t (event-thread event) number-in-place turn .table);
         reply = turn .reply;
         commits = turn .commits;
       }
@@ -143,15 +154,15 @@ module _ (t : Table) (event : Event) (issound : Bool) where
   both-have thread object =
       rw (object-here object)
       (λ j. record {
-        table = pick (stays (turn-here .work))
+        table = pick (work-stays (turn-here .work))
             (set-both t (event-thread event) number-in-place (turn-here .own) (turn-here .object) thread object j)
-            (work-done t (event-thread event) number-in-place (turn-here .own) (turn-here .object) (turn-here .work));
+            (work-done-of t (event-thread event) number-in-place turn-here .table);
         reply = turn-here .reply;
         commits = turn-here .commits;
       })
 
   thread-has : Has thread-limit (event-thread event) → Lacks object-limit number-in-place → handle-with t event issound own-in-place ≡ stored-outcome turn-here
-  unfolding stays
+  unfolding work-stays stays
   thread-has (some, high) lacks =
       rw (
         keeps-object gate-here event own-in-place (object-at t number-in-place) _ lacks,
@@ -164,7 +175,7 @@ module _ (t : Table) (event : Event) (issound : Bool) where
       refl
 
   nobody : Lacks thread-limit (event-thread event) → handle-trusting t event issound ≡ stored-outcome turn-here
-  unfolding handle-trusting gate-turn stays
+  unfolding handle-trusting gate-turn work-stays stays
   nobody lacks =
       let (refusal, shut) = shut-thread issound (t .threadcount) (t .objectcount) event lacks in
       let own = thread-at t (event-thread event) in
@@ -208,8 +219,8 @@ module _ {t : Table} {event : Event} {issound : Bool} {thread place number home 
     (taken : Taken t event issound thread place number home turn) where
   settled-so :
       record {
-        table = pick (stays (turn .work)) (stored t place home (turn .own) (turn .object))
-            (work-done t thread number (turn .own) (turn .object) (turn .work));
+        table = pick (work-stays (turn .work)) (stored t place home (turn .own) (turn .object))
+            (work-done-of t thread number turn .table);
         reply = turn .reply;
         commits = turn .commits;
       }
@@ -218,11 +229,11 @@ module _ {t : Table} {event : Event} {issound : Bool} {thread place number home 
       rw (taken .turn-is, taken .home-is, taken .number-is, taken .place-is, taken .thread-is) (sym (in-place t event issound))
 
   -- both records were stored
-  pub stored-so : stays (turn .work) ≡ true
+  pub stored-so : work-stays (turn .work) ≡ true
       → record { table = stored t place home (turn .own) (turn .object); reply = turn .reply; commits = turn .commits } ≡ handle-trusting t event issound
   stored-so stay = rw stay at settled-so
 
   -- work on the chains was done
-  pub worked-so : stays (turn .work) ≡ false → {done : WorkDone} → done ≡ work-done-of t thread number turn
+  pub worked-so : work-stays (turn .work) ≡ false → {done : WorkDone} → done ≡ work-done-of t thread number turn
       → record { table = done .table; reply = turn .reply; commits = turn .commits } ≡ handle-trusting t event issound
   worked-so work is = rw is (rw work at settled-so)

@@ -1,14 +1,15 @@
 -- A number that is taken as 255 where it is larger gives the same begin and the same step: a sound table has no thread or object above 64, and no
--- operation is above 5.
+-- operation is above 6.
 use Prim.Native.Nat.{ℕ, _≤_, _<_}
 use mathlib.Core.Path.{_≡_, refl, sym, _∙_}
-use mathlib.Core.Bool.{Bool, true, false}
+use mathlib.Core.Bool.{Bool, true, false, not}
+use mathlib.Core.List.{List, _∷_}
 use native.Mathlib.Omega.{arith}
 use lib.Dec.{leb}
 use borrow.Author.Tests.{lt-leb}
 use Rattle.laws.specs.Choice.{pick, within}
 use Rattle.laws.proofs.Choice.{split, both-first, both-no}
-use Rattle.lock_rules.specs.Gate.{begin-rows, step-rows, first-refusing, gate}
+use Rattle.lock_rules.specs.Gate.{GateRow, refuses, limit-fits, begin-rows, step-rows, first-refusing, gate}
 use Rattle.lock_rules.specs.Operations.{operation-limit}
 use Rattle.lock_rules.specs.declared.event.{Event.Event, ThreadStatus.ThreadStatus, Refusal.Refusal}
 use Rattle.lock_rules.specs.declared.event.Event.the-variants.{Begin, Step}
@@ -43,27 +44,31 @@ no-operation sound thread = pick sound (pick thread NoSuchOperation NoSuchThread
 abbrev no-object : Bool → Bool → Bool → Refusal
 no-object sound thread operation = pick sound (pick thread (pick operation NoSuchObject NoSuchOperation) NoSuchThread) NotSound
 
-begin-no-thread : (sound operation object : Bool) (status : ThreadStatus)
-    → first-refusing (begin-rows sound false operation object status) ≡ Shut (no-thread sound)
-begin-no-thread true operation object status = refl
-begin-no-thread false operation object status = refl
+-- 11 comes before all others
+abbrev rows-from : Bool → List GateRow → List GateRow
+rows-from sound rows = refuses NotSound (not sound) ∷ rows
 
-step-no-thread : (sound : Bool) (status : ThreadStatus) → first-refusing (step-rows sound false status) ≡ Shut (no-thread sound)
+begin-no-thread : (sound operation object limit : Bool) (status : ThreadStatus)
+    → first-refusing (rows-from sound (begin-rows false operation object limit status)) ≡ Shut (no-thread sound)
+begin-no-thread true operation object limit status = refl
+begin-no-thread false operation object limit status = refl
+
+step-no-thread : (sound : Bool) (status : ThreadStatus) → first-refusing (rows-from sound (step-rows false status)) ≡ Shut (no-thread sound)
 step-no-thread true status = refl
 step-no-thread false status = refl
 
-begin-no-operation : (sound thread object : Bool) (status : ThreadStatus)
-    → first-refusing (begin-rows sound thread false object status) ≡ Shut (no-operation sound thread)
-begin-no-operation true true object status = refl
-begin-no-operation true false object status = refl
-begin-no-operation false thread object status = refl
+begin-no-operation : (sound thread object limit : Bool) (status : ThreadStatus)
+    → first-refusing (rows-from sound (begin-rows thread false object limit status)) ≡ Shut (no-operation sound thread)
+begin-no-operation true true object limit status = refl
+begin-no-operation true false object limit status = refl
+begin-no-operation false thread object limit status = refl
 
-begin-no-object : (sound thread operation : Bool) (status : ThreadStatus)
-    → first-refusing (begin-rows sound thread operation false status) ≡ Shut (no-object sound thread operation)
-begin-no-object true true true status = refl
-begin-no-object true true false status = refl
-begin-no-object true false operation status = refl
-begin-no-object false thread operation status = refl
+begin-no-object : (sound thread operation limit : Bool) (status : ThreadStatus)
+    → first-refusing (rows-from sound (begin-rows thread operation false limit status)) ≡ Shut (no-object sound thread operation)
+begin-no-object true true true limit status = refl
+begin-no-object true true false limit status = refl
+begin-no-object true false operation limit status = refl
+begin-no-object false thread operation limit status = refl
 
 module _ (table : Table) where
   abbrev sound : Bool
@@ -88,8 +93,7 @@ module _ (table : Table) where
   unsound one other is = alike NotSound one other (shut one) (shut other)
     where
       shut : (event : Event) (status : ThreadStatus) → gate sound threads objects event status ≡ Shut NotSound
-      shut (Begin operation thread object) status = rw is refl
-      shut (Step thread) status = rw is refl
+      shut event status = rw is refl
 
   tested : (one other : Event) → (sound-of table ≡ true → handle table one ≡ handle table other) → handle table one ≡ handle table other
   tested one other same = split (sound-of table) same (unsound one other)
@@ -101,31 +105,38 @@ module _ (table : Table) where
       (λ status. rw (outside threads 255 (omega (arith, few))) (step-no-thread sound status))
       (λ status. rw (outside threads n (omega (arith, few, past))) (step-no-thread sound status)))
 
-  thread-past : (operation object n : ℕ) → 255 < n → begin table 255 operation object ≡ begin table n operation object
-  thread-past operation object n past = tested (Begin operation 255 object) (Begin operation n object)
+  thread-past : (operation object limit n : ℕ) → 255 < n → begin table 255 operation object limit ≡ begin table n operation object limit
+  thread-past operation object limit n past = tested (Begin operation 255 object limit) (Begin operation n object limit)
       (λ is. let few = sizes table is .0 in
-      alike (no-thread sound) (Begin operation 255 object) (Begin operation n object)
-      (λ status. rw (outside threads 255 (omega (arith, few))) (begin-no-thread sound (within 1 operation-limit operation) (within 1 objects object) status))
-      (λ status. rw (outside threads n (omega (arith, few, past))) (begin-no-thread sound (within 1 operation-limit operation) (within 1 objects object) status)))
+      alike (no-thread sound) (Begin operation 255 object limit) (Begin operation n object limit)
+      (λ status. rw (outside threads 255 (omega (arith, few)))
+      (begin-no-thread sound (within 1 operation-limit operation) (within 1 objects object) (limit-fits operation limit) status))
+      (λ status. rw (outside threads n (omega (arith, few, past)))
+      (begin-no-thread sound (within 1 operation-limit operation) (within 1 objects object) (limit-fits operation limit) status)))
 
-  operation-past : (thread object n : ℕ) → 255 < n → begin table thread 255 object ≡ begin table thread n object
-  operation-past thread object n past =
-      alike (no-operation sound (within 1 threads thread)) (Begin 255 thread object) (Begin n thread object)
-      (λ status. begin-no-operation sound (within 1 threads thread) (within 1 objects object) status)
-      (λ status. rw (outside operation-limit n (omega (arith, past))) (begin-no-operation sound (within 1 threads thread) (within 1 objects object) status))
+  operation-past : (thread object limit n : ℕ) → 255 < n → begin table thread 255 object limit ≡ begin table thread n object limit
+  operation-past thread object limit n past =
+      alike (no-operation sound (within 1 threads thread)) (Begin 255 thread object limit) (Begin n thread object limit)
+      (λ status. begin-no-operation sound (within 1 threads thread) (within 1 objects object) (limit-fits 255 limit) status)
+      (λ status. rw (outside operation-limit n (omega (arith, past)))
+      (begin-no-operation sound (within 1 threads thread) (within 1 objects object) (limit-fits n limit) status))
 
-  object-past : (thread operation n : ℕ) → 255 < n → begin table thread operation 255 ≡ begin table thread operation n
-  object-past thread operation n past = tested (Begin operation thread 255) (Begin operation thread n)
+  object-past : (thread operation limit n : ℕ) → 255 < n → begin table thread operation 255 limit ≡ begin table thread operation n limit
+  object-past thread operation limit n past = tested (Begin operation thread 255 limit) (Begin operation thread n limit)
       (λ is. let few = sizes table is .1 in
-      alike (no-object sound (within 1 threads thread) (within 1 operation-limit operation)) (Begin operation thread 255) (Begin operation thread n)
-      (λ status. rw (outside objects 255 (omega (arith, few))) (begin-no-object sound (within 1 threads thread) (within 1 operation-limit operation) status))
-      (λ status. rw (outside objects n (omega (arith, few, past))) (begin-no-object sound (within 1 threads thread) (within 1 operation-limit operation) status)))
+      alike (no-object sound (within 1 threads thread) (within 1 operation-limit operation)) (Begin operation thread 255 limit) (Begin operation thread n limit)
+      (λ status. rw (outside objects 255 (omega (arith, few)))
+      (begin-no-object sound (within 1 threads thread) (within 1 operation-limit operation) (limit-fits operation limit) status))
+      (λ status. rw (outside objects n (omega (arith, few, past)))
+      (begin-no-object sound (within 1 threads thread) (within 1 operation-limit operation) (limit-fits operation limit) status)))
 
   pub narrow-step : (thread : ℕ) → step table (narrow-of thread) ≡ step table thread
   narrow-step thread = narrowed (step table) step-past thread
 
-  pub narrow-begin : (thread operation object : ℕ) → begin table (narrow-of thread) (narrow-of operation) (narrow-of object) ≡ begin table thread operation object
-  narrow-begin thread operation object =
-      narrowed (λ n. begin table n (narrow-of operation) (narrow-of object)) (thread-past (narrow-of operation) (narrow-of object)) thread
-      ∙ narrowed (λ n. begin table thread n (narrow-of object)) (operation-past thread (narrow-of object)) operation
-      ∙ narrowed (λ n. begin table thread operation n) (object-past thread operation) object
+  -- the limit is passed as it is
+  pub narrow-begin : (thread operation object limit : ℕ)
+      → begin table (narrow-of thread) (narrow-of operation) (narrow-of object) limit ≡ begin table thread operation object limit
+  narrow-begin thread operation object limit =
+      narrowed (λ n. begin table n (narrow-of operation) (narrow-of object) limit) (thread-past (narrow-of operation) (narrow-of object) limit) thread
+      ∙ narrowed (λ n. begin table thread n (narrow-of object) limit) (operation-past thread (narrow-of object) limit) operation
+      ∙ narrowed (λ n. begin table thread operation n limit) (object-past thread operation limit) object

@@ -2,6 +2,7 @@
 use Prim.Native.Nat.{ℕ}
 use mathlib.Core.Path.{_≡_, sym, ap, _∙_}
 use lib.ListN.{getD, set}
+use Rattle.lock_rules.specs.declared.ChainWork.{ChainWork}
 use Rattle.lock_table.specs.Limits.{thread-limit}
 use Rattle.lock_table.specs.Record.{no-thread, no-object, with-next, with-monitor}
 use Rattle.lock_table.specs.Access.{set-thread, set-object, next-of}
@@ -12,7 +13,8 @@ use Rattle.lock_perform.specs.Moving.{CarriedOut, touched, plan-at, moved-whole
 use Rattle.lock_perform.specs.Perform.{own-written, object-written}
 use Rattle.lock_perform.specs.declared.moving.ChainPlan.{ChainPlan}
 use Rattle.lock_perform.proofs.InPlace.{with-threads, set-both-in-place, relinked, after-whole-walk}
-use Rattle.lock_engine.specs.Handle.{work-done-of}
+use Rattle.lock_engine.specs.Handle.{work-done-by}
+use Rattle.lock_engine.specs.declared.turning.Work.the-variants.{Chains}
 use Rattle.lock_engine.specs.declared.turning.Turn.{Turn}
 use Rattle.lock_engine.specs.declared.settling.WorkDone.{WorkDone}
 
@@ -25,21 +27,21 @@ abbrev both-in : Table → ℕ → ℕ → ThreadRecord → ObjectRecord → Tab
 both-in t place home own object =
     record { threadcount = t .threadcount; objectcount = t .objectcount; threads = set (t .threads) place own; objects = set (t .objects) home object }
 
-module _ (t : Table) (thread number : ℕ) (turn : Turn) where
+module _ (t : Table) (thread number : ℕ) (turn : Turn) (work : ChainWork) where
   abbrev first : ℕ
-  first = moved-whole (turn .work) (turn .object .monitor)
+  first = moved-whole work (turn .object .monitor)
 
   abbrev spot : ℕ
-  spot = thread-place (touched (turn .work) (turn .object .monitor))
+  spot = thread-place (touched work (turn .object .monitor))
 
   abbrev plan-in : Table → ChainPlan
-  plan-in moved = plan-at (turn .work) (turn .object .monitor) thread number (getD (moved .threads) spot no-thread)
+  plan-in moved = plan-at work (turn .object .monitor) thread number (getD (moved .threads) spot no-thread)
 
   carried : let moved = move-all thread-limit t first in
-      carry-out t (turn .object .monitor) (turn .work) thread number ≡ carried-out (relinked-in moved (plan-in moved) spot) (plan-in moved)
+      carry-out t (turn .object .monitor) work thread number ≡ carried-out (relinked-in moved (plan-in moved) spot) (plan-in moved)
   carried =
-      after-whole-walk t first (turn .object .monitor) (turn .work) thread number
-      ∙ relinked (move-all thread-limit t first) (turn .object .monitor) (turn .work) thread number
+      after-whole-walk t first (turn .object .monitor) work thread number
+      ∙ relinked (move-all thread-limit t first) (turn .object .monitor) work thread number
 
   done : let moved = move-all thread-limit t first in
       let planned = plan-in moved in
@@ -51,7 +53,8 @@ module _ (t : Table) (thread number : ℕ) (turn : Turn) where
             (object-written number (turn .object) (planned .monitor) (getD (after .objects) (object-place number) no-object));
         unparked = planned .unparked;
       })
-      (work-done-of t thread number turn)
+      (work-done-by (Chains work) t thread number turn)
+  unfolding work-done-by
   done =
       let moved = move-all thread-limit t first in
       let planned = plan-in moved in
@@ -69,11 +72,11 @@ module _ (t : Table) (thread number : ℕ) (turn : Turn) where
 
   -- WORK IN PLACE
   pub work-in-place : {whole touches place own-place home : ℕ} {moved after : Table} {planned : ChainPlan} {own : ThreadRecord} {object : ObjectRecord}
-      → whole ≡ first → moved ≡ move-all thread-limit t whole → touches ≡ touched (turn .work) (turn .object .monitor) → place ≡ thread-place touches
-      → planned ≡ plan-at (turn .work) (turn .object .monitor) thread number (getD (moved .threads) place no-thread)
+      → whole ≡ first → moved ≡ move-all thread-limit t whole → touches ≡ touched work (turn .object .monitor) → place ≡ thread-place touches
+      → planned ≡ plan-at work (turn .object .monitor) thread number (getD (moved .threads) place no-thread)
       → after ≡ relinked-in moved planned place → own-place ≡ thread-place thread
       → own ≡ own-written thread (turn .own) (getD (after .threads) own-place no-thread) → home ≡ object-place number
       → object ≡ object-written number (turn .object) (planned .monitor) (getD (after .objects) home no-object)
-      → record { table = both-in after own-place home own object; unparked = planned .unparked } ≡ work-done-of t thread number turn
+      → record { table = both-in after own-place home own object; unparked = planned .unparked } ≡ work-done-by (Chains work) t thread number turn
   work-in-place whole-is moved-is touches-are place-is planned-is after-is own-place-is own-is home-is object-is =
       rw (object-is, home-is, own-is, own-place-is, after-is, planned-is, place-is, touches-are, moved-is, whole-is) done

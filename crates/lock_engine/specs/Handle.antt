@@ -1,29 +1,27 @@
 -- An event on a table: the records that it touches are read, take their turn, and are written back with the work on the chains done.
 use Prim.Native.Nat.{ℕ}
-use mathlib.Core.Bool.{Bool}
+use mathlib.Core.Bool.{Bool, false}
 use lib.Dec.{leb}
-use Rattle.laws.specs.Choice.{both}
+use Rattle.laws.specs.Choice.{pick, both}
 use Rattle.chains.specs.Chain.{chain-length}
-use Rattle.lock_rules.specs.Gate.{event-thread}
+use Rattle.lock_rules.specs.Gate.{event-thread, event-object}
 use Rattle.lock_rules.specs.declared.event.Event.{Event}
-use Rattle.lock_rules.specs.declared.event.Event.the-variants.{Begin, Step}
+use Rattle.lock_rules.specs.declared.event.Event.the-variants.{Begin, Step, Tick as TickEvent}
 use Rattle.lock_table.specs.Limits.{thread-limit}
-use Rattle.lock_table.specs.Access.{thread-at, object-at, next-of}
+use Rattle.lock_table.specs.Access.{thread-at, set-thread, object-at, set-object, next-of}
 use Rattle.lock_table.specs.declared.record.ThreadRecord.{ThreadRecord}
 use Rattle.lock_table.specs.declared.record.ObjectRecord.{ObjectRecord}
 use Rattle.lock_table.specs.declared.record.Table.{Table}
 use Rattle.lock_perform.specs.Moving.{carry-out}
-use Rattle.lock_perform.specs.Perform.{work-done, settled}
+use Rattle.lock_perform.specs.Perform.{stays, work-done}
+use Rattle.lock_clock.specs.Tick.{tick}
 use Rattle.lock_soundness.specs.Sound.{sound-of}
 use Rattle.lock_engine.specs.Turn.{take-turn}
 use Rattle.lock_engine.specs.declared.outcome.Outcome.{Outcome}
+use Rattle.lock_engine.specs.declared.turning.Work.{Work}
+use Rattle.lock_engine.specs.declared.turning.Work.the-variants.{Chains, Tick}
 use Rattle.lock_engine.specs.declared.turning.Turn.{Turn}
 use Rattle.lock_engine.specs.declared.settling.WorkDone.{WorkDone}
-
--- the object that an event is about: a begin names it, a step's is the one that its thread's operation is on
-abbrev pub event-object : Event → ℕ → ℕ
-event-object (Begin operation thread named) object = named
-event-object (Step thread) object = object
 
 -- how many threads wait for an object
 abbrev pub waiters-of : Table → ObjectRecord → ℕ
@@ -37,17 +35,32 @@ abbrev pub turn-with : Table → Event → Bool → ThreadRecord → ObjectRecor
 turn-with table event issound own object =
     take-turn (trusted table issound) (table .threadcount) (table .objectcount) event own object (waiters-of table object)
 
--- the table with a turn's work on the chains done and its records written, and whom the work unparked
-abbrev pub work-done-of : Table → ℕ → ℕ → Turn → WorkDone
-work-done-of table thread number turn =
-    record {
-      table = work-done table thread number (turn .own) (turn .object) (turn .work);
-      unparked = carry-out table (turn .object .monitor) (turn .work) thread number .unparked;
-    }
+-- whether the two records of the turn are all that it changes
+unfoldable pub work-stays : Work → Bool
+work-stays (Chains work) = stays work
+work-stays Tick = false
 
+-- the table with a turn's work done and its records written, and whom a rule's work unparked
+unfoldable pub work-done-by : Work → Table → ℕ → ℕ → Turn → WorkDone
+work-done-by (Chains work) table thread number turn =
+    record {
+      table = work-done table thread number (turn .own) (turn .object) work;
+      unparked = carry-out table (turn .object .monitor) work thread number .unparked;
+    }
+work-done-by Tick table thread number turn = record { table = tick table; unparked = 0 }
+
+abbrev pub work-done-of : Table → ℕ → ℕ → Turn → WorkDone
+work-done-of table thread number turn = work-done-by (turn .work) table thread number turn
+
+-- both records are written, and the work is done where there is some
 abbrev pub outcome-of : Table → ℕ → ℕ → Turn → Outcome
 outcome-of table thread number turn =
-    record { table = settled table thread number (turn .own) (turn .object) (turn .work); reply = turn .reply; commits = turn .commits }
+    record {
+      table = pick (work-stays (turn .work)) (set-object (set-thread table thread (turn .own)) number (turn .object))
+          (work-done-of table thread number turn .table);
+      reply = turn .reply;
+      commits = turn .commits;
+    }
 
 abbrev pub handle-with : Table → Event → Bool → ThreadRecord → Outcome
 handle-with table event issound own =
@@ -62,9 +75,12 @@ handle-trusting table event issound = handle-with table event issound (thread-at
 unfoldable pub handle : Table → Event → Outcome
 handle table event = handle-trusting table event (sound-of table)
 
--- a begin and a step
-abbrev pub begin : Table → ℕ → ℕ → ℕ → Outcome
-begin table thread operation object = handle table (Begin operation thread object)
+-- a begin, a step and a tick
+abbrev pub begin : Table → ℕ → ℕ → ℕ → ℕ → Outcome
+begin table thread operation object limit = handle table (Begin operation thread object limit)
 
 abbrev pub step : Table → ℕ → Outcome
 step table thread = handle table (Step thread)
+
+abbrev pub tick-event : Table → Outcome
+tick-event table = handle table TickEvent

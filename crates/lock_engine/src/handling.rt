@@ -1,10 +1,12 @@
 // An event on a table: the two records that it touches are read in place, take their turn and are written back in place.
 use crate::outcome::Outcome;
 use crate::settling::work_done;
+use crate::settling::work_stays;
 use crate::turning::Turn;
 use crate::turning::take_turn;
+use lock_gate::event_object;
+use lock_gate::event_thread;
 use lock_perform::length_from;
-use lock_perform::stays;
 use lock_rules::Event;
 use lock_table::ObjectRecord;
 use lock_table::THREADS;
@@ -13,35 +15,7 @@ use lock_table::ThreadRecord;
 use lock_table::object_place;
 use lock_table::thread_place;
 ghost use mathlib.Core.Path.{_≡_};
-ghost use Rattle.lock_rules.specs.Gate.{event-thread};
-ghost use Rattle.lock_engine.specs.Handle.{event-object, turn-with, handle-trusting, handle, begin, step};
-
-pub fn event_thread(event: Event) -> u8
-    ensures { λ r. ⌜ r ≡ event-thread event ⌝ }
-{
-    match event {
-        Event::Begin {
-            operation: _,
-            thread,
-            object: _,
-        } => thread,
-        Event::Step { thread } => thread,
-    }
-}
-
-// The object that an event is about, where the thread's operation is on this one.
-pub fn event_object(event: Event, object: u8) -> u8
-    ensures { λ r. ⌜ r ≡ event-object event object ⌝ }
-{
-    match event {
-        Event::Begin {
-            operation: _,
-            thread: _,
-            object: named,
-        } => named,
-        Event::Step { thread: _ } => object,
-    }
-}
+ghost use Rattle.lock_engine.specs.Handle.{turn-with, handle-trusting, handle, begin, step, tick-event};
 
 // What an event makes of the two records, of a table that is taken to be sound or not. The waiters are counted here, and nowhere else; where nobody
 // waits there is nothing to walk.
@@ -86,7 +60,7 @@ pub fn handle_trusting(table: Table, event: Event, issound: bool) -> Outcome
     let objectafter = turn.object;
     let work = turn.work;
     let reply = turn.reply;
-    if stays(work) {
+    if work_stays(work) {
         changed.threads[place] = ownafter;
         changed.objects[home] = objectafter;
     } else {
@@ -106,9 +80,9 @@ pub fn handle(table: Table, event: Event) -> Outcome
     handle_trusting(table, event, lock_soundness::sound(table))
 }
 
-// The thread begins the operation with this number on the object.
-pub fn begin(table: Table, thread: u8, operation: u8, object: u8) -> Outcome
-    ensures { λ r. ⌜ r ≡ begin table thread operation object ⌝ }
+// The thread begins the operation with this number on the object; the limit is a timed wait's.
+pub fn begin(table: Table, thread: u8, operation: u8, object: u8, limit: u32) -> Outcome
+    ensures { λ r. ⌜ r ≡ begin table thread operation object limit ⌝ }
 {
     handle(
         table,
@@ -116,6 +90,7 @@ pub fn begin(table: Table, thread: u8, operation: u8, object: u8) -> Outcome
             operation: operation,
             thread: thread,
             object: object,
+            limit: limit,
         },
     )
 }
@@ -125,4 +100,11 @@ pub fn step(table: Table, thread: u8) -> Outcome
     ensures { λ r. ⌜ r ≡ step table thread ⌝ }
 {
     handle(table, Event::Step { thread: thread })
+}
+
+// The clock ticks.
+pub fn tick_event(table: Table) -> Outcome
+    ensures { λ r. ⌜ r ≡ tick-event table ⌝ }
+{
+    handle(table, Event::Tick)
 }

@@ -1,4 +1,5 @@
-// The lock engine: a thread begins an operation or takes a single step, and the table comes back with a reply (document 01, "Returned first").
+// The lock engine: a thread begins an operation or takes a single step, or the clock ticks, and the table comes back with a reply (document 01,
+// "Returned first"; document 02, L1).
 // Every table and every number is answered; what cannot be done is refused with the first refusal that applies.
 mod handling;
 mod outcome;
@@ -6,11 +7,10 @@ mod settling;
 mod turning;
 
 pub use handling::begin;
-pub use handling::event_object;
-pub use handling::event_thread;
 pub use handling::handle;
 pub use handling::handle_trusting;
 pub use handling::step;
+pub use handling::tick_event;
 pub use handling::turn_with;
 pub use outcome::Outcome;
 pub use outcome::Reply;
@@ -19,4 +19,6 @@ pub use outcome::returned;
 pub use outcome::woken;
 pub use settling::WorkDone;
 pub use settling::work_done;
+pub use settling::work_stays;
 pub use turning::Turn;
+pub use turning::Work;

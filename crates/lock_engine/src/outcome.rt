@@ -7,8 +7,8 @@ ghost use Rattle.lock_rules.specs.Numbers.{refusal-number, returned-of, woken-o
 ghost use Rattle.lock_engine.specs.Outcome.{reply-returned, reply-woken};
 
 pub enum Reply {
-    // 0, of a begin
-    Begun,
+    // 0, of a begin or a tick
+    Accepted,
     Refused(Refusal),
     // 0, 1, 2, 18, 19 or 20: what the step's rule says
     Answered(Answer),
@@ -33,6 +33,7 @@ pub fn refusal_number(refusal: Refusal) -> u8
         Refusal::ThreadIdle => 15,
         Refusal::ThreadParked => 16,
         Refusal::NoSuchOperation => 17,
+        Refusal::LimitOutOfRange => 23,
     }
 }
 
@@ -67,18 +68,18 @@ pub fn returned(reply: Reply) -> u8
     ensures { λ r. ⌜ r ≡ reply-returned reply ⌝ }
 {
     match reply {
-        Reply::Begun => 0,
+        Reply::Accepted => 0,
         Reply::Refused(refusal) => refusal_number(refusal),
         Reply::Answered(answer) => answer_number(answer),
     }
 }
 
-// With 1, how many threads a notify woke, else 0.
+// With 1, how many threads a notify woke, and of a timed wait 1 if it ran out; else 0.
 pub fn woken(reply: Reply) -> u8
     ensures { λ r. ⌜ r ≡ reply-woken reply ⌝ }
 {
     match reply {
-        Reply::Begun => 0,
+        Reply::Accepted => 0,
         Reply::Refused(_) => 0,
         Reply::Answered(answer) => answer_woken(answer),
     }

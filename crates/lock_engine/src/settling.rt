@@ -1,22 +1,37 @@
-// The work on the chains that a turn leaves to do. The table stands in one local: the chains are walked and the records written there, and functions of
-// records say what becomes of each.
+// The work that a turn leaves to do. A rule's is on the chains of its object: the table stands in one local, the chains are walked and the records written
+// there, and functions of records say what becomes of each. A tick's is lock_clock's.
 use crate::turning::Turn;
+use crate::turning::Work;
+use lock_clock::tick;
 use lock_perform::goes_on;
 use lock_perform::hung;
 use lock_perform::moved_whole;
 use lock_perform::object_written;
 use lock_perform::own_written;
 use lock_perform::plan_at;
+use lock_perform::stays;
 use lock_perform::touched;
+use lock_rules::ChainWork;
 use lock_table::THREADS;
 use lock_table::Table;
 use lock_table::moved;
 use lock_table::object_place;
 use lock_table::thread_place;
 ghost use mathlib.Core.Path.{_≡_};
-ghost use Rattle.lock_engine.specs.Handle.{work-done-of};
+ghost use Rattle.lock_engine.specs.declared.turning.Work.the-variants.{Chains};
+ghost use Rattle.lock_engine.specs.Handle.{work-stays, work-done-by, work-done-of};
 
-// The table with the work done, and the set of threads that the work unparked: bit n - 1 for thread n.
+// Whether the two records of the turn are all that it changes.
+pub fn work_stays(work: Work) -> bool
+    ensures { λ r. ⌜ r ≡ work-stays work ⌝ }
+{
+    match work {
+        Work::Chains(chains) => stays(chains),
+        Work::Tick => false,
+    }
+}
+
+// The table with the work done, and the set of threads that a rule's work unparked: bit n - 1 for thread n. Whom a tick unparks is not named yet.
 pub struct WorkDone {
     pub table: Table,
     pub unparked: u32,
@@ -24,11 +39,10 @@ pub struct WorkDone {
 
 // The work done, and both records written: the thread's with the next index and the object's with the chains that the work gave. First the threads of a
 // chain that moves whole are changed, then one record is and the chain that joins another is hung behind its last thread.
-pub fn work_done(table: Table, thread: u8, number: u8, turn: Turn) -> WorkDone
-    ensures { λ r. ⌜ r ≡ work-done-of table thread number turn ⌝ }
+fn chains_done(table: Table, thread: u8, number: u8, turn: Turn, work: ChainWork) -> WorkDone
+    ensures { λ r. ⌜ r ≡ work-done-by (Chains work) table thread number turn ⌝ }
 {
     let mut changed = table;
-    let work = turn.work;
     let start = turn.object.monitor;
     let mut at = moved_whole(work, start);
     let mut left = THREADS;
@@ -60,5 +74,19 @@ pub fn work_done(table: Table, thread: u8, number: u8, turn: Turn) -> WorkDone
     WorkDone {
         table: changed,
         unparked: planned.unparked,
+    }
+}
+
+// The work of a turn that leaves some.
+pub fn work_done(table: Table, thread: u8, number: u8, turn: Turn) -> WorkDone
+    ensures { λ r. ⌜ r ≡ work-done-of table thread number turn ⌝ }
+{
+    let work = turn.work;
+    match work {
+        Work::Chains(chains) => chains_done(table, thread, number, turn, chains),
+        Work::Tick => WorkDone {
+            table: tick(table),
+            unparked: 0,
+        },
     }
 }

@@ -2,7 +2,6 @@
 use crate::outcome::Reply;
 use lock_gate::gate;
 use lock_gate::thread_status;
-use lock_perform::activity_of;
 use lock_perform::object_after;
 use lock_perform::read_thread;
 use lock_perform::sight_with;
@@ -16,6 +15,7 @@ use lock_rules::Event;
 use lock_rules::Gate;
 use lock_rules::Refusal;
 use lock_rules::ThreadState;
+use lock_table::Activity;
 use lock_table::OBJECTS;
 use lock_table::ObjectRecord;
 use lock_table::Operation;
@@ -23,17 +23,28 @@ use lock_table::Phase;
 use lock_table::ThreadRecord;
 use lock_table::operation_from;
 use lock_word::Decoded;
+use lock_word::TICK_LIMIT;
+use lock_word::Ticks;
 use lock_word::read_word;
 use lock_word::seen_word;
 use rule_decide::decide;
 ghost use mathlib.Core.Path.{_≡_};
-ghost use Rattle.lock_engine.specs.Turn.{refused, begun, begin-turn, effect-turn, action-turn, word-turn, state-turn, step-turn, open-turn, gate-turn, take-turn};
+ghost use lib.Dec.{ltb};
+ghost use Rattle.laws.specs.Choice.{pick};
+ghost use Rattle.lock_word.specs.Ticks.{tick-limit};
+ghost use Rattle.lock_engine.specs.Turn.{refused, given-ticks, begun, begin-turn, tick-turn, effect-turn, action-turn, word-turn, state-turn, step-turn, open-turn, gate-turn, take-turn};
 
-// What an event makes of the two records, the work on the chains that is left to do, and what it replies.
+// What an event leaves to be done to the table besides its two records.
+pub enum Work {
+    Chains(ChainWork), // a rule's, on the chains of its object
+    Tick, // on every waiting chain
+}
+
+// What an event makes of the two records, the work that is left to do, and what it replies.
 pub struct Turn {
     pub own: ThreadRecord,
     pub object: ObjectRecord,
-    pub work: ChainWork,
+    pub work: Work,
     pub reply: Reply,
     pub commits: bool,
 }
@@ -44,26 +55,77 @@ fn refused(own: ThreadRecord, object: ObjectRecord, refusal: Refusal) -> Turn
     Turn {
         own: own,
         object: object,
-        work: ChainWork::Stay,
+        work: Work::Chains(ChainWork::Stay),
         reply: Reply::Refused(refusal),
         commits: false,
     }
 }
 
-fn begun(own: ThreadRecord, operation: Operation, number: u8) -> ThreadRecord
-    ensures { λ r. ⌜ r ≡ begun own operation number ⌝ }
+// The ticks of a limit that the gate has let through; of any other, as many as there can be.
+fn narrow_limit(limit: u32) -> Ticks
+    ensures { λ r. ⌜ r ≡ pick (ltb tick-limit limit) tick-limit limit ⌝ }
 {
-    own.with_activity(activity_of(operation, number, Phase::Look, 0, 0))
+    if (TICK_LIMIT as u32) < limit {
+        return TICK_LIMIT;
+    }
+    limit as Ticks
 }
 
-fn begin_turn(own: ThreadRecord, object: ObjectRecord, operation: Operation, number: u8) -> Turn
-    ensures { λ r. ⌜ r ≡ begin-turn own object operation number ⌝ }
+// The limit of a timed wait; no other operation has ticks.
+fn given_ticks(operation: Operation, limit: u32) -> Ticks
+    ensures { λ r. ⌜ r ≡ given-ticks operation limit ⌝ }
+{
+    match operation {
+        Operation::Idle => 0,
+        Operation::Enter => 0,
+        Operation::Exit => 0,
+        Operation::Wait => 0,
+        Operation::Notify => 0,
+        Operation::NotifyAll => 0,
+        Operation::TimedWait => narrow_limit(limit),
+    }
+}
+
+fn begun(own: ThreadRecord, operation: Operation, number: u8, limit: u32) -> ThreadRecord
+    ensures { λ r. ⌜ r ≡ begun own operation number limit ⌝ }
+{
+    own.with_activity(Activity {
+        kept: 0,
+        saved: 0,
+        ticks: given_ticks(operation, limit),
+        object: number,
+        operation: operation,
+        phase: Phase::Look,
+    })
+}
+
+fn begin_turn(
+    own: ThreadRecord,
+    object: ObjectRecord,
+    operation: Operation,
+    number: u8,
+    limit: u32,
+) -> Turn
+    ensures { λ r. ⌜ r ≡ begin-turn own object operation number limit ⌝ }
 {
     Turn {
-        own: begun(own, operation, number),
+        own: begun(own, operation, number, limit),
         object: object,
-        work: ChainWork::Stay,
-        reply: Reply::Begun,
+        work: Work::Chains(ChainWork::Stay),
+        reply: Reply::Accepted,
+        commits: false,
+    }
+}
+
+// A tick leaves the two records that it reads to the work.
+fn tick_turn(own: ThreadRecord, object: ObjectRecord) -> Turn
+    ensures { λ r. ⌜ r ≡ tick-turn own object ⌝ }
+{
+    Turn {
+        own: own,
+        object: object,
+        work: Work::Tick,
+        reply: Reply::Accepted,
         commits: false,
     }
 }
@@ -77,7 +139,7 @@ fn effect_turn(thread: u8, own: ThreadRecord, object: ObjectRecord, effect: Effe
     Turn {
         own: write_thread(thread, own.object, state, own),
         object: object_after(thread, own.object, object, effect),
-        work: work,
+        work: Work::Chains(work),
         reply: Reply::Answered(answer),
         commits: effect.commits,
     }
@@ -91,7 +153,7 @@ fn action_turn(thread: u8, own: ThreadRecord, object: ObjectRecord, action: Acti
         Action::Unruled => Turn {
             own: own,
             object: object,
-            work: ChainWork::Stay,
+            work: Work::Chains(ChainWork::Stay),
             reply: Reply::Answered(Answer::NoRule),
             commits: false,
         },
@@ -163,8 +225,10 @@ fn open_turn(event: Event, own: ThreadRecord, object: ObjectRecord, waiters: u8)
             operation,
             thread: _,
             object: number,
-        } => begin_turn(own, object, operation_from(operation), number),
+            limit,
+        } => begin_turn(own, object, operation_from(operation), number, limit),
         Event::Step { thread } => step_turn(thread, own, object, waiters),
+        Event::Tick => tick_turn(own, object),
     }
 }
 

@@ -3,13 +3,13 @@ use Prim.Native.Nat.{ℕ}
 use mathlib.Core.Path.{_≡_, refl}
 use mathlib.Core.Bool.{Bool}
 use mathlib.Core.List.{List}
-use Rattle.lock_rules.specs.Gate.{event-thread}
+use Rattle.lock_rules.specs.Gate.{event-thread, event-object}
 use Rattle.lock_rules.specs.declared.event.Event.{Event}
 use Rattle.lock_table.specs.Access.{thread-at, object-at}
 use Rattle.lock_table.specs.declared.record.{ThreadRecord.ThreadRecord, ObjectRecord.ObjectRecord, Table.Table}
 use Rattle.lock_soundness.specs.Sound.{sound-of}
 use Rattle.lock_engine.specs.Outcome.{reply-returned, reply-woken}
-use Rattle.lock_engine.specs.Handle.{event-object, turn-with, handle-trusting, handle}
+use Rattle.lock_engine.specs.Handle.{turn-with, handle-trusting, handle}
 use Rattle.lock_engine.specs.declared.turning.Turn.{Turn}
 use Rattle.lock_engine_c.specs.Calls.{packed-of, outcome-answer, reply-changes, event-number, event-turn, store-turn}
 

@@ -12,7 +12,7 @@ use Rattle.laws.proofs.Sequence.{tabulate-length, tabulate-every}
 use Rattle.lock_rules.specs.Numbers.{refusal-number}
 use Rattle.lock_rules.specs.Gate.{gate, event-thread}
 use Rattle.lock_rules.specs.declared.event.{Event.Event, Gate.Gate, Refusal.Refusal}
-use Rattle.lock_rules.specs.declared.event.Event.the-variants.{Begin, Step}
+use Rattle.lock_rules.specs.declared.event.Event.the-variants.{Begin, Step, Tick}
 use Rattle.lock_rules.specs.declared.event.Gate.the-variants.{Open, Shut}
 use Rattle.lock_rules.specs.declared.Answer.the-variants.{GoneOn, Finished, Parked, NotOwner, TooDeep, NoRule}
 use Rattle.lock_table.specs.Limits.{thread-limit, object-limit}
@@ -25,14 +25,13 @@ use Rattle.lock_soundness.specs.Sound.{sound-of}
 use Rattle.lock_engine.specs.Outcome.{reply-returned, reply-woken}
 use Rattle.lock_engine.specs.Turn.{gate-turn, open-turn}
 use Rattle.lock_gate.specs.Status.{thread-status}
-use Rattle.lock_engine.specs.Handle.{outcome-of, waiters-of, trusted, handle-trusting, handle, begin}
+use Rattle.lock_engine.specs.Handle.{work-stays, work-done-of, outcome-of, waiters-of, trusted, handle-trusting, handle, begin, tick-event}
 use Rattle.lock_engine.proofs.{Refused.refused-stays, Full.full-thread}
 use Rattle.lock_engine.proofs.Narrow.{narrow-begin, narrow-step}
-use Rattle.lock_perform.specs.Perform.{stays, work-done}
 use Rattle.lock_rules.specs.declared.event.Refusal.the-variants.{NotSound, NoSuchThread, NoSuchObject, NotIdle, ThreadIdle, ThreadParked}
-use Rattle.lock_rules.specs.declared.event.Refusal.the-variants.{NoSuchOperation}
+use Rattle.lock_rules.specs.declared.event.Refusal.the-variants.{NoSuchOperation, LimitOutOfRange}
 use Rattle.lock_engine.specs.declared.outcome.{Reply.Reply, Outcome.Outcome}
-use Rattle.lock_engine.specs.declared.outcome.Reply.the-variants.{Begun, Refused, Answered}
+use Rattle.lock_engine.specs.declared.outcome.Reply.the-variants.{Accepted, Refused, Answered}
 use Rattle.lock_refusals.specs.Demand.{returned, left-by}
 use Rattle.lock_refusals.proofs.Theorem.{demand-one}
 use Rattle.table_bytes.specs.Layout.{object-start}
@@ -42,23 +41,36 @@ use Rattle.table_bytes.proofs.Written.{kept-is, table-long}
 use Rattle.table_bytes.proofs.SameBytes.{bytes-back}
 use Rattle.table_bytes.proofs.SetRecords.{thread-written, object-written}
 use Rattle.lock_engine_c.proofs.FullTables.{read-full}
-use Rattle.lock_engine_c.specs.Calls.{packed-of, returned-in, outcome-answer, event-answer, event-bytes, left-bytes, RefusedLeaves, begun-on}
+use Rattle.lock_engine_c.specs.Calls.{packed-of, returned-in, outcome-answer, event-answer, event-bytes, left-bytes, RefusedLeaves, begun-on, ticked-on}
 use Rattle.lock_engine_c.specs.Calls.{stepped-on, answer-changes, reply-changes, event-number, event-turn, store-turn, event-over}
 
 -- a begin that is refused leaves the table
-begin-leaves : (table : Table) (thread operation object : ℕ) → let outcome = begin table thread operation object in
+begin-leaves : (table : Table) (thread operation object limit : ℕ) → let outcome = begin table thread operation object limit in
     11 ≤ returned outcome → outcome .table ≡ table
 unfolding handle handle-trusting gate-turn open-turn reply-returned
-begin-leaves table thread operation object =
-    at (gate (trusted table (sound-of table)) (table .threadcount) (table .objectcount) (Begin operation thread object)
+begin-leaves table thread operation object limit =
+    at (gate (trusted table (sound-of table)) (table .threadcount) (table .objectcount) (Begin operation thread object limit)
     (thread-status (thread-at table thread .phase)))
   where
     at : (gated : Gate)
         → let home = object-at table object in
-        let outcome = outcome-of table thread object (gate-turn gated (Begin operation thread object) (thread-at table thread) home (waiters-of table home)) in
+        let outcome = outcome-of table thread object (gate-turn gated (Begin operation thread object limit) (thread-at table thread) home (waiters-of table home)) in
         11 ≤ returned outcome → outcome .table ≡ table
     at Open high = absurd (omega (arith, high))
     at (Shut refusal) high = ap (λ (outcome : Outcome). outcome .table) (refused-stays table thread object refusal)
+
+-- and so does a tick
+tick-leaves : (table : Table) → let outcome = tick-event table in 11 ≤ returned outcome → outcome .table ≡ table
+unfolding handle handle-trusting gate-turn open-turn reply-returned
+tick-leaves table =
+    at (gate (trusted table (sound-of table)) (table .threadcount) (table .objectcount) Tick (thread-status (thread-at table 1 .phase)))
+  where
+    at : (gated : Gate)
+        → let home = object-at table 1 in
+        let outcome = outcome-of table 1 1 (gate-turn gated Tick (thread-at table 1) home (waiters-of table home)) in
+        11 ≤ returned outcome → outcome .table ≡ table
+    at Open high = absurd (omega (arith, high))
+    at (Shut refusal) high = ap (λ (outcome : Outcome). outcome .table) (refused-stays table 1 1 refusal)
 
 abbrev DepthFits : ObjectRecord → Type 0
 DepthFits object = object .monitor .depth ≤ depth-limit
@@ -89,11 +101,12 @@ refusal-numbers NotIdle = (omega arith, refl, omega arith)
 refusal-numbers ThreadIdle = (omega arith, refl, omega arith)
 refusal-numbers ThreadParked = (omega arith, refl, omega arith)
 refusal-numbers NoSuchOperation = (omega arith, refl, omega arith)
+refusal-numbers LimitOutOfRange = (omega arith, refl, omega arith)
 
 unchanged-number : (reply : Reply) → reply-changes reply ≡ false
     → let number = reply-returned reply in (11 ≤ number) × (either (eqb number 18) (eqb number 19) ≡ false)
 unfolding reply-changes answer-changes reply-returned
-unchanged-number Begun same = false≢true (sym same)
+unchanged-number Accepted same = false≢true (sym same)
 unchanged-number (Refused refusal) same = let numbers = refusal-numbers refusal in (numbers .0, numbers .1)
 unchanged-number (Answered GoneOn) same = false≢true (sym same)
 unchanged-number (Answered (Finished woken)) same = false≢true (sym same)
@@ -110,7 +123,7 @@ unchanged-same table typed event unchanged =
 
 number-small : (reply : Reply) → reply-returned reply < 256
 unfolding reply-returned
-number-small Begun = omega arith
+number-small Accepted = omega arith
 number-small (Refused refusal) = refusal-numbers refusal .2
 number-small (Answered GoneOn) = omega arith
 number-small (Answered (Finished woken)) = omega arith
@@ -145,8 +158,8 @@ module _ (bytes : List ℕ) (small : AreBytes bytes) where
       let own = thread-written bytes table (sym (bytes-back bytes small known)) (event-thread event) (read-full bytes .threads) (turn .own) in
       let full = full-thread (event-thread event) (turn .own) (read-full bytes) in
       split (reply-changes (turn .reply))
-      (λ changed. rw changed (split (stays (turn .work)) (λ stay. rw stay (object-written (write-thread bytes (event-thread event) (turn .own)) (set-thread table (event-thread event) (turn .own)) own number (full .objects) (turn .object)))
-      (λ work. rw work (kept-is bytes (work-done table (event-thread event) number (turn .own) (turn .object) (turn .work)) (table-long bytes known)))))
+      (λ changed. rw changed (split (work-stays (turn .work)) (λ stay. rw stay (object-written (write-thread bytes (event-thread event) (turn .own)) (set-thread table (event-thread event) (turn .own)) own number (full .objects) (turn .object)))
+      (λ work. rw work (kept-is bytes (work-done-of table (event-thread event) number turn .table) (table-long bytes known)))))
       (λ unchanged. rw unchanged (sym (ap bytes-of (unchanged-same table (read-well-typed bytes small) event unchanged) ∙ bytes-back bytes small known)))
 
   pub event-stored : (event : Event) → event-over (is-table bytes) bytes table event ≡ event-bytes (is-table bytes) bytes (handle table event)
@@ -165,29 +178,27 @@ module _ (bytes : List ℕ) (small : AreBytes bytes) where
           (λ ends. rw ends (sym (thread-written bytes table (sym (bytes-back bytes small known)) (event-thread event) (read-full bytes .threads) (idle (thread-at table (event-thread event))))))
           (λ other. rw other (bytes-back bytes small known))
 
-  -- a begin is refused with neither 18 nor 19
-  pub begin-left : (thread operation object : ℕ) → let outcome = begin table thread operation object in
-      11 ≤ returned-in (event-answer (is-table bytes) outcome) → event-bytes (is-table bytes) bytes outcome ≡ bytes
-  begin-left thread operation object =
-      let outcome = begin table thread operation object in
+  -- an outcome that leaves the table where it is refused, with neither 18 nor 19
+  left-whole : (outcome : Outcome) → (11 ≤ returned outcome → outcome .table ≡ table)
+      → 11 ≤ returned-in (event-answer (is-table bytes) outcome) → event-bytes (is-table bytes) bytes outcome ≡ bytes
+  left-whole outcome leaves =
       split (is-table bytes)
-      (λ known. rw known (rw (outcome-number outcome)
-      (λ refused. ap bytes-of (begin-leaves table thread operation object refused) ∙ bytes-back bytes small known)))
+      (λ known. rw known (rw (outcome-number outcome) (λ refused. ap bytes-of (leaves refused) ∙ bytes-back bytes small known)))
       (λ unknown. rw unknown (λ refused. refl))
 
   -- what the calls promise, from what their code answers and writes of the numbers made narrow
-  pub begin-promised : (thread operation object answer : ℕ) (after : List ℕ)
-      → let narrowed = Begin (narrow-of operation) (narrow-of thread) (narrow-of object) in
-      let outcome = begun-on bytes thread operation object in
+  pub begin-promised : (thread operation object limit answer : ℕ) (after : List ℕ)
+      → let narrowed = Begin (narrow-of operation) (narrow-of thread) (narrow-of object) limit in
+      let outcome = begun-on bytes thread operation object limit in
       answer ≡ event-answer (is-table bytes) (handle table narrowed) → after ≡ event-over (is-table bytes) bytes table narrowed
       → (after ≡ event-bytes (is-table bytes) bytes outcome) × (11 ≤ returned-in answer → after ≡ bytes)
-  begin-promised thread operation object answer after answers stores =
-      let outcome = begun-on bytes thread operation object in
-      let same = narrow-begin table thread operation object in
+  begin-promised thread operation object limit answer after answers stores =
+      let outcome = begun-on bytes thread operation object limit in
+      let same = narrow-begin table thread operation object limit in
       let answered : answer ≡ event-answer (is-table bytes) outcome = answers ∙ ap (event-answer (is-table bytes)) same in
       let written : after ≡ event-bytes (is-table bytes) bytes outcome =
-      stores ∙ event-stored (Begin (narrow-of operation) (narrow-of thread) (narrow-of object)) ∙ ap (event-bytes (is-table bytes) bytes) same in
-      (written, rw (answered, written) (begin-left thread operation object))
+      stores ∙ event-stored (Begin (narrow-of operation) (narrow-of thread) (narrow-of object) limit) ∙ ap (event-bytes (is-table bytes) bytes) same in
+      (written, rw (answered, written) (left-whole outcome (begin-leaves table thread operation object limit)))
 
   pub step-promised : (thread answer : ℕ) (after : List ℕ) → let outcome = stepped-on bytes thread in
       answer ≡ event-answer (is-table bytes) (handle table (Step (narrow-of thread))) → after ≡ event-over (is-table bytes) bytes table (Step (narrow-of thread))
@@ -199,3 +210,11 @@ module _ (bytes : List ℕ) (small : AreBytes bytes) where
       let written : after ≡ event-bytes (is-table bytes) bytes outcome =
       stores ∙ event-stored (Step (narrow-of thread)) ∙ ap (event-bytes (is-table bytes) bytes) same in
       (written, rw (answered, written) (refused-left (Step thread)))
+
+  pub tick-promised : (answer : ℕ) (after : List ℕ) → let outcome = ticked-on bytes in
+      answer ≡ event-answer (is-table bytes) outcome → after ≡ event-over (is-table bytes) bytes table Tick
+      → (after ≡ event-bytes (is-table bytes) bytes outcome) × (11 ≤ returned-in answer → after ≡ bytes)
+  tick-promised answer after answers stores =
+      let outcome = ticked-on bytes in
+      let written : after ≡ event-bytes (is-table bytes) bytes outcome = stores ∙ event-stored Tick in
+      (written, rw (answers, written) (left-whole outcome (tick-leaves table)))

@@ -11,24 +11,21 @@ use lib.ListN.{length, set, take, drop}
 use lib.Seq.{set-split, paste-zero}
 use Rattle.laws.specs.Choice.{pick, both, either}
 use Rattle.laws.proofs.Choice.{split, both-first, both-second, false≢true, Below, below}
-use Rattle.lock_rules.specs.{Numbers.refusal-number, Gate.gate}
-use Rattle.lock_rules.specs.declared.event.{Event.Event, ThreadStatus.ThreadStatus}
-use Rattle.lock_rules.specs.declared.event.Event.the-variants.{Begin, Step}
+use Rattle.lock_rules.specs.Numbers.{refusal-number}
+use Rattle.lock_rules.specs.declared.event.Event.{Event}
 use Rattle.lock_rules.specs.declared.event.Refusal.the-variants.{NotSound}
-use Rattle.lock_rules.specs.declared.event.Gate.the-variants.{Shut}
 use Rattle.event_bytes.specs.Encoding.{event-size, event-at, events-from}
 use Rattle.event_bytes.proofs.Encoding.{events-next, events-end}
 use Rattle.lock_table.specs.WellTyped.{WellTyped}
 use Rattle.lock_table.specs.declared.record.Table.{Table}
 use Rattle.lock_soundness.specs.Sound.{sound-of}
-use Rattle.lock_engine.specs.Handle.{work-done-of, handle-trusting, handle}
+use Rattle.lock_engine.specs.Handle.{work-stays, work-done-of, handle-trusting, handle}
 use Rattle.lock_engine.specs.Outcome.{reply-returned, reply-woken}
 use Rattle.lock_engine.specs.declared.outcome.Outcome.{Outcome}
 use Rattle.lock_engine.specs.declared.turning.Turn.{Turn}
 use Rattle.lock_engine.specs.declared.settling.WorkDone.{WorkDone}
 use Rattle.lock_engine.proofs.InPlace.{Taken, stored, stored-so, worked-so}
 use Rattle.lock_engine.proofs.Refused.{refusing, handle-shut}
-use Rattle.lock_perform.specs.Perform.{stays}
 use Rattle.lock_schedule.proofs.Theorem.{sound-kept, well-typed-kept}
 use Rattle.table_bytes.specs.{Rows.overwritten, Writing.bytes-of}
 use Rattle.table_bytes.specs.Reading.{AreBytes, table-of, is-table}
@@ -57,9 +54,9 @@ answer-stored done answer rest answers room =
     set-split answers done answer room ∙ rw (add-one done) (sym (append-assoc (take done answers) (answer ∷ []) (drop (suc done) answers))) in
     sym (ap (overwritten (done + 1) rest) one ∙ overwritten-next done (answer ∷ []) rest answers (omega (arith, room)))
 
--- what the loop makes of its table in place, both records stored or the work on the chains done
+-- what the loop makes of its table in place, both records stored or the work done
 pub came-so : {t : Table} {event : Event} {issound : Bool} {thread place number home : ℕ} {turn : Turn}
-    → Taken t event issound thread place number home turn → {stay : Bool} → stay ≡ stays (turn .work) → {after : Table}
+    → Taken t event issound thread place number home turn → {stay : Bool} → stay ≡ work-stays (turn .work) → {after : Table}
     → ((stay ≡ true) × (after ≡ stored t place home (turn .own) (turn .object)))
     ⊎ ((stay ≡ false) × (done : WorkDone) × (done ≡ work-done-of t thread number turn) × (after ≡ done .table))
     → record { table = after; reply = turn .reply; commits = turn .commits } ≡ handle-trusting t event issound
@@ -70,11 +67,7 @@ came-so {turn = turn} taken told (inr (work, done, worked, is)) =
 
 -- a table that is not sound refuses every event
 refuses : (table : Table) (event : Event) → handle-trusting table event false ≡ refusing table NotSound
-refuses table event = handle-shut table event false NotSound (shut event _)
-  where
-    shut : (event : Event) (status : ThreadStatus) → gate false (table .threadcount) (table .objectcount) event status ≡ Shut NotSound
-    shut (Begin operation thread object) status = refl
-    shut (Step thread) status = refl
+refuses table event = handle-shut table event false NotSound refl
 
 refusing-answer : (table : Table) → outcome-answer (refusing table NotSound) ≡ not-sound
 unfolding packed-of reply-returned reply-woken refusal-number

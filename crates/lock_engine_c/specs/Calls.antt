@@ -1,4 +1,4 @@
--- What each exported call that changes a table answers and makes of the bytes: the engine's begin, step and fresh table on the table that the bytes say.
+-- What each exported call that changes a table answers and makes of the bytes: the engine's begin, step, tick and fresh table on the table that the bytes say.
 use Prim.Native.Nat.{ℕ, _+_, _*_, _%_, _≤_}
 use mathlib.Core.Path.{_≡_}
 use mathlib.Core.Bool.{Bool, true, false, not}
@@ -7,7 +7,7 @@ use lib.Dec.{eqb}
 use lib.ListN.{length}
 use Rattle.laws.specs.Choice.{pick, either}
 use Rattle.lock_rules.specs.Numbers.{first-refusal, refusal-number, returned-of}
-use Rattle.lock_rules.specs.Gate.{event-thread}
+use Rattle.lock_rules.specs.Gate.{event-thread, event-object}
 use Rattle.lock_rules.specs.declared.event.Event.{Event}
 use Rattle.lock_rules.specs.declared.event.Refusal.the-variants.{NotSound}
 use Rattle.lock_rules.specs.declared.Answer.{Answer}
@@ -19,20 +19,19 @@ use Rattle.lock_table.specs.declared.fresh_table.FreshAnswer.the-variants.{Made
 use Rattle.lock_table.specs.declared.fresh_table.FreshTable.{FreshTable}
 use Rattle.lock_table.specs.declared.record.Table.{Table}
 use Rattle.lock_soundness.specs.Sound.{sound-of}
-use Rattle.lock_perform.specs.Perform.{stays, work-done}
 use Rattle.lock_engine.specs.Outcome.{reply-returned, reply-woken}
-use Rattle.lock_engine.specs.Handle.{event-object, turn-with, begin, step}
+use Rattle.lock_engine.specs.Handle.{turn-with, work-stays, work-done-of, begin, step, tick-event}
 use Rattle.lock_engine.specs.declared.turning.Turn.{Turn}
 use Rattle.lock_engine.specs.declared.outcome.Reply.{Reply}
-use Rattle.lock_engine.specs.declared.outcome.Reply.the-variants.{Begun, Refused, Answered}
+use Rattle.lock_engine.specs.declared.outcome.Reply.the-variants.{Accepted, Refused, Answered}
 use Rattle.lock_engine.specs.declared.outcome.Outcome.{Outcome}
 use Rattle.table_bytes.specs.Layout.{table-size}
 use Rattle.table_bytes.specs.Reading.{table-of}
 use Rattle.table_bytes.specs.Writing.{bytes-of, kept-over, write-thread, write-object, idled-bytes}
 
--- the library's version, 0.3.0 in three bytes
+-- the library's version, 0.4.0 in three bytes
 abbrev pub version : ℕ
-version = 768
+version = 1024
 
 -- bytes that are no table are refused as the engine refuses a table that is not sound
 abbrev pub not-sound : ℕ
@@ -74,7 +73,7 @@ answer-changes TooDeep = true
 answer-changes NoRule = false
 
 unfoldable pub reply-changes : Reply → Bool
-reply-changes Begun = true
+reply-changes Accepted = true
 reply-changes (Refused refusal) = false
 reply-changes (Answered answer) = answer-changes answer
 
@@ -90,12 +89,12 @@ abbrev pub event-turn : Table → Event → Turn
 event-turn table event =
     turn-with table event (sound-of table) (thread-at table (event-thread event)) (object-at table (event-number table event))
 
--- the bytes after a turn: both records are stored, or the whole table where there was work on the chains
+-- the bytes after a turn: both records are stored, or the whole table where there was more work
 unfoldable pub store-turn : List ℕ → Table → ℕ → ℕ → Turn → Bool → List ℕ
 store-turn bytes table thread number turn changed =
     pick changed
-    (pick (stays (turn .work)) (write-object (write-thread bytes thread (turn .own)) number (turn .object))
-    (kept-over bytes (work-done table thread number (turn .own) (turn .object) (turn .work))))
+    (pick (work-stays (turn .work)) (write-object (write-thread bytes thread (turn .own)) number (turn .object))
+    (kept-over bytes (work-done-of table thread number turn .table)))
     bytes
 
 abbrev pub event-over : Bool → List ℕ → Table → Event → List ℕ
@@ -103,12 +102,15 @@ event-over istable bytes table event =
     let turn = event-turn table event in
     pick istable (store-turn bytes table (event-thread event) (event-number table event) turn (reply-changes (turn .reply))) bytes
 
--- the engine's begin and step on the table that the bytes say
-abbrev pub begun-on : List ℕ → ℕ → ℕ → ℕ → Outcome
-begun-on bytes thread operation object = begin (table-of bytes) thread operation object
+-- the engine's begin, step and tick on the table that the bytes say
+abbrev pub begun-on : List ℕ → ℕ → ℕ → ℕ → ℕ → Outcome
+begun-on bytes thread operation object limit = begin (table-of bytes) thread operation object limit
 
 abbrev pub stepped-on : List ℕ → ℕ → Outcome
 stepped-on bytes thread = step (table-of bytes) thread
+
+abbrev pub ticked-on : List ℕ → Outcome
+ticked-on bytes = tick-event (table-of bytes)
 
 -- a fresh table: 11 where the bytes are not as many as a table has, then 22; both leave the bytes
 abbrev pub fresh-on : ℕ → ℕ → ℕ → FreshTable

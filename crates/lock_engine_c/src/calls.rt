@@ -1,14 +1,15 @@
-// The calls that change a table: a fresh one, a begin, a step. Each reads the bytes, asks the engine and writes what it gave back.
+// The calls that change a table: a fresh one, a begin, a timed wait, a step, a tick. Each reads the bytes, asks the engine and writes what it gave back.
 use lock_engine::Reply;
 use lock_engine::Turn;
-use lock_engine::event_object;
-use lock_engine::event_thread;
 use lock_engine::refusal_number;
 use lock_engine::returned;
 use lock_engine::turn_with;
 use lock_engine::woken;
 use lock_engine::work_done;
-use lock_perform::stays;
+use lock_engine::work_stays;
+use lock_gate::TIMED_WAIT;
+use lock_gate::event_object;
+use lock_gate::event_thread;
 use lock_rules::Answer;
 use lock_rules::Event;
 use lock_rules::Refusal;
@@ -31,16 +32,19 @@ use table_bytes::write_thread;
 ghost use mathlib.Core.Path.{_≡_};
 ghost use Prim.Native.Nat.{_≤_};
 ghost use Rattle.lock_rules.specs.Numbers.{first-refusal};
+ghost use Rattle.lock_rules.specs.Operations.{timed-wait};
 ghost use Rattle.lock_engine.specs.Handle.{handle};
 ghost use Rattle.table_bytes.specs.Layout.{table-size};
 ghost use Rattle.table_bytes.specs.Reading.{is-table, table-of};
 ghost use Rattle.lock_engine_c.specs.Calls.{packed-of, returned-in, event-answer, event-bytes, RefusedLeaves};
 ghost use Rattle.lock_engine_c.specs.Calls.{answer-changes, reply-changes, stored-over, store-turn, event-over};
-ghost use Rattle.lock_engine_c.specs.Calls.{begun-on, stepped-on, fresh-on, has-size, keep-made, fresh-answer, fresh-bytes, fresh-if-sized};
+ghost use Rattle.lock_engine_c.specs.Calls.{begun-on, stepped-on, ticked-on, fresh-on, has-size, keep-made, fresh-answer, fresh-bytes, fresh-if-sized};
 
 const WOKEN_UNIT: u32 = 256;
 
 const COMMITS_UNIT: u32 = 65536;
+
+const NO_LIMIT: u32 = 0;
 
 pub(crate) fn packed(returned: u8, woken: u8, commits: bool) -> u32
     ensures { λ r. ⌜ r ≡ packed-of returned woken commits ⌝ }
@@ -68,7 +72,7 @@ pub(crate) fn reply_changes(reply: Reply) -> bool
     ensures { λ r. ⌜ r ≡ reply-changes reply ⌝ }
 {
     match reply {
-        Reply::Begun => true,
+        Reply::Accepted => true,
         Reply::Refused(_) => false,
         Reply::Answered(answer) => answer_changes(answer),
     }
@@ -83,7 +87,7 @@ pub(crate) fn store(bytes: &mut [u8], table: Table, changed: bool)
 }
 
 // Nothing is stored where nothing changed, so that a refused event can be tried on memory that may only be read; and no more than the two records where
-// there is no work on the chains.
+// there is no more work.
 fn store_turn(bytes: &mut [u8], table: Table, thread: u8, number: u8, turn: Turn, changed: bool)
     ensures { λ _. ⌜ now (bytes .exit) ≡ store-turn (now (bytes .entry)) table thread number turn changed ⌝ }
 {
@@ -91,7 +95,7 @@ fn store_turn(bytes: &mut [u8], table: Table, thread: u8, number: u8, turn: Turn
         let own = turn.own;
         let object = turn.object;
         let work = turn.work;
-        if stays(work) {
+        if work_stays(work) {
             write_thread(bytes, thread, own);
             write_object(bytes, number, object);
             return;
@@ -171,11 +175,11 @@ pub extern "C" fn duskclamp_fresh(
     fresh_if_sized(bytes, made, fits)
 }
 
-// The thread begins the operation with this number on the object. Refused, it leaves every byte.
+// The thread begins the operation with this number on the object, without a limit. Refused, it leaves every byte.
 #[no_mangle]
 pub extern "C" fn duskclamp_begin(bytes: &mut [u8], thread: u32, operation: u32, object: u32) -> u32
-    ensures { λ r. ⌜ r ≡ event-answer (is-table (now (bytes .entry))) (begun-on (now (bytes .entry)) thread operation object) ⌝ }
-    ensures { λ _. ⌜ now (bytes .exit) ≡ event-bytes (is-table (now (bytes .entry))) (now (bytes .entry)) (begun-on (now (bytes .entry)) thread operation object) ⌝ }
+    ensures { λ r. ⌜ r ≡ event-answer (is-table (now (bytes .entry))) (begun-on (now (bytes .entry)) thread operation object 0) ⌝ }
+    ensures { λ _. ⌜ now (bytes .exit) ≡ event-bytes (is-table (now (bytes .entry))) (now (bytes .entry)) (begun-on (now (bytes .entry)) thread operation object 0) ⌝ }
     ensures { λ r. ⌜ (first-refusal ≤ returned-in r → now (bytes .exit) ≡ now (bytes .entry)) ⌝ }
 {
     let istable = is_table(bytes);
@@ -183,6 +187,29 @@ pub extern "C" fn duskclamp_begin(bytes: &mut [u8], thread: u32, operation: u32,
         operation: narrow(operation),
         thread: narrow(thread),
         object: narrow(object),
+        limit: NO_LIMIT,
+    };
+    handle_if_table(bytes, event, istable)
+}
+
+// The thread begins a timed wait on the object, with this limit in ticks. Refused, it leaves every byte.
+#[no_mangle]
+pub extern "C" fn duskclamp_timed_wait(
+    bytes: &mut [u8],
+    thread: u32,
+    object: u32,
+    limit: u32,
+) -> u32
+    ensures { λ r. ⌜ r ≡ event-answer (is-table (now (bytes .entry))) (begun-on (now (bytes .entry)) thread timed-wait object limit) ⌝ }
+    ensures { λ _. ⌜ now (bytes .exit) ≡ event-bytes (is-table (now (bytes .entry))) (now (bytes .entry)) (begun-on (now (bytes .entry)) thread timed-wait object limit) ⌝ }
+    ensures { λ r. ⌜ (first-refusal ≤ returned-in r → now (bytes .exit) ≡ now (bytes .entry)) ⌝ }
+{
+    let istable = is_table(bytes);
+    let event = Event::Begin {
+        operation: TIMED_WAIT,
+        thread: narrow(thread),
+        object: narrow(object),
+        limit: limit,
     };
     handle_if_table(bytes, event, istable)
 }
@@ -199,4 +226,15 @@ pub extern "C" fn duskclamp_step(bytes: &mut [u8], thread: u32) -> u32
         thread: narrow(thread),
     };
     handle_if_table(bytes, event, istable)
+}
+
+// One tick of the clock. Refused, it leaves every byte.
+#[no_mangle]
+pub extern "C" fn duskclamp_tick(bytes: &mut [u8]) -> u32
+    ensures { λ r. ⌜ r ≡ event-answer (is-table (now (bytes .entry))) (ticked-on (now (bytes .entry))) ⌝ }
+    ensures { λ _. ⌜ now (bytes .exit) ≡ event-bytes (is-table (now (bytes .entry))) (now (bytes .entry)) (ticked-on (now (bytes .entry))) ⌝ }
+    ensures { λ r. ⌜ (first-refusal ≤ returned-in r → now (bytes .exit) ≡ now (bytes .entry)) ⌝ }
+{
+    let istable = is_table(bytes);
+    handle_if_table(bytes, Event::Tick, istable)
 }

@@ -10,11 +10,11 @@ ghost use mathlib.Core.Path.{_≡_};
 ghost use Rattle.table_questions.specs.Questions.{thread-count, object-count, ask-thread, ask-object};
 ghost use Rattle.table_bytes.specs.Layout.{layout-version};
 ghost use Rattle.lock_engine_c.specs.Calls.{version};
-ghost use Rattle.table_questions.specs.declared.asking.ThreadQuestion.the-variants.{OperationOf, ObjectOf, PhaseOf, OnwardOf, KeptOf, SavedOf, NextOf, BlockerOf};
+ghost use Rattle.table_questions.specs.declared.asking.ThreadQuestion.the-variants.{OperationOf, ObjectOf, PhaseOf, OnwardOf, KeptOf, SavedOf, TicksOf, NextOf, BlockerOf};
 ghost use Rattle.table_questions.specs.declared.asking.ObjectQuestion.the-variants.{WordOf, OwnerOf, DepthOf, FlagOf, HolderOf, MonitorDepthOf};
 ghost use Rattle.table_questions.specs.declared.asking.ObjectQuestion.the-variants.{EntryOf, ContentionOf, WaitingOf};
 
-const VERSION: u32 = 768;
+const VERSION: u32 = 1024;
 
 // The library's version: major, minor and patch number in a byte each, the patch number lowest.
 #[no_mangle]
@@ -94,6 +94,14 @@ pub extern "C" fn duskclamp_saved_depth(bytes: &[u8], thread: u32) -> u64
     ensures { λ r. ⌜ r ≡ ask-thread SavedOf (now (bytes .entry)) thread ⌝ }
 {
     ask_thread(ThreadQuestion::SavedOf, bytes, thread)
+}
+
+// The ticks that a timed wait has left, 0 for one that ran out and for any other operation.
+#[no_mangle]
+pub extern "C" fn duskclamp_ticks(bytes: &[u8], thread: u32) -> u64
+    ensures { λ r. ⌜ r ≡ ask-thread TicksOf (now (bytes .entry)) thread ⌝ }
+{
+    ask_thread(ThreadQuestion::TicksOf, bytes, thread)
 }
 
 // The thread behind this one in its chain, 0 for none.

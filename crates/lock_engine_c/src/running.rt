@@ -4,20 +4,24 @@ use crate::calls::reply_changes;
 use crate::calls::store;
 use event_bytes::EVENT_SIZE;
 use event_bytes::event_from;
-use lock_engine::event_object;
-use lock_engine::event_thread;
+use event_bytes::limit_from;
 use lock_engine::returned;
 use lock_engine::turn_with;
 use lock_engine::woken;
 use lock_engine::work_done;
-use lock_perform::stays;
+use lock_engine::work_stays;
+use lock_gate::event_object;
+use lock_gate::event_thread;
+use lock_rules::Event;
 use lock_soundness::sound;
 use lock_table::object_place;
 use lock_table::thread_place;
 use table_bytes::is_table;
 use table_bytes::read_table;
 ghost use mathlib.Core.Path.{_≡_};
+ghost use Prim.Native.Nat.{_+_, _≤_};
 ghost use lib.ListN.{length};
+ghost use Rattle.event_bytes.specs.Encoding.{event-size, event-at};
 ghost use Rattle.table_bytes.specs.Rows.{overwritten};
 ghost use Rattle.lock_engine_c.specs.Run.{run-count, run-events, run-answers, run-bytes};
 
@@ -32,7 +36,27 @@ fn run_count(events: usize, answers: usize) -> usize
     whole
 }
 
-// Runs the events one behind the other, as calls of duskclamp_begin and duskclamp_step would. What is no table's, or not sound, stays so: it is tested
+// The event that begins at this byte.
+fn event_at(events: &[u8], at: usize) -> Event
+    requires { ⌜ at + event-size ≤ length (now events) ⌝ }
+    ensures { λ r. ⌜ r ≡ event-at (now (events .entry)) at ⌝ }
+{
+    let limit = limit_from(
+        events[at + 4],
+        events[at + 5],
+        events[at + 6],
+        events[at + 7],
+    );
+    event_from(
+        events[at],
+        events[at + 1],
+        events[at + 2],
+        events[at + 3],
+        limit,
+    )
+}
+
+// Runs the events one behind the other, as calls of their own would. What is no table's, or not sound, stays so: it is tested
 // once, and every event is answered 11.
 #[no_mangle]
 pub extern "C" fn duskclamp_run(bytes: &mut [u8], events: &[u8], answers: &mut [u64]) -> usize
@@ -48,7 +72,7 @@ pub extern "C" fn duskclamp_run(bytes: &mut [u8], events: &[u8], answers: &mut [
     let mut at: usize = 0;
     let mut done: usize = 0;
     while done < count {
-        let event = event_from(events[at], events[at + 1], events[at + 2], events[at + 3]);
+        let event = event_at(events, at);
         let thread = event_thread(event);
         let place = thread_place(thread);
         let own = table.threads[place];
@@ -60,7 +84,7 @@ pub extern "C" fn duskclamp_run(bytes: &mut [u8], events: &[u8], answers: &mut [
         let objectafter = turn.object;
         let work = turn.work;
         let reply = turn.reply;
-        if stays(work) {
+        if work_stays(work) {
             table.threads[place] = ownafter;
             table.objects[home] = objectafter;
         } else {

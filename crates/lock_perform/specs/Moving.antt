@@ -26,7 +26,7 @@ use Rattle.lock_perform.specs.declared.moving.ChainPlan.{ChainPlan}
 -- cancel: the word's thread, if in phase 2 on this object, goes back to 1; its kept word falls out of use
 abbrev pub look-again : ThreadRecord → ThreadRecord
 look-again thread =
-    with-activity thread (record { kept = 0; saved = thread .saved; object = thread .object; operation = thread .operation; phase = Look })
+    with-activity thread (record { kept = 0; saved = thread .saved; ticks = thread .ticks; object = thread .object; operation = thread .operation; phase = Look })
 
 unfoldable pub back-from : ThreadRecord → Phase → ThreadRecord
 back-from thread Idle = thread

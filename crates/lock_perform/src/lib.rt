@@ -8,6 +8,7 @@ mod state;
 pub use moving::ChainPlan;
 pub use moving::goes_on;
 pub use moving::hung;
+pub use moving::if_record;
 pub use moving::moved_whole;
 pub use moving::plan_at;
 pub use moving::touched;

@@ -9,7 +9,7 @@ use lib.ListN.{length}
 use Rattle.laws.specs.{Update.update, Count.count}
 use Rattle.laws.proofs.Choice.{by-test, by-equal}
 use Rattle.laws.proofs.Count.{count-none, count-same}
-use Rattle.chains.specs.Chain.{first-with, linked}
+use Rattle.chains.specs.Joining.{first-with, linked}
 use Rattle.chains.specs.declared.named.Chain.{Chain}
 use Rattle.chains.proofs.Chain.{Chain as ChainOf, head}
 use Rattle.chains.proofs.Walk.{walk}
@@ -38,7 +38,7 @@ use Rattle.lock_records.proofs.Written.{handed-written, moved-written}
 use Rattle.lock_records.proofs.Represents.{monitor-record, Represents, next-is}
 use Rattle.lock_records.proofs.Readings.{nobody, past-idle, first-is, chained as chained-in}
 use Rattle.lock_records.proofs.Moves.{change, Moves, Inside, moves-hang, moves-first, moves-send, moves-all}
-use Rattle.lock_records.proofs.Placing.{sees, placed, placed-none, placed-first, placed-all, placed-sent}
+use Rattle.lock_records.proofs.Placing.{sees, placed, placed-none, placed-before, placed-first, placed-all, placed-sent}
 
 -- what a work leaves of the object
 pub record SameScalars (old new : ListObject) : Type 0 where
@@ -67,20 +67,20 @@ pub record Acted (given : ℕ → ThreadRecord) (t : Table) (lists : ListTable) 
 
 -- the monitor of object o with other links
 module _ (o : ℕ) (links : Links) (holder depth : ℕ) where
-  first-recorded : (chain : Chain) → first-in (monitor-record o links holder depth) chain ≡ links .first (number o chain)
+  pub first-recorded : (chain : Chain) → first-in (monitor-record o links holder depth) chain ≡ links .first (number o chain)
   first-recorded = each-chain _ (search)
 
-  left-recorded : (chain : Chain) (first : ℕ)
+  pub left-recorded : (chain : Chain) (first : ℕ)
       → with-first (monitor-record o links holder depth) chain first
       ≡ monitor-record o (record { next = links .next; first = update (links .first) (number o chain) first }) holder depth
   left-recorded = each-chain _ (λ first. simp update-number, λ first. simp update-number, λ first. simp update-number)
 
-  joined-recorded : (chain : Chain) (n : ℕ)
+  pub joined-recorded : (chain : Chain) (n : ℕ)
       → join (monitor-record o links holder depth) chain n
       ≡ monitor-record o (record { next = links .next; first = update (links .first) (number o chain) (first-with (links .first (number o chain)) n) }) holder depth
   joined-recorded chain n = rw (first-recorded chain) (left-recorded chain (first-with (links .first (number o chain)) n))
 
-  handed-recorded : (next : ℕ)
+  pub handed-recorded : (next : ℕ)
       → hand-of (monitor-record o links holder depth) next .monitor
       ≡ monitor-record o (record { next = links .next; first = update (links .first) (number o Chain.Entry) next }) (links .first (number o Chain.Entry)) 0
   handed-recorded next = simp update-number
@@ -142,7 +142,13 @@ module _ (threads objects : ℕ) (t : Table) (lists : ListTable) (represents : R
           (placed o (lists .threads) (changed-states f (sees o (lists .threads)) (taken First (list from))))
           (leave-links (number o from) (represents .links) .next)
       leaves from F f fixed law =
-          rw (← (placed-first o (lists .threads) f (list from) (first from) (headed from) none fixed (home from)))
+          let changed : update (lists .threads) (first from) (change f (lists .threads (first from)))
+          ≡ placed o (lists .threads) (changed-states f (sees o (lists .threads)) (taken First (list from))) =
+          placed-before o (lists .threads)
+          (λ before. update before (first from) (change f (before (first from))) ≡ placed o (lists .threads) (changed-states f (sees o (lists .threads)) (taken First (list from))))
+          (placed-first o (lists .threads) f (sees o (lists .threads)) (list from) (first from) (headed from)
+          (subst (λ (before : ℕ → ListThread). before 0 .state ≡ Idle) (placed-none o (lists .threads)) none) fixed (home from)) in
+          rw (← changed)
           (moves-first (represents .given .thread) t t (lists .threads) (represents .links .next) begun F f (first from) (first-low from) none fixed
           (λ real. law (first from) (lists .threads (first from) .object) (lists .threads (first from) .state)
           (with-next (represents .given .thread (first from)) (represents .links .next (first from)))))

@@ -14,7 +14,7 @@ use Rattle.lock_rules.specs.Numbers.{phase-of-doing, phase-of}
 use Rattle.lock_word.specs.Meaning.{owner-of, depth-of, ownership-of}
 use Rattle.lock_word.proofs.Ownership.{owned-both}
 use Rattle.lock_word.specs.declared.meaning.{Ownership.Ownership, WordSeen.WordSeen}
-use Rattle.lock_rules.proofs.Each.{each-doing, each-state}
+use Rattle.lock_rules.proofs.Each.{each-suspension, each-doing, each-state}
 use Rattle.lock_rules.proofs.Status.{is-woken, parked-for-entry, unparked, unfinished}
 use Rattle.lock_rules.specs.declared.event.Event.{Event}
 use Rattle.lock_rules.specs.Feed.{Plain, feed-all, blank}
@@ -35,7 +35,7 @@ use Rattle.lock_table.specs.Access.{thread-at, object-at, next-of, phase-number
 use Rattle.lock_table.specs.Fresh.{InRange, fresh-of}
 use Rattle.lock_table.specs.declared.fresh_table.FreshRequest.{FreshRequest}
 use Rattle.lock_table.specs.declared.record.{ThreadRecord.ThreadRecord, ObjectRecord.ObjectRecord, Table.Table}
-use Rattle.lock_perform.specs.State.{write-activity}
+use Rattle.lock_perform.specs.State.{wait-activity, write-activity}
 use Rattle.lock_records.proofs.Written.{lock-word, seen-written, written-doing, written-carried, idle-or-written, phase-written}
 use Rattle.lock_records.proofs.Represents.{monitor-record, Represents}
 use Rattle.lock_records.proofs.Readings.{busy-in, thread-is, home-is, members-are, word-is}
@@ -98,14 +98,14 @@ steps-unparked = each-state _ (search doing-steps)
 -- woken by the numbers in a record
 woken-written : (n o : ℕ) (state : ThreadState)
     → let phase = write-activity n o state .phase in either (eqb (phase-number phase) 15) (eqb (carried-number phase) 15) ≡ is-woken state
-unfolding write-activity phase-number carried-number
+unfolding write-activity wait-activity phase-number carried-number
 woken-written n o =
     each-state _ (
       search,
       λ doing. rw (written-doing n o doing no-thread .phase, written-doing n o doing no-thread .carried) (split (eqb (phase-of-doing doing) 15) (λ e. rw e) (λ e. rw e)),
       λ carried. rw (written-carried n o carried no-thread .phase, written-carried n o carried no-thread .carries),
       search,
-      search,
+      each-suspension _ (search),
     )
 
 -- and by its object, as the object sees it

@@ -7,7 +7,11 @@ pub mod Readings
 pub mod Moves
 pub mod Placing
 pub mod Actions
+pub mod Replaced
+pub mod WaitersWalk
 pub mod Performs
+pub mod TickWaited
+pub mod TickRepresents
 pub mod Operations
 pub mod RecordKind
 pub mod FreshRecords

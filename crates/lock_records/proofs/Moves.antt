@@ -12,7 +12,7 @@ use Rattle.laws.specs.{Choice.pick, Update.update, Count.count}
 use Rattle.laws.proofs.Choice.{either-way, split, equal?, pick-same}
 use Rattle.laws.proofs.Update.{update-same, update-other, update-id}
 use Rattle.laws.proofs.Count.{count-same}
-use Rattle.chains.specs.Chain.{linked}
+use Rattle.chains.specs.Joining.{linked}
 use Rattle.chains.proofs.Chain.{Chain, last, chain-some, last-member, linked-last}
 use Rattle.chains.proofs.Walk.{walk}
 use Rattle.lock_rules.proofs.Changes.{moved, sent-back}

@@ -144,7 +144,7 @@ first-is-one : (queue : List ℕ) → taken First queue ≡ take 1 queue
 first-is-one [] = refl
 first-is-one (first ∷ rest) = refl
 
-entered-all : (entry threads : List ℕ) → enter-queue-all entry threads ≡ entry ++ threads
+pub entered-all : (entry threads : List ℕ) → enter-queue-all entry threads ≡ entry ++ threads
 unfolding enter-queue-all
 entered-all entry threads = refl
 
@@ -152,11 +152,11 @@ joined-end : (chain : Chain) (list : List ℕ) (thread : ℕ) → join chain lis
 joined-end = each-chain _ (λ list thread. entered-all list (thread ∷ []), search, search)
 
 -- another list for one chain leaves the others
-chain-with : (chain other : Chain) (o : ListObject) (list : List ℕ)
+pub chain-with : (chain other : Chain) (o : ListObject) (list : List ℕ)
     → chain-of other (with-chain chain o list) ≡ pick (eqb (place-of other) (place-of chain)) list (chain-of other o)
 chain-with = each-chain _ (each-chain _ (search), each-chain _ (search), each-chain _ (search))
 
-chain-handed : (chain : Chain) (o : ListObject)
+pub chain-handed : (chain : Chain) (o : ListObject)
     → chain-of chain (handed-object o) ≡ pick (eqb (place-of chain) (place-of Chain.Entry)) (tail (o .entry)) (chain-of chain o)
 chain-handed = each-chain _ (search)
 

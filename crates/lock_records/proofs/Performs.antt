@@ -1,47 +1,34 @@
 -- An effect carried out on the records, and a begin, represent the table with lists on which the same was done.
 use Prim.Native.Nat.{ℕ, _≤_}
-use mathlib.Core.Path.{_≡_, refl, sym, ap, _∙_, subst, fun-ext}
-use mathlib.Core.Logic.{_≢_, _⊎_, inl, inr}
-use mathlib.Core.List.{List}
+use mathlib.Core.Path.{_≡_, refl, sym, ap, _∙_, subst}
 use native.Mathlib.Omega.{arith}
 use lib.ListN.{length}
 use Rattle.laws.specs.{Update.update, Count.count}
-use Rattle.laws.proofs.Choice.{equal?}
-use Rattle.laws.proofs.Update.{update-same, update-other, update-id}
-use Rattle.chains.proofs.Chain.{head}
-use Rattle.chains.proofs.Links.{Links, LinksRepresent, first-head}
+use Rattle.laws.proofs.Update.{update-id}
+use Rattle.chains.proofs.Links.{Links, LinksRepresent}
 use Rattle.lock_rules.proofs.{Changes.seen-after, Each.each-chain, ListSound.SoundTable}
 use Rattle.lock_rules.specs.declared.{Doing.Doing, ThreadState.ThreadState, Effect.Effect}
 use Rattle.lock_rules.specs.declared.ThreadState.the-variants.{Running}
 use Rattle.lock_rules.specs.declared.Action.the-variants.{Unruled, Do}
-use Rattle.lock_rules.proofs.Objects.{ListObject, chain-of}
+use Rattle.lock_rules.proofs.Objects.{ListObject}
 use Rattle.lock_rules.proofs.Perform.{perform, states-after, object-after, effected}
 use Rattle.lock_rules.proofs.Tables.{ListThread, ListTable, states-at, put-back}
 use Rattle.chains.specs.declared.named.Chain.{Chain}
 use Rattle.lock_rules.proofs.ListChains.{times-in, short, out-of-chain}
-use Rattle.lock_table.specs.Limits.{thread-limit, object-limit}
-use Rattle.lock_table.specs.Record.{no-thread, no-object, with-next, with-word, with-flag, with-monitor}
+use Rattle.lock_table.specs.Limits.{thread-limit}
+use Rattle.lock_table.specs.Record.{with-next, with-word, with-flag, with-monitor}
 use Rattle.lock_table.specs.Access.{thread-at, set-thread, object-at, set-object, next-of}
-use Rattle.lock_table.proofs.Records.{read-at, BesideObjects, object-set, object-beside}
-use Rattle.lock_table.specs.declared.record.{ThreadRecord.ThreadRecord, ObjectRecord.ObjectRecord, Table.Table}
+use Rattle.lock_table.specs.declared.record.{ObjectRecord.ObjectRecord, Table.Table}
 use Rattle.lock_perform.specs.State.{write-thread}
 use Rattle.lock_perform.specs.Moving.{CarriedOut, carry-out}
 use Rattle.lock_perform.proofs.Performed.{perform-of}
-use Rattle.lock_records.proofs.Numbering.{number, lists-of, list-at, by-number, work-links, Room, represent-work, lists-work}
+use Rattle.lock_records.proofs.Numbering.{lists-of, list-at, by-number, work-links, Room, represent-work, lists-work}
 use Rattle.lock_records.proofs.Written.{word-written, word-changed}
 use Rattle.lock_records.proofs.Represents.{thread-record, monitor-record, object-record, Represents, record-is, next-is}
 use Rattle.lock_records.proofs.Moves.{Moves, moves-set, moves-change}
 use Rattle.lock_records.proofs.Placing.{placed, placed-none, placed-own}
 use Rattle.lock_records.proofs.Actions.{Acted, acted, word-kept}
-
--- a table with the same list of records has the same records
-threads-of : (t u : Table) → u .threads ≡ t .threads → thread-at u ≡ thread-at t
-unfolding thread-at
-threads-of t u same = fun-ext (λ n. ap (λ (records : List ThreadRecord). read-at ThreadRecord no-thread thread-limit records n) same)
-
-objects-of : (t u : Table) → u .objects ≡ t .objects → object-at u ≡ object-at t
-unfolding object-at
-objects-of t u same = fun-ext (λ n. ap (λ (records : List ObjectRecord). read-at ObjectRecord no-object object-limit records n) same)
+use Rattle.lock_records.proofs.Replaced.{objects-of, replaced-represents}
 
 -- a thread in no chain names none
 abbrev Unchained : ThreadState → Type 0
@@ -154,56 +141,9 @@ module _ (threads objects : ℕ) (t : Table) (lists : ListTable) (represents : R
           let (same-word, same-flag) = word-kept (effect .work) i now in
           λ j. with-flag (with-monitor (with-word (represents .given .object o) (word-written o (sym same-word j))) (action .monitor j)) (sym same-flag j)
 
-      objects-after : object-at (set-object own-written o object-written) ≡ update (object-at t) o object-written
-      objects-after =
-          let same : own-written .objects ≡ t .objects = threads-after .beside .objects in
-          object-set own-written o object-written (ap length same ∙ represents .objects-full) real (omega (arith, small, represents .object-room))
-          ∙ ap (λ (f : ℕ → ObjectRecord). update f o object-written) (objects-of t own-written same)
-
-      -- the chains of another object begin as before
-      other-first : (p : ℕ) → p ≢ o → (chain : Chain) → links .first (number p chain) ≡ represents .links .first (number p chain)
-      other-first p away chain =
-          first-head links (lists-of (update (lists .objects) o new)) represented (number p chain)
-          ∙ (ap head
-          (list-at (update (lists .objects) o new) p chain
-          ∙ (ap (chain-of chain) (update-other (lists .objects) o new p away) ∙ sym (list-at (lists .objects) p chain)))
-          ∙ sym (first-head (represents .links) (lists-of (lists .objects)) (represents .chains) (number p chain)))
-
-      object-after-at : (p : ℕ) → 1 ≤ p → p ≤ objects → (p ≡ o) ⊎ (p ≢ o)
-          → update (object-at t) o object-written p ≡ object-record p (update (lists .objects) o new p) links (represents .given .object p)
-      object-after-at p first last (inl e) = rw (e, update-same (object-at t) o object-written, update-same (lists .objects) o new) written-is
-      object-after-at p first last (inr away) =
-          rw (
-            update-other (object-at t) o object-written p away,
-            update-other (lists .objects) o new p away,
-            other-first p away Chain.Entry,
-            other-first p away Chain.Contention,
-            other-first p away Chain.Waiting,
-          ) (represents .object-is p first last)
-
       effect-represents : Represents threads objects (set-object own-written o object-written)
           (put-back lists o (perform i (states-at lists o) (lists .objects o) (Do effect)) .table)
-      effect-represents =
-          record {
-            threadcount = beside .threadcount ∙ (threads-after .beside .threadcount ∙ represents .threadcount);
-            objectcount = beside .objectcount ∙ (threads-after .beside .objectcount ∙ represents .objectcount);
-            thread-room = represents .thread-room;
-            object-room = represents .object-room;
-            given = represents .given;
-            links = links;
-            chains = represented;
-            written = record {
-              records = threads-of own-written (set-object own-written o object-written) (beside .threads) ∙ threads-after .written .records;
-              full = ap length (beside .threads) ∙ threads-after .written .full;
-            };
-            objects-full = beside .length-kept ∙ (ap length (threads-after .beside .objects) ∙ represents .objects-full);
-            object-is = λ p first last. ap (λ (f : ℕ → ObjectRecord). f p) objects-after ∙ object-after-at p first last (equal? p o);
-            object-past = λ p past. ap (λ (f : ℕ → ObjectRecord). f p) objects-after
-                ∙ (update-other (object-at t) o object-written p (λ e. omega (arith, e, past, small)) ∙ represents .object-past p past);
-          }
-        where
-          beside : BesideObjects own-written (set-object own-written o object-written)
-          beside = object-beside own-written o object-written
+      effect-represents = replaced-represents threads objects t lists represents o real small new links own-written states object-written represented threads-after written-is
 
       -- the effect on the records as they are: the word is changed by its bits
       pub perform-represents : Represents threads objects (perform-of t i o (object-at t o) effect)

@@ -1,6 +1,6 @@
 -- Threads changed one at a time or along a chain, against the states that an object sees put back into all of its threads at once.
 use Prim.Native.Nat.{ℕ, zero, suc, _≤_, _<_}
-use mathlib.Core.Path.{_≡_, refl, sym, ap, _∙_, fun-ext}
+use mathlib.Core.Path.{_≡_, refl, sym, ap, _∙_, subst, fun-ext}
 use mathlib.Core.Logic.{_≢_}
 use mathlib.Core.List.{List, [], _∷_}
 use native.Mathlib.Omega.{arith}
@@ -44,29 +44,30 @@ module _ (o : ℕ) (threads : ℕ → ListThread) where
   pub placed-none : threads ≡ placed sees
   placed-none = placed-by threads sees as-seen (λ n away. refl)
 
-  -- nobody is in the list
-  nobody-changed : (f : ThreadState → ThreadState) → sees ≡ changed-states f sees []
-  nobody-changed f = fun-ext (λ n. rw (count-none n))
+  -- what is shown of threads with any states put back is shown of the threads as they are
+  pub placed-before : (P : (ℕ → ListThread) → Type 0) → P (placed sees) → P threads
+  placed-before P = subst P (sym placed-none)
 
-  -- one thread at o changed
-  pub placed-one : (f : ThreadState → ThreadState) (x : ℕ) → threads x .object ≡ o
-      → update threads x (change f (threads x)) ≡ placed (changed-states f sees (x ∷ []))
-  placed-one f x home =
-      placed-by (update threads x (change f (threads x))) (changed-states f sees (x ∷ []))
-      (λ n e. either-way (equal? n x)
-      (λ q. rw (q, update-same threads x (change f (threads x)), count-same x []) (ap (change f) (as-seen x home)))
-      (λ away. rw (update-other threads x (change f (threads x)) n away, count-other n x [] away, count-none n) (as-seen n e)))
-      (λ n away. update-other threads x (change f (threads x)) n (λ e. away (ap (λ (m : ℕ). threads m .object) e ∙ home)))
+  -- one thread at o changed, whatever states stand there
+  pub placed-one : (f : ThreadState → ThreadState) (states : ℕ → ThreadState) (x : ℕ) → threads x .object ≡ o
+      → update (placed states) x (change f (placed states x)) ≡ placed (changed-states f states (x ∷ []))
+  placed-one f states x home =
+      let new = change f (placed states x) in
+      placed-by (update (placed states) x new) (changed-states f states (x ∷ []))
+      (λ n e. either-way (equal? n x) (λ q. rw (q, update-same (placed states) x new, count-same x [], eq-eqb (threads x .object) o home))
+      (λ away. rw (update-other (placed states) x new n away, count-other n x [] away, count-none n, eq-eqb (threads n .object) o e)))
+      (λ n away. update-other (placed states) x new n (λ e. away (ap (λ (m : ℕ). threads m .object) e ∙ home)) ∙ rw (ne-eqb (threads n .object) o away))
 
   -- the first of a list changed; of an empty one that is thread 0, which is idle and stays so
-  pub placed-first : (f : ThreadState → ThreadState) (list : List ℕ) (first : ℕ) → first ≡ head list → threads 0 .state ≡ Idle → f Idle ≡ Idle
-      → ((n : ℕ) → 0 < count n list → threads n .object ≡ o)
-      → update threads first (change f (threads first)) ≡ placed (changed-states f sees (taken First list))
-  placed-first f [] first e nobody fixed home =
-      let idle : threads first .state ≡ Idle = ap (λ (n : ℕ). threads n .state) e ∙ nobody in
-      let same : threads first ≡ change f (threads first) = λ j. record { object = threads first .object; state = (idle ∙ sym (ap f idle ∙ fixed)) j } in
-      update-id threads first (change f (threads first)) same ∙ (placed-none ∙ ap placed (nobody-changed f))
-  placed-first f (x ∷ rest) first e nobody fixed home = rw e (placed-one f x (home x (omega (arith, count-same x rest))))
+  pub placed-first : (f : ThreadState → ThreadState) (states : ℕ → ThreadState) (list : List ℕ) (first : ℕ) → first ≡ head list → placed states 0 .state ≡ Idle
+      → f Idle ≡ Idle → ((n : ℕ) → 0 < count n list → threads n .object ≡ o)
+      → update (placed states) first (change f (placed states first)) ≡ placed (changed-states f states (taken First list))
+  placed-first f states [] first e nobody fixed home =
+      let idle : placed states first .state ≡ Idle = ap (λ (n : ℕ). placed states n .state) e ∙ nobody in
+      let same : placed states first ≡ change f (placed states first) =
+      λ j. record { object = placed states first .object; state = (idle ∙ sym (ap f idle ∙ fixed)) j } in
+      update-id (placed states) first (change f (placed states first)) same ∙ ap placed (fun-ext (λ n. rw (count-none n)))
+  placed-first f states (x ∷ rest) first e nobody fixed home = rw e (placed-one f states x (home x (omega (arith, count-same x rest))))
 
   -- each of a list changed
   pub placed-all : (f : ThreadState → ThreadState) (next : ℕ → ℕ) (list : List ℕ) (fuel first : ℕ) → Chain next first list → length list ≤ fuel
@@ -88,7 +89,7 @@ module _ (o : ℕ) (threads : ℕ → ListThread) where
   -- one thread sent back, if it is at o
   pub placed-sent : (x : ℕ) → update threads x (sent-from o (threads x)) ≡ placed (changed-states sent-back sees (x ∷ []))
   placed-sent x =
-      either-way (equal? (threads x .object) o) (λ home. rw (eq-eqb (threads x .object) o home) (placed-one sent-back x home))
+      either-way (equal? (threads x .object) o) (λ home. rw (eq-eqb (threads x .object) o home) (placed-before (λ before. update before x (change sent-back (before x)) ≡ placed (changed-states sent-back sees (x ∷ []))) (placed-one sent-back sees x home)))
       (λ away. rw (ne-eqb (threads x .object) o away)
       (update-id threads x (threads x) refl
       ∙ placed-by threads (changed-states sent-back sees (x ∷ []))

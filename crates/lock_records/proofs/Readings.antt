@@ -80,7 +80,7 @@ module _ (threads objects : ℕ) (t : Table) (lists : ListTable) (represents : R
         ∙ chain-members thread-limit (represents .links .next) (represents .links .first (number o chain)) (chain-of chain (lists .objects o))
         (chained o chain) (omega (arith, short threads objects lists sound chain o, represents .thread-room))
 
-    chain-empty : (o : ℕ) (chain : Chain) → eqb (represents .links .first (number o chain)) 0 ≡ empty (chain-of chain (lists .objects o))
+    pub chain-empty : (o : ℕ) (chain : Chain) → eqb (represents .links .first (number o chain)) 0 ≡ empty (chain-of chain (lists .objects o))
     chain-empty o chain =
         head-empty (represents .links .first (number o chain)) (chain-of chain (lists .objects o)) (first-is o chain)
         (λ x rest e. head-real (represents .links) (lists-of (lists .objects)) (represents .chains) (number o chain) x rest

@@ -11,7 +11,7 @@ use Rattle.lock_rules.proofs.{Status.unfinished, Objects.sight-of, Perform.perf
 use Rattle.lock_rules.specs.declared.event.Event.{Event}
 use Rattle.lock_rules.specs.Events.{Refused, Answered}
 use Rattle.lock_rules.specs.Operations.{Operation}
-use Rattle.lock_rules.specs.declared.{Doing.Doing, Action.Action}
+use Rattle.lock_rules.specs.declared.{Limit.Limit, Doing.Doing, Action.Action}
 use Rattle.lock_rules.specs.declared.ThreadState.the-variants.{Idle, Running}
 use Rattle.lock_rules.specs.declared.Answer.the-variants.{NoRule}
 use Rattle.lock_rules.specs.declared.Action.the-variants.{Unruled, Do}
@@ -20,15 +20,16 @@ use Rattle.lock_rules.proofs.Tables.{ListTable, states-at, put-back, begin-at, 
 use Rattle.lock_rules.proofs.Simulation.{Simulates, simulated-turn}
 use Rattle.lock_table.specs.Access.{thread-at, set-thread, object-at}
 use Rattle.lock_table.specs.Record.{with-activity}
-use Rattle.lock_table.specs.declared.phase.Phase.the-variants.{Look}
 use Rattle.lock_table.specs.declared.record.{Activity.Activity, ObjectRecord.ObjectRecord, Table.Table}
-use Rattle.lock_perform.specs.State.{read-thread, activity-of}
+use Rattle.lock_perform.specs.State.{read-thread}
 use Rattle.lock_perform.specs.Sight.{sight-at}
 use Rattle.lock_perform.proofs.Performed.{perform-of}
 use Rattle.lock_records.proofs.Represents.{Represents}
 use Rattle.lock_records.proofs.Readings.{busy-in, state-is, home-is, word-is, sight-is}
 use Rattle.lock_records.proofs.Performs.{running-unchained, begin-represents, unruled-represents, perform-represents}
-use Rattle.lock_records.proofs.Operations.{operation-of, begun-written}
+use Rattle.lock_records.proofs.Operations.{begun-activity, begun-written}
+use Rattle.lock_records.proofs.TickRepresents.{tick-represents}
+use Rattle.lock_clock.specs.Tick.{tick}
 
 -- what a rule decided, carried out by thread n on the object of this number
 abbrev pub step-acts : Table → ℕ → ℕ → ObjectRecord → Action → TurnOf Table
@@ -47,20 +48,21 @@ step-records t n doing =
     let object = object-at t number in
     step-reads t n number object doing (read-word (object .word))
 
-abbrev pub begin-records : Table → Operation → ℕ → ℕ → Table
-begin-records t operation n o = set-thread t n (with-activity (thread-at t n) (activity-of (operation-of operation) o Look 0 0))
+abbrev pub begin-records : Table → Operation → Limit → ℕ → ℕ → Table
+begin-records t operation limit n o = set-thread t n (with-activity (thread-at t n) (begun-activity operation limit o))
 
 abbrev pub record-kind : Kind
-record-kind = record { Table = Table; state = λ t n. read-thread (thread-at t n); begins = begin-records; steps = step-records }
+record-kind =
+    record { Table = Table; state = λ t n. read-thread (thread-at t n); begins = begin-records; steps = step-records; ticks = tick }
 
 module _ (threads objects : ℕ) (t : Table) (lists : ListTable) (represents : Represents threads objects t lists) (sound : SoundTable threads objects lists)
     (n : ℕ) (low : 1 ≤ n) (high : n ≤ threads) where
-  begins-alike : (operation : Operation) (o : ℕ) → lists .threads n .state ≡ Idle
-      → Represents threads objects (begin-records t operation n o) (begin-at lists operation n o)
-  begins-alike operation o idle =
-      subst (λ (activity : Activity). Represents threads objects (set-thread t n (with-activity (thread-at t n) activity)) (begin-at lists operation n o))
-      (begun-written n o operation)
-      (begin-represents threads objects t lists represents sound n low high (record { object = o; state = Running (begun operation) }))
+  begins-alike : (operation : Operation) (limit : Limit) (o : ℕ) → lists .threads n .state ≡ Idle
+      → Represents threads objects (begin-records t operation limit n o) (begin-at lists operation limit n o)
+  begins-alike operation limit o idle =
+      subst (λ (activity : Activity). Represents threads objects (set-thread t n (with-activity (thread-at t n) activity)) (begin-at lists operation limit n o))
+      (begun-written n o limit operation)
+      (begin-represents threads objects t lists represents sound n low high (record { object = o; state = Running (begun operation limit) }))
 
   -- the same table and the same reply
   abbrev Alike : TurnOf Table → TurnOf ListTable → Type 0
@@ -93,8 +95,10 @@ pub sound-simulates : (threads objects : ℕ) → Simulates record-kind threads 
 sound-simulates threads objects =
     record {
       state = λ t lists represents sound n low high. state-is threads objects t lists represents sound n;
-      begins = λ t lists represents sound operation n o low high real small idle. begins-alike threads objects t lists represents sound n low high operation o idle;
+      begins = λ t lists represents sound operation limit n o low high real small idle.
+          begins-alike threads objects t lists represents sound n low high operation limit o idle;
       steps = λ t lists represents sound n doing low high running. steps-alike threads objects t lists represents sound n low high doing running;
+      ticks = tick-represents threads objects;
       keeps = λ lists event sound. sound-turn threads objects lists sound event;
     }
 

@@ -8,7 +8,7 @@ use borrow.Author.Tests.{le-leb}
 use Rattle.lock_rules.specs.declared.event.{Event.Event, Refusal.Refusal}
 use Rattle.lock_rules.specs.declared.event.Event.the-variants.{Step}
 use Rattle.lock_rules.specs.declared.event.Refusal.the-variants.{NotSound, NoSuchThread, NoSuchObject, NotIdle, ThreadIdle, ThreadParked}
-use Rattle.lock_rules.specs.declared.event.Refusal.the-variants.{NoSuchOperation}
+use Rattle.lock_rules.specs.declared.event.Refusal.the-variants.{NoSuchOperation, LimitOutOfRange}
 use Rattle.lock_rules.specs.Events.{Refused, Answered}
 use Rattle.lock_rules.specs.Feed.{Plain, OperationLog, feed, blank, EndsRight}
 use Rattle.lock_rules.specs.Numbers.{first-refusal, refusal-number}
@@ -44,6 +44,7 @@ refusal-ruled NotIdle high = (omega arith, omega arith)
 refusal-ruled ThreadIdle high = (omega arith, omega arith)
 refusal-ruled ThreadParked high = (omega arith, omega arith)
 refusal-ruled NoSuchOperation high = (omega arith, omega arith)
+refusal-ruled LimitOutOfRange high = (omega arith, omega arith)
 
 module _ (threads objects : ℕ) (lists : ListTable) (plain : Plain) (world : World lists plain) where
   step-ruled : (t : ℕ) (doing : Doing) → 1 ≤ t → t ≤ threads → lists .threads t .state ≡ Running doing → RuledReply (step-at lists t doing .reply)
@@ -57,7 +58,7 @@ module _ (threads objects : ℕ) (lists : ListTable) (plain : Plain) (world : Wo
   turn-ruled : (event : Event) → RuledReply (turn threads objects lists event .reply)
   turn-ruled =
       by-event list-kind threads objects lists (λ event result. RuledReply (result .reply)) (λ event refusal high. refusal-ruled refusal high)
-      (λ number operation t o asked low high real small idle. (omega arith, omega arith)) step-ruled
+      (λ number limit operation given t o asked fits low high real small idle. (omega arith, omega arith)) step-ruled (omega arith, omega arith)
 
 lists-ruled : (threads objects : ℕ) (events : List Event) (lists : ListTable) (plain : Plain) → World lists plain
     → Ruled (shown threads objects lists events)

@@ -18,7 +18,7 @@ use Rattle.lock_word.specs.declared.reading.Decoded.the-variants.{Valid}
 use Rattle.lock_rules.specs.Numbers.{phase-of-doing, phase-of}
 use Rattle.lock_rules.specs.Rules.{onward}
 use Rattle.lock_rules.proofs.Changes.{seen-after, handed, moved, look-again, sent-back}
-use Rattle.lock_rules.proofs.Each.{each-doing, each-state, each-carried, each-word}
+use Rattle.lock_rules.proofs.Each.{each-limit, each-suspension, each-doing, each-state, each-carried, each-word}
 use Rattle.lock_rules.proofs.Status.{unfinished}
 use Rattle.lock_rules.specs.declared.{OnwardStep.OnwardStep, Doing.Doing, ThreadState.ThreadState, WordChange.WordChange}
 use Rattle.lock_rules.specs.declared.Doing.the-variants.{ExitStore}
@@ -33,7 +33,7 @@ use Rattle.lock_table.specs.Phase.{onward-number, onward-phase, phase-number, c
 use Rattle.lock_table.specs.Record.{no-thread, with-activity, with-next}
 use Rattle.lock_table.specs.Chain.{carried-of, handed-of, moved-phase, moved as moved-record}
 use Rattle.lock_table.specs.declared.record.ThreadRecord.{ThreadRecord}
-use Rattle.lock_perform.specs.State.{look-of, store-of, cancel-of as cancel-state-of, go-in-of, carried-of as carried-state-of, state-by}
+use Rattle.lock_perform.specs.State.{wait-activity, limit-of, look-of, store-of, cancel-of as cancel-state-of, go-in-of, carried-of as carried-state-of, state-by}
 use Rattle.lock_perform.specs.State.{read-activity, doing-activity, carried-activity, write-activity, write-thread}
 use Rattle.lock_perform.specs.Moving.{back-from, sent-back-of}
 use Rattle.lock_perform.specs.Perform.{word-after}
@@ -96,21 +96,26 @@ count-kept n count is-number small = ap kept-count (meaning-of-word (Reserved (t
 
 -- a fine state is read back
 doing-read : (n o : ℕ) (doing : Doing) → IsNumber n → DoingFine doing → read-activity (doing-activity n o doing) ≡ Running doing
-unfolding doing-activity state-by look-of store-of cancel-state-of go-in-of
+unfolding doing-activity wait-activity limit-of state-by look-of store-of cancel-state-of go-in-of
 doing-read n o doing is-number =
     each-doing (λ d. DoingFine d → read-activity (doing-activity n o d) ≡ Running d) (
       search (count-kept, le-of-lt),
       (search, λ count fine. ap (λ (c : ℕ). Running (ExitStore c)) (count-kept n count is-number (fine .1)), search, search, search, search),
-      search,
+      (each-limit _ (search), each-limit _ (search), each-limit _ (search), each-limit _ (search), each-limit _ (search), each-suspension _ (search)),
       search,
       search,
     ) doing
 
 pub state-read : (n o : ℕ) (state : ThreadState) → (T (unfinished state) → IsNumber n) → StateFine state → read-activity (write-activity n o state) ≡ state
-unfolding write-activity carried-activity state-by carried-state-of
+unfolding write-activity carried-activity wait-activity limit-of state-by carried-state-of
 state-read n o state is-number fine =
-    each-state (λ s. (T (unfinished s) → IsNumber n) → StateFine s → read-activity (write-activity n o s) ≡ s)
-    (search, λ doing is fine. doing-read n o doing (is tt) fine, each-carried _ search, search, search) state is-number fine
+    each-state (λ s. (T (unfinished s) → IsNumber n) → StateFine s → read-activity (write-activity n o s) ≡ s) (
+      search,
+      λ doing is fine. doing-read n o doing (is tt) fine,
+      each-carried _ (search, search, each-limit _ (search), each-suspension _ (search)),
+      search,
+      each-suspension _ (search),
+    ) state is-number fine
 
 -- The record of a thread that can take a step, field by field and after each change of another thread's record.
 pub record WrittenDoing (n o : ℕ) (doing : Doing) (own : ThreadRecord) : Type 0 where
@@ -126,8 +131,8 @@ pub record WrittenDoing (n o : ℕ) (doing : Doing) (own : ThreadRecord) : Type 
       ≡ with-activity own (doing-activity n o (look-again doing))
 
 pub written-doing : (n o : ℕ) (doing : Doing) (own : ThreadRecord) → WrittenDoing n o doing own
-unfolding doing-activity carried-of moved-phase back-from phase-number carried-number
-written-doing n o doing own = each-doing (λ d. WrittenDoing n o d own) (search) doing
+unfolding doing-activity wait-activity carried-of moved-phase back-from phase-number carried-number
+written-doing n o doing own = each-doing (λ d. WrittenDoing n o d own) (search, search, (each-limit _ (search), each-limit _ (search), each-limit _ (search), each-limit _ (search), each-limit _ (search), each-suspension _ (search)), search, search) doing
 
 -- the same for a queued thread, which carries the phase that it takes
 pub record WrittenCarried (n o : ℕ) (carried : OnwardStep) (own : ThreadRecord) : Type 0 where
@@ -139,18 +144,18 @@ pub record WrittenCarried (n o : ℕ) (carried : OnwardStep) (own : ThreadRecord
   pub back : back-from (with-activity own (carried-activity o carried)) (carried-activity o carried .phase) ≡ with-activity own (carried-activity o carried)
 
 pub written-carried : (n o : ℕ) (carried : OnwardStep) (own : ThreadRecord) → WrittenCarried n o carried own
-unfolding carried-activity doing-activity carried-of moved-phase onward-phase back-from phase-number carried-number onward-number
-written-carried n o carried own = each-carried (λ c. WrittenCarried n o c own) (search) carried
+unfolding carried-activity doing-activity wait-activity carried-of moved-phase onward-phase back-from phase-number carried-number onward-number
+written-carried n o carried own = each-carried (λ c. WrittenCarried n o c own) (search, search, each-limit _ (search), each-suspension _ (search)) carried
 
 -- the object of a thread that is not idle is written as it is
 pub idle-or-written : (n o : ℕ) (state : ThreadState) → (state ≡ Idle) ⊎ (write-activity n o state .object ≡ o)
-unfolding write-activity
+unfolding write-activity wait-activity
 idle-or-written n o = each-state _ (
   search inl,
   λ doing. inr (written-doing n o doing no-thread .object),
   λ carried. inr (written-carried n o carried no-thread .object),
   search inr,
-  search inr,
+  each-suspension _ (search inr),
 )
 
 pub object-written : (n o : ℕ) (state : ThreadState) → T (unfinished state) → write-activity n o state .object ≡ o
@@ -158,27 +163,27 @@ object-written n o state busy = either-way (idle-or-written n o state) (λ idle.
 
 -- and the phase, by its number
 pub phase-written : (n o : ℕ) (state : ThreadState) → phase-number (write-activity n o state .phase) ≡ phase-of state
-unfolding write-activity phase-number
+unfolding write-activity wait-activity phase-number
 phase-written n o =
-    each-state _ (search, λ doing. written-doing n o doing no-thread .phase, λ carried. written-carried n o carried no-thread .phase, search, search)
+    each-state _ (search, λ doing. written-doing n o doing no-thread .phase, λ carried. written-carried n o carried no-thread .phase, search, each-suspension _ (search))
 
 -- a thread that is handed the monitor, having left the entry chain, takes the phase that it carries
 pub handed-written : (n o : ℕ) (state : ThreadState) (own : ThreadRecord) → handed-of (write-thread n o state own) ≡ write-thread n o (handed state) (with-next own 0)
-unfolding write-activity carried-of
+unfolding write-activity wait-activity carried-of
 handed-written n o =
-    each-state _ (search, λ doing own. written-doing n o doing own .handed-on, λ carried own. written-carried n o carried own .handed-on, search, search)
+    each-state _ (search, λ doing own. written-doing n o doing own .handed-on, λ carried own. written-carried n o carried own .handed-on, search, each-suspension _ (search))
 
 -- a thread that moves to the entry chain
 pub moved-written : (n o : ℕ) (state : ThreadState) (own : ThreadRecord) → moved-record (write-thread n o state own) ≡ write-thread n o (moved state) own
-unfolding write-activity carried-activity moved-phase
+unfolding write-activity carried-activity wait-activity moved-phase
 moved-written n o =
-    each-state _ (search, λ doing own. written-doing n o doing own .unmoved, λ carried own. written-carried n o carried own .unmoved, search, search)
+    each-state _ (search, λ doing own. written-doing n o doing own .unmoved, λ carried own. written-carried n o carried own .unmoved, search, each-suspension _ (search))
 
 back-written : (n o : ℕ) (state : ThreadState) (own : ThreadRecord)
     → back-from (write-thread n o state own) (write-activity n o state .phase) ≡ write-thread n o (sent-back state) own
-unfolding write-activity back-from
+unfolding write-activity wait-activity back-from
 back-written n o =
-    each-state _ (search, λ doing own. written-doing n o doing own .back, λ carried own. written-carried n o carried own .back, search, search)
+    each-state _ (search, λ doing own. written-doing n o doing own .back, λ carried own. written-carried n o carried own .back, search, each-suspension _ (search))
 
 -- a thread at `home` is sent back by a cancel at object o if it is there
 pub sent-back-written : (o n home : ℕ) (state : ThreadState) (own : ThreadRecord)

@@ -1,6 +1,7 @@
 -- An outcome with the number it is refused with and the table that it leaves: of a refusal before any rule, and of what a rule decided.
 use Prim.Native.Nat.{ℕ, _≤_}
 use mathlib.Core.Path.{_≡_, refl, sym, ap, _∙_, subst}
+use mathlib.Core.Logic.{_≢_}
 use native.Mathlib.Omega.{arith}
 use borrow.Author.Tests.{ne-eqb}
 use Rattle.lock_word.specs.declared.reading.LockWord.{LockWord}
@@ -9,7 +10,7 @@ use Rattle.lock_rules.specs.declared.Answer.the-variants.{GoneOn, Finished, Par
 use Rattle.lock_rules.specs.Numbers.{refusal-number}
 use Rattle.lock_rules.specs.declared.event.Refusal.{Refusal}
 use Rattle.lock_rules.specs.declared.event.Refusal.the-variants.{NotSound, NoSuchThread, NoSuchObject, NotIdle, ThreadIdle, ThreadParked}
-use Rattle.lock_rules.specs.declared.event.Refusal.the-variants.{NoSuchOperation}
+use Rattle.lock_rules.specs.declared.event.Refusal.the-variants.{NoSuchOperation, LimitOutOfRange}
 use Rattle.lock_rules.specs.declared.Action.the-variants.{Unruled, Do}
 use Rattle.lock_table.specs.Access.{thread-at, object-at}
 use Rattle.lock_table.specs.declared.record.{ThreadRecord.ThreadRecord, Table.Table}
@@ -17,7 +18,8 @@ use Rattle.lock_perform.specs.{Sight.sight-at, Perform.stays}
 use Rattle.lock_table.proofs.Records.{object-unchanged, thread-unchanged}
 use Rattle.lock_perform.proofs.Performed.{perform-of}
 use Rattle.lock_records.proofs.Settled.{settled-performs}
-use Rattle.lock_engine.specs.{Outcome.reply-returned, Turn.action-turn, Handle.outcome-of}
+use Rattle.lock_engine.specs.{Outcome.reply-returned, Turn.action-turn}
+use Rattle.lock_engine.specs.Handle.{work-stays, work-done-by, outcome-of}
 use Rattle.lock_engine.specs.declared.outcome.Reply.the-variants.{Answered}
 use Rattle.lock_engine.specs.declared.outcome.Outcome.{Outcome}
 use Rattle.lock_engine.proofs.Refused.{refusing}
@@ -34,27 +36,27 @@ pub record Ended (table : Table) (thread : ℕ) (outcome : Outcome) (number : �
 pub record EndedSame (table : Table) (outcome : Outcome) (number : ℕ) : Type 0 where
   pub refused : refused-number outcome ≡ number
   pub same : 11 ≤ returned outcome → outcome .table ≡ table
-  pub before-rule : returned outcome ≤ 17
+  pub before-rule : (returned outcome ≢ 18) × (returned outcome ≢ 19)
 
 pub same-ended : {table : Table} {outcome : Outcome} {number : ℕ} (thread : ℕ) → EndedSame table outcome number → Ended table thread outcome number
 same-ended {table} {outcome} thread ended =
     record {
       refused = ended .refused;
       left = λ high.
-          let before : returned outcome ≤ 17 = ended .before-rule in
-          simp (ne-eqb (returned outcome) 18 (λ is. omega (arith, is, before)), ne-eqb (returned outcome) 19 (λ is. omega (arith, is, before)))
-          (ended .same high);
+          let (owner, shallow) = ended .before-rule in
+          simp (ne-eqb (returned outcome) 18 owner, ne-eqb (returned outcome) 19 shallow) (ended .same high);
     }
 
 pub refuse-same : (table : Table) (refusal : Refusal) → EndedSame table (refusing table refusal) (refusal-number refusal)
 unfolding refusal-number reply-returned
-refuse-same table NotSound = record { refused = refl; same = λ high. refl; before-rule = omega arith }
-refuse-same table NoSuchThread = record { refused = refl; same = λ high. refl; before-rule = omega arith }
-refuse-same table NoSuchObject = record { refused = refl; same = λ high. refl; before-rule = omega arith }
-refuse-same table NotIdle = record { refused = refl; same = λ high. refl; before-rule = omega arith }
-refuse-same table ThreadIdle = record { refused = refl; same = λ high. refl; before-rule = omega arith }
-refuse-same table ThreadParked = record { refused = refl; same = λ high. refl; before-rule = omega arith }
-refuse-same table NoSuchOperation = record { refused = refl; same = λ high. refl; before-rule = omega arith }
+refuse-same table NotSound = record { refused = refl; same = λ high. refl; before-rule = (omega arith, omega arith) }
+refuse-same table NoSuchThread = record { refused = refl; same = λ high. refl; before-rule = (omega arith, omega arith) }
+refuse-same table NoSuchObject = record { refused = refl; same = λ high. refl; before-rule = (omega arith, omega arith) }
+refuse-same table NotIdle = record { refused = refl; same = λ high. refl; before-rule = (omega arith, omega arith) }
+refuse-same table ThreadIdle = record { refused = refl; same = λ high. refl; before-rule = (omega arith, omega arith) }
+refuse-same table ThreadParked = record { refused = refl; same = λ high. refl; before-rule = (omega arith, omega arith) }
+refuse-same table NoSuchOperation = record { refused = refl; same = λ high. refl; before-rule = (omega arith, omega arith) }
+refuse-same table LimitOutOfRange = record { refused = refl; same = λ high. refl; before-rule = (omega arith, omega arith) }
 
 pub refuse-ended : (table : Table) (thread : ℕ) (refusal : Refusal) → Ended table thread (refusing table refusal) (refusal-number refusal)
 refuse-ended table thread refusal = same-ended thread (refuse-same table refusal)
@@ -88,7 +90,7 @@ module _ (table : Table) (thread : ℕ) where
   -- what a rule decided, carried out
   pub action-ended : (word : LockWord) (action : Action) (number : ℕ) → Ends (sight-at table (object-at table o) word) action number
       → Ended table thread (outcome-of table thread o (action-turn thread own (object-at table o) action)) number
-  unfolding action-turn reply-returned stays
+  unfolding action-turn reply-returned work-stays work-done-by stays
   action-ended word Unruled number ends =
       record { refused = sym ends; left = λ high. rw (thread-unchanged table thread, object-unchanged table o) refl }
   action-ended word (Do effect) number ends =

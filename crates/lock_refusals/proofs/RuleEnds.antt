@@ -101,7 +101,7 @@ module _ (thread : ℕ) (sight : Sight) where
   go-in-ends some small = at (eqb (sight .holder) 0) (equal (sight .holder) 0) (eqb (sight .holder) thread) (equal (sight .holder) thread)
     where
       again : (none below? : Bool) → Equal none (sight .depth) 0 → Below below? (sight .depth) depth-limit
-          → let decided = pick none Unruled (pick below? (finish-depth sight (sight .depth + 1)) (Do (idle-again sight TooDeep))) in
+          → let decided = pick none Unruled (pick below? (finish-depth sight (sight .depth + 1) 0) (Do (idle-again sight TooDeep))) in
           Ends sight decided (pick (eqb (sight .depth) depth-limit) 19 (pick (unruled decided) 20 0))
       again true below? none low = rw (ne-eqb (sight .depth) depth-limit (λ full. omega (arith, full, none))) refl
       again false true some low = rw (ne-eqb (sight .depth) depth-limit (λ full. omega (arith, full, low))) refl

@@ -16,15 +16,19 @@ use Rattle.lock_rules.specs.Rules.{go-in-again, go-in}
 use Rattle.lock_rules.specs.Rules.{exit-owned, exit-store, exit-test, exit-tell, exit-leave, wait-owned, wait-inflate, wait-give-up, wait-resume}
 use Rattle.lock_rules.specs.Rules.{notify-owned, notify-all-owned}
 use Rattle.lock_rules.proofs.Each.{Words, each-word}
-use Rattle.lock_rules.specs.declared.{Action.Action, Doing.Doing, Sight.Sight}
+use Rattle.lock_rules.specs.declared.{Limit.Limit, Action.Action, Doing.Doing, Sight.Sight}
+use Rattle.lock_rules.specs.declared.Limit.the-variants.{Unlimited, Ticks}
 use Rattle.lock_rules.specs.declared.Action.the-variants.{Unruled}
 use Rattle.lock_word.specs.declared.meaning.WordSeen.{WordSeen}
 use Rattle.lock_rules.specs.declared.Doing.the-variants.{EnterLook, EnterStore, EnterCancel, EnterGoIn, EnterCheck, EnterTry, ExitLook}
 use Rattle.lock_rules.specs.declared.Doing.the-variants.{ExitStore, ExitGoIn, ExitTest, ExitTell, ExitLeave, WaitLook, WaitCancel, WaitGoIn}
 use Rattle.lock_rules.specs.declared.Doing.the-variants.{WaitInflate, WaitGiveUp, WaitResume, NotifyLook, NotifyAllLook}
 use Rattle.lock_table.specs.{Operation.operation-number, Phase.phase-number, Ownership.ownership-in}
+use Rattle.lock_table.specs.declared.operation.Operation.the-variants.{Wait}
+use Rattle.lock_table.specs.declared.phase.Phase.{Phase}
+use Rattle.lock_table.specs.declared.phase.Phase.the-variants.{Look, Cancel, GoIn, Inflate, GiveUp, Resume}
 use Rattle.lock_table.specs.declared.record.{Monitor.Monitor, ObjectRecord.ObjectRecord, Table.Table}
-use Rattle.lock_perform.specs.{State.doing-activity, Sight.sight-at}
+use Rattle.lock_perform.specs.{State.doing-activity, State.wait-activity, Sight.sight-at}
 use Rattle.lock_refusals.specs.Refusals.{Row, row, first-applies, not-the-owner, too-deep, unruled}
 use Rattle.lock_refusals.proofs.RuleEnds.{Ends, Ordinary, ordinary-ends, either-ordinary, owner-ends, go-in-ends}
 
@@ -45,6 +49,10 @@ owner-is word monitor = owner-owned (owner-of (seen-word word) (monitor .holder)
 module _ (table : Table) (object : ObjectRecord) (word : LockWord) (thread : ℕ) (some : thread ≢ 0) (small : object .monitor .depth ≤ depth-limit) where
   abbrev sight : Sight
   sight = sight-at table object word
+
+  -- the first of the rows that applies, for a thread with this operation and phase that decides on this, at its object with the owner in sight
+  abbrev rows-first : ℕ → Phase → Action → ℕ
+  rows-first operation phase action = first-applies (rule-refusals thread operation (phase-number phase) (owner-seen sight) (object .monitor) (unruled action))
 
   -- the record of such a thread, at an object with this owner, ends as its list says
   abbrev Decided : ℕ → ℕ → Doing → Type 0
@@ -72,6 +80,15 @@ module _ (table : Table) (object : ObjectRecord) (word : LockWord) (thread : ℕ
   held : (action : Action) → Ordinary action → Ordinary (holder-only thread sight action)
   held action ordinary = either-ordinary (eqb (sight .holder) thread) action Unruled ordinary tt
 
+  -- the rows of a timed wait are those of a wait
+  as-wait : (o : ℕ) (phase : Phase) (saved : ℕ) (limit : Limit) (doing : Doing)
+      → let action = decide thread sight doing in
+      Ends sight action (rows-first (operation-number Wait) phase action)
+      → Ends sight action (rows-first (operation-number (wait-activity o phase saved limit .operation)) (wait-activity o phase saved limit .phase) action)
+  unfolding wait-activity operation-number
+  as-wait o phase saved Unlimited doing ends = ends
+  as-wait o phase saved (Ticks left) doing ends = ends
+
   seen-ends : (o : ℕ) (doing : Doing) → Decided o (owner-seen sight) doing
   unfolding decide doing-activity phase-number operation-number enter-look enter-store cancel enter-check enter-try go-in-again go-in exit-owned exit-store exit-test
       exit-tell exit-leave wait-owned wait-inflate wait-give-up wait-resume notify-owned notify-all-owned
@@ -87,12 +104,16 @@ module _ (table : Table) (object : ObjectRecord) (word : LockWord) (thread : ℕ
   seen-ends o ExitTest = plain ExitTest (search either-ordinary)
   seen-ends o ExitTell = plain ExitTell (search either-ordinary)
   seen-ends o ExitLeave = plain ExitLeave (search either-ordinary)
-  seen-ends o WaitLook = by-owned (wait-owned sight) (search)
-  seen-ends o WaitCancel = plain WaitCancel (by-word (cancel sight WaitLook) (search))
-  seen-ends o WaitGoIn = plain WaitGoIn (search either-ordinary)
-  seen-ends o WaitInflate = plain WaitInflate (held _ (by-word (wait-inflate thread sight) (search either-ordinary)))
-  seen-ends o WaitGiveUp = plain WaitGiveUp (held _ (by-word (wait-give-up sight) (search either-ordinary)))
-  seen-ends o (WaitResume suspension) = plain (WaitResume suspension) (held _ (by-word (wait-resume sight suspension) (search either-ordinary)))
+  seen-ends o (WaitLook limit) = as-wait o Look 0 limit (WaitLook limit) (by-owned (wait-owned sight limit) (search))
+  seen-ends o (WaitCancel limit) = as-wait o Cancel 0 limit (WaitCancel limit) (plain (WaitCancel limit) (by-word (cancel sight (WaitLook limit)) (search)))
+  seen-ends o (WaitGoIn limit) = as-wait o GoIn 0 limit (WaitGoIn limit) (plain (WaitGoIn limit) (search either-ordinary))
+  seen-ends o (WaitInflate limit) =
+      as-wait o Inflate 0 limit (WaitInflate limit) (plain (WaitInflate limit) (held _ (by-word (wait-inflate thread sight limit) (search either-ordinary))))
+  seen-ends o (WaitGiveUp limit) =
+      as-wait o GiveUp 0 limit (WaitGiveUp limit) (plain (WaitGiveUp limit) (held _ (by-word (wait-give-up sight limit) (search either-ordinary))))
+  seen-ends o (WaitResume suspension) =
+      as-wait o Resume (suspension .depth) (suspension .limit) (WaitResume suspension)
+      (plain (WaitResume suspension) (held _ (by-word (wait-resume sight suspension) (search either-ordinary))))
   seen-ends o NotifyLook = by-owned (notify-owned sight) (search either-ordinary)
   seen-ends o NotifyAllLook = by-owned (notify-all-owned sight) (search)
 

@@ -2,22 +2,20 @@
 use Prim.Native.Nat.{ℕ}
 use mathlib.Core.Path.{_≡_, refl, sym, ap, _∙_, subst}
 use mathlib.Core.Logic.{_≢_}
-use mathlib.Core.Bool.{Bool, true, false}
+use mathlib.Core.Bool.{true, false}
 use native.Mathlib.Omega.{arith}
-use lib.Dec.{leb}
 use borrow.Author.Tests.{le-leb}
-use Rattle.laws.specs.Choice.{pick, both, within}
+use Rattle.laws.specs.Choice.{pick, within}
 use Rattle.laws.proofs.Choice.{split, false≢true}
 use Rattle.lock_word.specs.Read.{read-word}
 use Rattle.lock_word.specs.declared.reading.Decoded.{Decoded}
 use Rattle.lock_word.specs.declared.reading.Decoded.the-variants.{Valid, Invalid}
 use Rattle.lock_rules.specs.{Numbers.refusal-number, Rules.decide}
-use Rattle.lock_rules.specs.Gate.{is-idle, is-parked, gate-rows, gate, event-thread}
-use Rattle.lock_rules.specs.declared.event.{Event.Event, ThreadStatus.ThreadStatus, Gate.Gate}
-use Rattle.lock_rules.specs.declared.event.Event.the-variants.{Begin, Step}
+use Rattle.lock_rules.specs.Gate.{is-idle, is-parked, gate-rows, gate, event-thread, event-object}
+use Rattle.lock_rules.specs.declared.event.{Event.Event, Gate.Gate}
+use Rattle.lock_rules.specs.declared.event.Event.the-variants.{Begin, Step, Tick}
 use Rattle.lock_rules.specs.declared.event.ThreadStatus.the-variants.{Ready}
 use Rattle.lock_rules.specs.declared.event.Refusal.the-variants.{NotSound}
-use Rattle.lock_rules.specs.declared.event.Gate.the-variants.{Shut}
 use Rattle.lock_rules.specs.declared.{Doing.Doing, ThreadState.ThreadState}
 use Rattle.lock_rules.specs.declared.ThreadState.the-variants.{Idle, Running, Queued, Contending, Waiting}
 use Rattle.lock_rules.proofs.Gate.{Passed, by-gate}
@@ -35,7 +33,7 @@ use Rattle.lock_soundness.proofs.Reading.{sound-reads}
 use Rattle.lock_engine.specs.Outcome.{reply-returned}
 use Rattle.lock_engine.specs.Turn.{word-turn, state-turn, step-turn, open-turn, gate-turn, refused}
 use Rattle.lock_gate.specs.Status.{thread-status}
-use Rattle.lock_engine.specs.Handle.{event-object, waiters-of, outcome-of, handle-trusting, handle}
+use Rattle.lock_engine.specs.Handle.{waiters-of, outcome-of, handle-trusting, handle}
 use Rattle.lock_engine.specs.declared.outcome.Outcome.{Outcome}
 use Rattle.lock_engine.proofs.Refused.{refused-stays, handle-shut}
 use Rattle.lock_engine.proofs.Narrow.{sizes}
@@ -115,8 +113,9 @@ module _ (table : Table) (typed : WellTyped table) where
       Ended table (event-thread event) (outcome-of table (event-thread event) number (open-turn event own object (waiters-of table object)))
       (first-applies (rule-rows table event))
   unfolding open-turn reply-returned
-  open-ended sound (Begin operation thread object) passed = record { refused = refl; left = λ high. absurd (omega (arith, high)) }
+  open-ended sound (Begin operation thread object limit) passed = record { refused = refl; left = λ high. absurd (omega (arith, high)) }
   open-ended sound (Step thread) (low, high, ready) = step-ended table typed sound thread (λ none. omega (arith, none, low)) ready
+  open-ended sound Tick passed = record { refused = refl; left = λ high. absurd (omega (arith, high)) }
 
   -- on a sound table
   sound-ended : sound-of table ≡ true → (event : Event)
@@ -137,17 +136,11 @@ module _ (table : Table) (typed : WellTyped table) where
       (sym (refused-stays table (event-thread event) number refusal)) (refuse-ended table (event-thread event) refusal))
       event (thread-status (own .phase)) (λ is. open-ended sound event))
 
-  -- on any other
-  unsound-shut : (event : Event) (threads : Bool) (status : ThreadStatus)
-      → gate (both false threads) (table .threadcount) (table .objectcount) event status ≡ Shut NotSound
-  unsound-shut (Begin operation thread object) threads status = refl
-  unsound-shut (Step thread) threads status = refl
-
+  -- and on any other, where 11 comes first
   pub event-ended : (event : Event) → Ended table (event-thread event) (handle table event) (first-applies (refusals table event))
   unfolding handle
   event-ended event =
       let status = thread-status (thread-at table (event-thread event) .phase) in
       rw (first-gated (gate-rows (sound-of table) (table .threadcount) (table .objectcount) event status) (rule-rows table event))
       (split (sound-of table) (λ sound. rw sound (sound-ended sound event))
-      (λ unsound. rw (unsound, unsound-shut event false status, handle-shut table event false NotSound (unsound-shut event (leb (table .threadcount) thread-limit) status))
-      (refuse-ended table (event-thread event) NotSound)))
+      (λ unsound. rw (unsound, handle-shut table event false NotSound refl) (refuse-ended table (event-thread event) NotSound)))

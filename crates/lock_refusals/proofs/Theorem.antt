@@ -6,7 +6,7 @@ use mathlib.Core.Bool.{true}
 use mathlib.Core.List.{List, [], _∷_, _++_}
 use native.Mathlib.Omega.{arith}
 use borrow.Author.Tests.{le-leb, lt-leb}
-use Rattle.lock_rules.specs.declared.event.Event.the-variants.{Begin, Step}
+use Rattle.lock_rules.specs.declared.event.Event.the-variants.{Begin, Step, Tick}
 use Rattle.lock_rules.specs.declared.Answer.{Answer}
 use Rattle.lock_rules.specs.declared.Answer.the-variants.{GoneOn, Finished, Parked, NotOwner, TooDeep, NoRule}
 use Rattle.lock_table.specs.declared.record.Table.{Table}
@@ -19,7 +19,7 @@ use Rattle.lock_gate.specs.Status.{thread-status}
 use Rattle.lock_soundness.specs.Sound.{sound-of}
 use Rattle.lock_table.specs.Access.{thread-at}
 use Rattle.lock_engine.specs.declared.outcome.{Reply.Reply, Outcome.Outcome}
-use Rattle.lock_engine.specs.declared.outcome.Reply.the-variants.{Begun, Refused, Answered}
+use Rattle.lock_engine.specs.declared.outcome.Reply.the-variants.{Accepted, Refused, Answered}
 use Rattle.lock_refusals.specs.Refusals.{Row, first-applies, numbered, rule-rows, refusals}
 use Rattle.lock_refusals.specs.Demand.{returned, refused-number, RefusedByFirst, DemandOne}
 use Rattle.lock_refusals.proofs.Rows.{from-eleven, first-read, first-made, none-read, none-made}
@@ -36,7 +36,7 @@ answer-range NoRule = inr (omega arith)
 
 reply-range : (reply : Reply) → (reply-returned reply ≤ 2) ⊎ (11 ≤ reply-returned reply)
 unfolding reply-returned
-reply-range Begun = inl (omega arith)
+reply-range Accepted = inl (omega arith)
 reply-range (Refused refusal) = inr (refusal-high refusal)
 reply-range (Answered answer) = answer-range answer
 
@@ -75,8 +75,9 @@ numbered-high [] rest high = high
 numbered-high (first ∷ rows) rest high = rw (le-leb 11 (refusal-number (first .refusal)) (refusal-high (first .refusal))) (numbered-high rows rest high)
 
 rule-high : (table : Table) (event : Event) → from-eleven (rule-rows table event) ≡ true
-rule-high table (Begin operation thread object) = refl
+rule-high table (Begin operation thread object limit) = refl
 rule-high table (Step thread) = refl
+rule-high table Tick = refl
 
 pub demand-one : DemandOne
 demand-one table typed event = (

@@ -12,9 +12,10 @@ use Rattle.lock_word.specs.declared.reading.Decoded.{Decoded}
 use Rattle.lock_word.specs.declared.reading.Decoded.the-variants.{Valid, Invalid}
 use Rattle.lock_rules.specs.Numbers.{refusal-number}
 use Rattle.lock_rules.specs.Gate.{GateRow, gate-rows, event-thread}
+use Rattle.lock_rules.specs.Operations.{operation-limit}
 use Rattle.lock_rules.specs.Rules.{decide}
 use Rattle.lock_rules.specs.declared.event.Event.{Event}
-use Rattle.lock_rules.specs.declared.event.Event.the-variants.{Begin, Step}
+use Rattle.lock_rules.specs.declared.event.Event.the-variants.{Begin, Step, Tick}
 use Rattle.lock_rules.specs.declared.Doing.{Doing}
 use Rattle.lock_rules.specs.declared.ThreadState.{ThreadState}
 use Rattle.lock_rules.specs.declared.ThreadState.the-variants.{Idle, Running, Queued, Contending, Waiting}
@@ -67,9 +68,9 @@ abbrev pub numbered : List GateRow → List Row
 numbered [] = []
 numbered (first ∷ rest) = row (refusal-number (first .refusal)) (first .applies) ∷ numbered rest
 
--- 18: "exit, wait, notify: not the owner". An exit, a wait or either notify is in phase 1, and the object's owner by its word is not the thread.
+-- 18: "exit, wait, notify: not the owner". An exit, a wait, timed or not, or either notify is in phase 1, and the object's owner by its word is not the thread.
 abbrev pub not-the-owner : ℕ → ℕ → ℕ → ℕ → Bool
-not-the-owner thread operation phase owner = both (within 2 5 operation) (both (eqb phase 1) (not (eqb owner thread)))
+not-the-owner thread operation phase owner = both (within 2 operation-limit operation) (both (eqb phase 1) (not (eqb owner thread)))
 
 -- 19: "enter at depth 65,535". An enter is in phase 4, and the thread is holder at that depth.
 abbrev pub too-deep : ℕ → ℕ → ℕ → Monitor → Bool
@@ -94,7 +95,7 @@ no-rule table thread object (Waiting suspension) = false
 
 -- "then its rule"
 abbrev pub rule-rows : Table → Event → List Row
-rule-rows table (Begin operation thread object) = []
+rule-rows table (Begin operation thread object limit) = []
 rule-rows table (Step thread) =
     let phase = phase-number-at table thread in
     let operation = operation-at table thread in
@@ -103,8 +104,9 @@ rule-rows table (Step thread) =
     ∷ row 19 (too-deep thread operation phase (object-at table home .monitor))
     ∷ row 20 (no-rule table thread (object-at table home) (read-thread (thread-at table thread)))
     ∷ []
+rule-rows table Tick = []
 
--- "Order: 11, 12; begin then 17, 13, 14; step then 15, 16, then its rule"
+-- "Order: 11, 12; begin then 17, 13, 14; step then 15, 16, then its rule"; document 02: a begin then 23, and a tick 11 alone
 abbrev pub refusals : Table → Event → List Row
 refusals table event =
     numbered (gate-rows (sound-of table) (table .threadcount) (table .objectcount) event (thread-status (thread-at table (event-thread event) .phase)))

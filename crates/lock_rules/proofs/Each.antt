@@ -3,7 +3,8 @@
 use Prim.Native.Nat.{ℕ}
 use Rattle.chains.specs.declared.named.Chain.{Chain}
 use Rattle.lock_rules.specs.Operations.{Operation, Enter, Exit, Wait, Notify, NotifyAll}
-use Rattle.lock_rules.specs.declared.{Suspension.Suspension, OnwardStep.OnwardStep, Doing.Doing, ThreadState.ThreadState}
+use Rattle.lock_rules.specs.declared.{Limit.Limit, Suspension.Suspension, OnwardStep.OnwardStep, Doing.Doing, ThreadState.ThreadState}
+use Rattle.lock_rules.specs.declared.Limit.the-variants.{Unlimited, Ticks}
 use Rattle.lock_rules.specs.declared.OnwardStep.the-variants.{ToCheck, ToTell, ToInflate, ToResume}
 use Rattle.lock_rules.specs.declared.Doing.the-variants.{EnterLook, EnterStore, EnterCancel, EnterGoIn, EnterCheck, EnterTry, ExitLook}
 use Rattle.lock_rules.specs.declared.Doing.the-variants.{ExitStore}
@@ -20,7 +21,9 @@ abbrev Exits {ℓ} : (Doing → Type ℓ) → Type ℓ
 Exits P = P ExitLook × ((c : ℕ) → P (ExitStore c)) × P ExitGoIn × P ExitTest × P ExitTell × P ExitLeave
 
 abbrev Waits {ℓ} : (Doing → Type ℓ) → Type ℓ
-Waits P = P WaitLook × P WaitCancel × P WaitGoIn × P WaitInflate × P WaitGiveUp × ((saved : Suspension) → P (WaitResume saved))
+Waits P =
+    ((limit : Limit) → P (WaitLook limit)) × ((limit : Limit) → P (WaitCancel limit)) × ((limit : Limit) → P (WaitGoIn limit))
+    × ((limit : Limit) → P (WaitInflate limit)) × ((limit : Limit) → P (WaitGiveUp limit)) × ((saved : Suspension) → P (WaitResume saved))
 
 abbrev Doings {ℓ} : (Doing → Type ℓ) → Type ℓ
 Doings P = Enters P × Exits P × Waits P × P NotifyLook × P NotifyAllLook
@@ -38,11 +41,11 @@ each-doing P all ExitGoIn = all .1 .2
 each-doing P all ExitTest = all .1 .3
 each-doing P all ExitTell = all .1 .4
 each-doing P all ExitLeave = all .1 .5
-each-doing P all WaitLook = all .2 .0
-each-doing P all WaitCancel = all .2 .1
-each-doing P all WaitGoIn = all .2 .2
-each-doing P all WaitInflate = all .2 .3
-each-doing P all WaitGiveUp = all .2 .4
+each-doing P all (WaitLook limit) = all .2 .0 limit
+each-doing P all (WaitCancel limit) = all .2 .1 limit
+each-doing P all (WaitGoIn limit) = all .2 .2 limit
+each-doing P all (WaitInflate limit) = all .2 .3 limit
+each-doing P all (WaitGiveUp limit) = all .2 .4 limit
 each-doing P all (WaitResume saved) = all .2 .5 saved
 each-doing P all NotifyLook = all .3
 each-doing P all NotifyAllLook = all .4
@@ -58,12 +61,12 @@ each-state P all Contending = all .3
 each-state P all (Waiting saved) = all .4 saved
 
 abbrev Carrieds {ℓ} : (OnwardStep → Type ℓ) → Type ℓ
-Carrieds P = P ToCheck × P ToTell × P ToInflate × ((saved : Suspension) → P (ToResume saved))
+Carrieds P = P ToCheck × P ToTell × ((limit : Limit) → P (ToInflate limit)) × ((saved : Suspension) → P (ToResume saved))
 
 abbrev pub each-carried {ℓ} : (P : OnwardStep → Type ℓ) → Carrieds P → (carried : OnwardStep) → P carried
 each-carried P all ToCheck = all .0
 each-carried P all ToTell = all .1
-each-carried P all ToInflate = all .2
+each-carried P all (ToInflate limit) = all .2 limit
 each-carried P all (ToResume saved) = all .3 saved
 
 abbrev pub Words {ℓ} : (WordSeen → Type ℓ) → Type ℓ
@@ -93,3 +96,15 @@ abbrev pub each-chain {ℓ} : (P : Chain → Type ℓ) → Chains P → (chain :
 each-chain P all Chain.Entry = all .0
 each-chain P all Chain.Contention = all .1
 each-chain P all Chain.Waiting = all .2
+
+abbrev Limits {ℓ} : (Limit → Type ℓ) → Type ℓ
+Limits P = P Unlimited × ((left : ℕ) → P (Ticks left))
+
+abbrev pub each-limit {ℓ} : (P : Limit → Type ℓ) → Limits P → (limit : Limit) → P limit
+each-limit P all Unlimited = all .0
+each-limit P all (Ticks left) = all .1 left
+
+-- by the limit of what a wait keeps
+abbrev pub each-suspension {ℓ} : (P : Suspension → Type ℓ)
+    → ((depth : ℕ) → P (record { depth = depth; limit = Unlimited })) × ((depth left : ℕ) → P (record { depth = depth; limit = Ticks left })) → (saved : Suspension) → P saved
+each-suspension P all saved = each-limit (λ limit. P (record { depth = saved .depth; limit = limit })) (all .0 (saved .depth), all .1 (saved .depth)) (saved .limit)

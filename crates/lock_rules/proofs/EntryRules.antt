@@ -14,7 +14,7 @@ use Rattle.lock_word.specs.Depth.{depth-limit}
 use Rattle.lock_rules.specs.Actions.{keep-object, inflate, become-holder, raise-flag}
 use Rattle.lock_rules.specs.Rules.{onward, go-in-again, go-in, enter-check, enter-try}
 use Rattle.lock_rules.specs.Operations.{Operation, Enter, Exit, Wait}
-use Rattle.lock_rules.specs.declared.{OnwardStep.OnwardStep, Doing.Doing}
+use Rattle.lock_rules.specs.declared.{Limit.Limit, OnwardStep.OnwardStep, Doing.Doing}
 use Rattle.lock_rules.specs.declared.OnwardStep.the-variants.{ToCheck, ToTell, ToInflate}
 use Rattle.lock_rules.specs.declared.Doing.the-variants.{EnterGoIn, EnterCheck, EnterTry, ExitGoIn, WaitGoIn}
 use Rattle.lock_rules.specs.declared.ThreadState.the-variants.{Idle, Running, Queued, Contending}
@@ -32,7 +32,7 @@ use Rattle.lock_rules.proofs.Invariant.{Logged, woken?, SavedIs, Monito
 use Rattle.lock_rules.proofs.OtherThreads.{others-flag, others-taken, others-joined}
 use Rattle.lock_rules.proofs.SharedFacts.{unstranded-moved, unstranded-held, unstranded-joined, unheld, monitor-handed}
 use Rattle.lock_rules.proofs.SharedFacts.{owner-shallow, fat-owner, fat-unowned, first-commit, same-monitor}
-use Rattle.lock_rules.proofs.Refinement.{plain-at, Actor, Self, Stepping, Right, nothing-committed, quiet-refines}
+use Rattle.lock_rules.proofs.Refinement.{limit-of, plain-at, Actor, Self, Stepping, Right, nothing-committed, quiet-refines}
 use Rattle.lock_rules.proofs.RuleShapes.{ended-self, end-refines, depth-refines, hand-refines, inflate-refines}
 
 module _ (actor : Actor) where
@@ -86,13 +86,13 @@ module _ (actor : Actor) where
   go-in-refines : (o : ListObject) (doing : Doing) (carried : OnwardStep)
       → Stepping actor doing o → phase-row (onward carried) .seat ≡ holding → phase-row (onward carried) .saved ≡ nothing-saved
       → phase-row doing .saved ≡ nothing-saved → phase-row (onward carried) .operation ≡ phase-row doing .operation
-      → phase-row (onward carried) .stage ≡ phase-row doing .stage
+      → phase-row (onward carried) .stage ≡ phase-row doing .stage → phase-row (onward carried) .limit ≡ phase-row doing .limit
       → (o .holder ≡ 0 → ReliesOn (phase-row (onward carried) .reliance) (actor .thread) (o .word) (o .flag) (actor .thread))
       → (o .holder ≢ 0 → Relies (Queued carried) (actor .thread) (o .word) (o .flag) (o .holder))
       → (o .holder ≡ actor .thread → Right actor (phase-row doing .operation) o (go-in-again (sight-of o) carried))
       → Right actor (phase-row doing .operation) o (go-in (actor .thread) (sight-of o) carried)
   unfolding go-in
-  go-in-refines o doing carried step seated saves-not saved-not operation stage relies queued again =
+  go-in-refines o doing carried step seated saves-not saved-not operation stage limit relies queued again =
       by-equal (Right actor (phase-row doing .operation) o) (o .holder) 0 free
       (λ e. by-equal (Right actor (phase-row doing .operation) o) (o .holder) (actor .thread) again
       (λ q. join-refines (phase-row doing .operation) o carried (step .inv) e
@@ -105,7 +105,7 @@ module _ (actor : Actor) where
       saved = rw saves-not tt
 
       logged : Logged (Running (onward carried)) (actor .ghost .logs (actor .thread))
-      logged = rw (operation, stage) (step .self .logged)
+      logged = rw (operation, stage, limit) (step .self .logged)
 
       free : o .holder ≡ 0 → Right actor (phase-row doing .operation) o (become-holder (actor .thread) (sight-of o) (onward carried))
       free e =
@@ -131,10 +131,10 @@ module _ (actor : Actor) where
       let above = step .self .seated q (actor .real) in
       by-equal (Right actor Enter o) (it .depth) 0 (λ e. absurd (omega (arith, above, e)))
       (λ e. by-below (Right actor Enter o) (it .depth) depth-limit
-      (λ l. depth-refines actor Enter it (it .depth + 1) step q
+      (λ l. depth-refines actor Enter it (it .depth + 1) 0 step q
       (record {
         woken = actor .ghost .woken;
-        does = commit-enter-again (actor .thread) (plain-at actor o) (actor .real) (fat-owner (it .holder) (it .depth) above ∙ q) l;
+        does = commit-enter-again (limit-of actor) (actor .thread) (plain-at actor o) (actor .real) (fat-owner (it .holder) (it .depth) above ∙ q) l;
         others = λ t n. refl;
         asleep = step .self .woken;
         above = omega arith;
@@ -145,26 +145,27 @@ module _ (actor : Actor) where
         );
       }))
       (λ l. end-refines actor Enter o EnterGoIn TooDeep step (λ k. k) (step .self .seated) (step .self .woken)
-      (commit-too-deep (actor .thread) (plain-at actor o) (actor .real) (fat-owner (it .holder) (it .depth) above ∙ q) l)
+      (commit-too-deep (limit-of actor) (actor .thread) (plain-at actor o) (actor .real) (fat-owner (it .holder) (it .depth) above ∙ q) l)
       (first-commit (step .self .logged .1), refl)))
 
   pub enter-go-in-refines : (o : ListObject) → Stepping actor EnterGoIn o → Right actor Enter o (go-in (actor .thread) (sight-of o) ToCheck)
   enter-go-in-refines o step =
-      go-in-refines o EnterGoIn ToCheck step refl refl refl refl refl (λ e. step .self .relies) (λ e. step .self .relies) (enter-again-refines o (o .word) step)
+      go-in-refines o EnterGoIn ToCheck step refl refl refl refl refl refl (λ e. step .self .relies) (λ e. step .self .relies) (enter-again-refines o (o .word) step)
 
   -- an exit in 4 is not the holder, and a wait in 4 would be the owner at a depth above 0 of a flat word
   pub exit-go-in-refines : (o : ListObject) → Stepping actor ExitGoIn o → Right actor Exit o (go-in (actor .thread) (sight-of o) ToTell)
   exit-go-in-refines o step =
-      go-in-refines o ExitGoIn ToTell step refl refl refl refl refl (λ e. step .self .relies) (λ e. step .self .relies) (λ q. absurd (step .self .seated .0 q))
+      go-in-refines o ExitGoIn ToTell step refl refl refl refl refl refl (λ e. step .self .relies) (λ e. step .self .relies) (λ q. absurd (step .self .seated .0 q))
 
   flat-shallow : (word : WordSeen) (holder depth : ℕ) → FlatOf (actor .thread) word → MonitorOk word holder depth → depth ≡ 0
   flat-shallow word holder depth =
       each-word (λ w. FlatOf (actor .thread) w → MonitorOk w holder depth → depth ≡ 0)
       (λ f. absurd f, λ f. absurd f, λ f. absurd f, λ owner c f m. m .0, λ owner c f. absurd f) word
 
-  pub wait-go-in-refines : (o : ListObject) → Stepping actor WaitGoIn o → Right actor Wait o (go-in (actor .thread) (sight-of o) ToInflate)
-  wait-go-in-refines o step =
-      go-in-refines o WaitGoIn ToInflate step refl refl refl refl refl (λ e. step .self .relies) (λ e. step .self .relies)
+  pub wait-go-in-refines : (o : ListObject) (limit : Limit) → Stepping actor (WaitGoIn limit) o
+      → Right actor Wait o (go-in (actor .thread) (sight-of o) (ToInflate limit))
+  wait-go-in-refines o limit step =
+      go-in-refines o (WaitGoIn limit) (ToInflate limit) step refl refl refl refl refl refl (λ e. step .self .relies) (λ e. step .self .relies)
       (λ q. absurd (omega (
         arith,
         step .self .seated q (actor .real),
@@ -202,7 +203,7 @@ module _ (actor : Actor) where
   enter-inflates : (o : ListObject) (new : ℕ) (doing : Doing)
       → Stepping actor doing o → o .holder ≡ actor .thread → ((t : ℕ) → t ≢ actor .thread → FlatOf t (o .word) → ⊥) → Unreserved (o .word) → 0 < new
       → new ≤ depth-limit → actor .ghost .logs (actor .thread) .commits ≡ 0 → actor .ghost .woken (actor .thread) ≡ false
-      → commit Enter (actor .thread) (plain-at actor o) ≡ finished (owned-by (plain-at actor o) (actor .thread) new)
+      → commit Enter (limit-of actor) (actor .thread) (plain-at actor o) ≡ finished (owned-by (plain-at actor o) (actor .thread) new)
       → Right actor Enter o (inflate (sight-of o) new Idle (Finished 0) true)
   enter-inflates o new doing step q foreign thin above limit fresh asleep does =
       inflate-refines actor Enter o new step q
@@ -228,10 +229,10 @@ module _ (actor : Actor) where
   enter-check-refines it Anonymous step = absurd (step .self .relies)
   enter-check-refines it Fat step =
       by-equal (Right actor Enter (with-word it Fat)) (it .depth) 0
-      (λ e. depth-refines actor Enter it 1 step (step .self .seated .0)
+      (λ e. depth-refines actor Enter it 1 0 step (step .self .seated .0)
       (record {
         woken = actor .ghost .woken;
-        does = commit-enter (actor .thread) (plain-at actor (with-word it Fat)) (fat-unowned (it .holder) (it .depth) e);
+        does = commit-enter (limit-of actor) (actor .thread) (plain-at actor (with-word it Fat)) (fat-unowned (it .holder) (it .depth) e);
         others = λ t n. refl;
         asleep = step .self .woken;
         above = omega arith;
@@ -245,7 +246,7 @@ module _ (actor : Actor) where
       let same : c + 1 + 1 ≡ c + 2 = omega arith in
       enter-inflates (with-word it (Flat owner c)) (c + 2) EnterCheck step (step .self .seated .0) (λ t n o. n (sym o ∙ q)) tt (omega arith)
       (omega (arith, step .inv .whole .monitor .2)) (step .self .logged .1) (step .self .woken)
-      (commit-enter-again (actor .thread) m (actor .real) q (omega (arith, step .inv .whole .monitor .2)) ∙ ap
+      (commit-enter-again (limit-of actor) (actor .thread) m (actor .real) q (omega (arith, step .inv .whole .monitor .2)) ∙ ap
       (λ (n : ℕ). finished (owned-by m (actor .thread) n)) same)) (λ q. raise-flag-refines (with-word it (Flat owner c)) step q)
   enter-check-refines it (Reserved owner c) step = absurd (step .self .relies)
 
@@ -254,7 +255,7 @@ module _ (actor : Actor) where
   unfolding enter-try
   enter-try-refines it Free step =
       enter-inflates (with-word it Free) 1 EnterTry step (step .self .seated .0) (λ t n o. o) tt (omega arith) (omega arith) (step .self .logged .1)
-      (step .self .woken) (commit-enter (actor .thread) (plain-at actor (with-word it Free)) refl)
+      (step .self .woken) (commit-enter (limit-of actor) (actor .thread) (plain-at actor (with-word it Free)) refl)
   enter-try-refines it Anonymous step = absurd (step .self .relies .0)
   enter-try-refines it Fat step = absurd (step .self .relies .0)
   enter-try-refines it (Flat owner c) step =

@@ -33,7 +33,7 @@ module _ (actor : Actor) where
   step-refines o EnterLook step = enter-look-refines actor o (o .word) step
   step-refines o (EnterStore c) step = enter-store-refines actor o (o .word) c step
   step-refines o EnterCancel step =
-      cancel-refines actor o (o .word) EnterCancel EnterLook (refl, refl, refl, refl) refl (λ k. k) step
+      cancel-refines actor o (o .word) EnterCancel EnterLook (refl, refl, refl, refl, refl) refl (λ k. k) step
   step-refines o EnterGoIn step = enter-go-in-refines actor o step
   step-refines o EnterCheck step =
       holder-refines Enter o (enter-check (actor .thread) (sight-of o) (o .word)) (step .self .seated .0) (enter-check-refines actor o (o .word) step)
@@ -46,14 +46,14 @@ module _ (actor : Actor) where
   step-refines o ExitTell step =
       holder-refines Exit o (exit-tell (sight-of o)) (step .self .seated .0) (exit-tell-refines actor o (o .flag) (o .contention) step)
   step-refines o ExitLeave step = holder-refines Exit o (exit-leave (sight-of o)) (step .self .seated .0) (exit-leave-refines actor o step)
-  step-refines o WaitLook step = wait-look-refines actor o step
-  step-refines o WaitCancel step =
-      cancel-refines actor o (o .word) WaitCancel WaitLook (refl, refl, refl, refl) refl (λ k. k) step
-  step-refines o WaitGoIn step = wait-go-in-refines actor o step
-  step-refines o WaitInflate step =
-      holder-refines Wait o (wait-inflate (actor .thread) (sight-of o) (o .word)) (step .self .seated .0) (wait-inflate-refines actor o (o .word) step)
-  step-refines o WaitGiveUp step =
-      holder-refines Wait o (wait-give-up (sight-of o) (o .word)) (step .self .seated .0) (wait-give-up-refines actor o (o .word) step)
+  step-refines o (WaitLook limit) step = wait-look-refines actor o limit step
+  step-refines o (WaitCancel limit) step =
+      cancel-refines actor o (o .word) (WaitCancel limit) (WaitLook limit) (refl, refl, refl, refl, refl) refl (λ k. k) step
+  step-refines o (WaitGoIn limit) step = wait-go-in-refines actor o limit step
+  step-refines o (WaitInflate limit) step =
+      holder-refines Wait o (wait-inflate (actor .thread) (sight-of o) limit (o .word)) (step .self .seated .0) (wait-inflate-refines actor o (o .word) limit step)
+  step-refines o (WaitGiveUp limit) step =
+      holder-refines Wait o (wait-give-up (sight-of o) limit (o .word)) (step .self .seated .0) (wait-give-up-refines actor o (o .word) limit step)
   step-refines o (WaitResume suspension) step =
       holder-refines Wait o (wait-resume (sight-of o) suspension (o .word)) (step .self .seated .0) (wait-resume-refines actor o (o .word) suspension step)
   step-refines o NotifyLook step = notify-look-refines actor o step

@@ -23,7 +23,7 @@ use Rattle.lock_word.specs.declared.meaning.WordSeen.the-variants.{Free, Anonym
 use Rattle.lock_rules.specs.declared.Taken.the-variants.{First}
 use Rattle.lock_rules.specs.declared.Answer.the-variants.{GoneOn, Finished}
 use Rattle.lock_rules.proofs.Objects.{ListObject, with-word, with-flag, with-entry, with-contention, sight-of}
-use Rattle.lock_rules.proofs.Perform.{left, count-taken, first-of, changed-states, handed-states, moved-object, moved-states}
+use Rattle.lock_rules.proofs.Perform.{taking, left, count-taken, first-of, changed-states, handed-states, moved-object, moved-states}
 use Rattle.lock_rules.proofs.Invariant.{phase-row, leaving?, in-entry, FlagOk, Told, Unstranded}
 use Rattle.lock_rules.proofs.SharedFacts.{unstranded-empty, unstranded-joined, flag-down, owner-shallow, first-queued}
 use Rattle.lock_rules.proofs.SharedFacts.{idle-changed, same-monitor}
@@ -34,7 +34,7 @@ module _ (actor : Actor) where
   pub exit-test-refines : (it : ListObject) (flag : Bool) → let o = with-flag it flag in
       Stepping actor ExitTest o → Right actor Exit o (exit-test (sight-of o))
   unfolding exit-test
-  exit-test-refines it true step = go-on-refines actor _ ExitTest ExitGoIn step (refl, refl, refl, refl) (λ k. k) (step .self .relies)
+  exit-test-refines it true step = go-on-refines actor _ ExitTest ExitGoIn step (refl, refl, refl, refl, refl) (λ k. k) (step .self .relies)
   exit-test-refines it false step =
       let o = with-flag it false in
       quiet-refines actor Exit o o Idle (Finished 0) (step .inv) (step .self .logged .1)
@@ -102,10 +102,10 @@ module _ (actor : Actor) where
         nobody = step .inv .whole .nobody;
         stays = idle-changed moved refl (actor .states) (first ∷ []);
         does = λ k. absurd k;
-        others = others-moved (actor .thread) (actor .states) o (actor .ghost) Chain.Contention First (λ t n. step .inv .threads t);
+        others = others-moved (actor .thread) (actor .states) o (actor .ghost) Chain.Contention (taking First (first ∷ rest)) (λ t n. step .inv .threads t);
         self = record {
           seated = step .self .seated;
-          placed = placed-unmoved (actor .thread) (Running ExitLeave) o (step .self .placed) Chain.Contention First out;
+          placed = placed-unmoved (actor .thread) (Running ExitLeave) o (step .self .placed) Chain.Contention (taking First (first ∷ rest)) out;
           relies = tt;
           logged = step .self .logged;
           saved = tt;
@@ -125,7 +125,7 @@ module _ (actor : Actor) where
   onward-stays : (carried : OnwardStep) → T (leaving? (phase-row (onward carried) .seat)) → ⊥
   onward-stays ToCheck k = k
   onward-stays ToTell k = k
-  onward-stays ToInflate k = k
+  onward-stays (ToInflate limit) k = k
   onward-stays (ToResume suspension) k = k
 
   -- the contenders of a free word, after the leaving

@@ -10,7 +10,7 @@ use Rattle.laws.specs.{Choice.pick, Update.update, Count.count}
 use Rattle.lock_word.specs.{Depth.depth-limit, Layout.count-limit}
 use Rattle.lock_rules.specs.Rules.{onward}
 use Rattle.lock_rules.specs.Operations.{Operation, Enter, Exit, Wait, Notify, NotifyAll}
-use Rattle.lock_rules.specs.declared.{Suspension.Suspension, Doing.Doing, ThreadState.ThreadState}
+use Rattle.lock_rules.specs.declared.{Limit.Limit, Suspension.Suspension, Doing.Doing, ThreadState.ThreadState}
 use Rattle.lock_rules.specs.declared.OnwardStep.the-variants.{ToCheck, ToTell, ToInflate, ToResume}
 use Rattle.lock_rules.specs.declared.Doing.the-variants.{EnterLook, EnterStore, EnterCancel, EnterGoIn, EnterCheck, EnterTry, ExitLook}
 use Rattle.lock_rules.specs.declared.Doing.the-variants.{ExitStore}
@@ -47,15 +47,27 @@ pub data Saved : Type 0 where
   nothing-saved : Saved
   saves : Suspension → Saved
 
+-- the limit that its begin gave, as long as the operation has it whole
+pub data BegunLimit : Type 0 where
+  any-limit : BegunLimit
+  begun-limit : Limit → BegunLimit
+
 pub record PhaseRow : Type 0 where
   pub operation : Operation
+  pub limit : BegunLimit
   pub seat : Seat
   pub reliance : Reliance
   pub stage : Stage
   pub saved : Saved
 
 abbrev row-of : Operation → Seat → Reliance → Stage → PhaseRow
-row-of operation seat reliance stage = record { operation = operation; seat = seat; reliance = reliance; stage = stage; saved = nothing-saved }
+row-of operation seat reliance stage =
+    record { operation = operation; limit = any-limit; seat = seat; reliance = reliance; stage = stage; saved = nothing-saved }
+
+-- of a wait that has not given up yet
+abbrev wait-row : Limit → Seat → Reliance → Stage → PhaseRow
+wait-row limit seat reliance stage =
+    record { operation = Wait; limit = begun-limit limit; seat = seat; reliance = reliance; stage = stage; saved = nothing-saved }
 
 -- the table of the phases
 abbrev pub phase-row : Doing → PhaseRow
@@ -71,12 +83,12 @@ phase-row ExitGoIn = row-of Exit telling unreserved all-committed
 phase-row ExitTest = row-of Exit telling unreserved all-committed
 phase-row ExitTell = row-of Exit holding unreserved all-committed
 phase-row ExitLeave = row-of Exit leaving anything all-committed
-phase-row WaitLook = row-of Wait outside anything uncommitted
-phase-row WaitCancel = row-of Wait outside anything uncommitted
-phase-row WaitGoIn = row-of Wait outside own-flat uncommitted
-phase-row WaitInflate = row-of Wait holding own-flat uncommitted
-phase-row WaitGiveUp = row-of Wait owning held-fat uncommitted
-phase-row (WaitResume suspension) = record { operation = Wait; seat = holding; reliance = held-fat; stage = given-up; saved = saves suspension }
+phase-row (WaitLook limit) = wait-row limit outside anything uncommitted
+phase-row (WaitCancel limit) = wait-row limit outside anything uncommitted
+phase-row (WaitGoIn limit) = wait-row limit outside own-flat uncommitted
+phase-row (WaitInflate limit) = wait-row limit holding own-flat uncommitted
+phase-row (WaitGiveUp limit) = wait-row limit owning held-fat uncommitted
+phase-row (WaitResume suspension) = record { operation = Wait; limit = any-limit; seat = holding; reliance = held-fat; stage = given-up; saved = saves suspension }
 phase-row NotifyLook = row-of Notify outside anything uncommitted
 phase-row NotifyAllLook = row-of NotifyAll outside anything uncommitted
 
@@ -163,7 +175,7 @@ Relies Idle t word flag holder = Unit {0}
 Relies (Running doing) t word flag holder = ReliesOn (phase-row doing .reliance) t word flag holder
 Relies (Queued ToCheck) t word flag holder = Unreserved word
 Relies (Queued ToTell) t word flag holder = Unreserved word
-Relies (Queued ToInflate) t word flag holder = FlatOf t word
+Relies (Queued (ToInflate limit)) t word flag holder = FlatOf t word
 Relies (Queued (ToResume suspension)) t word flag holder = IsFat word
 Relies Contending t word flag holder = NotOwn t word
 Relies (Waiting suspension) t word flag holder = IsFat word
@@ -174,12 +186,20 @@ Staged uncommitted log = log .commits ≡ 0
 Staged all-committed log = (log .commits ≡ 1) × (log .answer ≡ Finished 0)
 Staged given-up log = log .commits ≡ 1
 
+abbrev pub LimitIs : BegunLimit → Limit → Type 0
+LimitIs any-limit limit = Unit {0}
+LimitIs (begun-limit begun) limit = limit ≡ begun
+
+abbrev LoggedAs : Operation → Stage → BegunLimit → OperationLog → Type 0
+LoggedAs operation stage limit log = (log .operation ≡ operation) × Staged stage log × LimitIs limit (log .limit)
+
 abbrev pub Logged : ThreadState → OperationLog → Type 0
 Logged Idle log = Unit {0}
-Logged (Running doing) log = (log .operation ≡ phase-row doing .operation) × Staged (phase-row doing .stage) log
-Logged (Queued carried) log = (log .operation ≡ phase-row (onward carried) .operation) × Staged (phase-row (onward carried) .stage) log
-Logged Contending log = (log .operation ≡ Enter) × Staged uncommitted log
-Logged (Waiting suspension) log = (log .operation ≡ Wait) × Staged given-up log
+Logged (Running doing) log = LoggedAs (phase-row doing .operation) (phase-row doing .stage) (phase-row doing .limit) log
+Logged (Queued carried) log =
+    LoggedAs (phase-row (onward carried) .operation) (phase-row (onward carried) .stage) (phase-row (onward carried) .limit) log
+Logged Contending log = LoggedAs Enter uncommitted any-limit log
+Logged (Waiting suspension) log = LoggedAs Wait given-up any-limit log
 
 -- By the plain monitor's woken threads, and by what they and the waiting have saved there: the same, with a depth in range
 abbrev pub woken? : Saved → Bool
@@ -260,7 +280,7 @@ pub record Refines (thread : ℕ) (operation : Operation) (states : ℕ → Thre
   pub committed : Committed
   pub woken : ℕ → Bool
   pub saved : ℕ → Suspension
-  pub commits : T (performed .commits) → commit operation thread (monitor-of o ghost) ≡ committed
+  pub commits : T (performed .commits) → commit operation (ghost .logs thread .limit) thread (monitor-of o ghost) ≡ committed
   pub invariant : Invariant (performed .states) (performed .object)
       (record { logs = update (ghost .logs) thread (log-after (performed .commits) (ghost .logs thread) (committed .answer)); woken = woken; saved = saved })
   pub monitor : pick (performed .commits) (committed .monitor) (monitor-of o ghost)

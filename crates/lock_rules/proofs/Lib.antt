@@ -5,6 +5,7 @@ pub mod Status
 pub mod Commits
 pub mod Objects
 pub mod Perform
+pub mod Tick
 pub mod Gate
 pub mod TableKinds
 pub mod Tables
@@ -22,6 +23,7 @@ pub mod EntryRules
 pub mod ExitRules
 pub mod WaitRules
 pub mod EveryStep
+pub mod TickRules
 pub mod Lift
 pub mod Progress
 pub mod Claim
@@ -29,6 +31,7 @@ pub mod Listing
 pub mod ListSound
 pub mod SoundEffects
 pub mod SoundPerform
+pub mod SoundTick
 pub mod ListChains
 pub mod SoundKept
 pub mod Simulation

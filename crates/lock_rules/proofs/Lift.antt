@@ -1,32 +1,32 @@
 -- From one object to the table: every event keeps the invariant at every object, and the plain monitors agree with the objects. A step changes one object and
 -- the threads at it; any other object is seen as before.
-use Prim.Native.Nat.{ℕ, _<_}
+use Prim.Native.Nat.{ℕ}
 use mathlib.Core.Path.{_≡_, refl, sym, ap, _∙_, subst₂, subst₃, fun-ext}
 use mathlib.Core.Logic.{_≢_, _⊎_, inl, inr}
 use mathlib.Core.Bool.{Bool, true, false}
 use mathlib.Core.List.{List, [], _∷_}
 use native.Mathlib.Omega.{arith}
 use lib.Dec.{T, eqb}
+use borrow.Author.Tests.{eq-eqb, ne-eqb}
 use Rattle.laws.specs.{Choice.pick, Update.update}
-use Rattle.laws.proofs.Choice.{equal?, Equal, equal}
+use Rattle.laws.proofs.Choice.{equal?, either-way, Equal, equal}
 use Rattle.laws.proofs.Update.{update-same, update-other, update-map}
 use Rattle.laws.proofs.Count.{count-none}
-use Rattle.lock_rules.specs.{Rules.begun, Events.Refused}
+use Rattle.lock_rules.specs.{Rules.begun}
 use Rattle.lock_rules.specs.Operations.{Operation, Known}
-use Rattle.lock_rules.specs.declared.{Suspension.Suspension, Doing.Doing, ThreadState.ThreadState, Answer.Answer}
+use Rattle.lock_rules.specs.declared.{Limit.Limit, Suspension.Suspension, Doing.Doing, ThreadState.ThreadState, Answer.Answer}
 use Rattle.lock_rules.specs.declared.ThreadState.the-variants.{Idle, Running}
-use Rattle.lock_rules.specs.Numbers.{first-refusal, refusal-number}
-use Rattle.lock_rules.specs.declared.event.{Refusal.Refusal, Event.Event}
-use Rattle.lock_rules.specs.declared.event.Event.the-variants.{Begin, Step}
-use Rattle.lock_rules.specs.PlainMonitor.{PlainMonitor, Committed, unowned, commit}
-use Rattle.lock_rules.specs.Feed.{OperationLog, Plain, new-log, log-after, fed-step, fed-begin, feed, feed-all, blank, EndsRight, AllEndRight}
+use Rattle.lock_rules.specs.declared.event.{Event.Event}
+use Rattle.lock_rules.specs.PlainMonitor.{PlainMonitor, Committed, unowned, commit, plain-tick}
+use Rattle.lock_rules.specs.Feed.{OperationLog, Plain, new-log, log-after, fed-step, fed-begin, fed-tick, feed, feed-all, blank, EndsRight, AllEndRight}
 use Rattle.lock_rules.proofs.{Each.each-operation, Perform.Performed, TableKinds.by-event, OtherThreads.with-own}
 use Rattle.lock_rules.proofs.{SharedFacts.unstranded-moved, EveryStep.step-refines}
 use Rattle.lock_rules.proofs.Objects.{ListObject, empty}
-use Rattle.lock_rules.proofs.Tables.{ListThread, ListTable, seen-from, states-at, put-back, perform-at, begin-at, list-kind, turn, final}
+use Rattle.lock_rules.proofs.Tables.{ListThread, ListTable, seen-from, states-at, put-back, perform-at, begin-at, ticked-at, tick-where, tick-all, list-kind, turn, final}
 use Rattle.lock_rules.proofs.Tables.{shown, fresh-object, fresh, seen-idle, seen-here, seen-elsewhere}
 use Rattle.lock_rules.proofs.Invariant.{phase-row, leaving?, Ghost, ThreadOk, ObjectOk, Invariant, monitor-of, Refines}
 use Rattle.lock_rules.proofs.Refinement.{Actor, Stepping}
+use Rattle.lock_rules.proofs.TickRules.{ticked-idle, ghost-after, Refines as TickRefines, tick-refines}
 
 -- what the plain monitors know of the threads at object o
 abbrev pub ghost-at : Plain → ℕ → Ghost
@@ -50,64 +50,64 @@ inv-log t states o ghost log inv e = record { threads = λ u. at u (equal? u t);
     at u (inr n) = rw (update-other (ghost .logs) t log u n) (inv .threads u)
 
 -- an idle thread begins
-first-phase : (operation : Operation) (t object : ℕ) (o : ListObject) (log : OperationLog) (woken : Bool) (suspension : Suspension)
+first-phase : (operation : Operation) (limit : Limit) (t object : ℕ) (o : ListObject) (log : OperationLog) (woken : Bool) (suspension : Suspension)
     → ThreadOk t Idle o log woken suspension
-    → ThreadOk t (Running (begun operation)) o (new-log operation object) woken suspension
-first-phase operation t object o log woken suspension a =
-    each-operation (λ asked. ThreadOk t (Running (begun asked)) o (new-log asked object) woken suspension) (search) operation
+    → ThreadOk t (Running (begun operation limit)) o (new-log operation limit object) woken suspension
+first-phase operation limit t object o log woken suspension a =
+    each-operation (λ asked. ThreadOk t (Running (begun asked limit)) o (new-log asked limit object) woken suspension) (search) operation
 
-first-stays : (operation : Operation) → T (leaving? (phase-row (begun operation) .seat)) → ⊥
-first-stays = each-operation _ (search)
+first-stays : (limit : Limit) (operation : Operation) → T (leaving? (phase-row (begun operation limit) .seat)) → ⊥
+first-stays limit = each-operation _ (search)
 
-inv-begin : (operation : Operation) (t object : ℕ) (states : ℕ → ThreadState) (o : ListObject) (ghost : Ghost) → t ≢ 0 → Invariant states o ghost
+inv-begin : (operation : Operation) (limit : Limit) (t object : ℕ) (states : ℕ → ThreadState) (o : ListObject) (ghost : Ghost) → t ≢ 0 → Invariant states o ghost
     → states t ≡ Idle
-    → Invariant (update states t (Running (begun operation))) o
-    (record { logs = update (ghost .logs) t (new-log operation object); woken = ghost .woken; saved = ghost .saved })
-inv-begin operation t object states o ghost z inv e =
+    → Invariant (update states t (Running (begun operation limit))) o
+    (record { logs = update (ghost .logs) t (new-log operation limit object); woken = ghost .woken; saved = ghost .saved })
+inv-begin operation limit t object states o ghost z inv e =
     let a : ThreadOk t Idle o (ghost .logs t) (ghost .woken t) (ghost .saved t) = rw e at (inv .threads t) in
     record {
-      threads = with-own t states o ghost (Running (begun operation)) _ (λ u n. inv .threads u) (first-phase operation t object o _ _ _ a);
+      threads = with-own t states o ghost (Running (begun operation limit)) _ (λ u n. inv .threads u) (first-phase operation limit t object o _ _ _ a);
       whole = record {
-        nobody = update-other states t (Running (begun operation)) 0 (λ q. z (sym q)) ∙ inv .whole .nobody;
+        nobody = update-other states t (Running (begun operation limit)) 0 (λ q. z (sym q)) ∙ inv .whole .nobody;
         monitor = inv .whole .monitor;
         empty = inv .whole .empty;
         flag = inv .whole .flag;
-        unstranded = unstranded-moved (o .word) states t Idle (Running (begun operation)) (o .holder) (o .entry) (o .contention) e (λ k. absurd k)
-            (λ k. absurd (first-stays operation k)) (inv .whole .unstranded);
+        unstranded = unstranded-moved (o .word) states t Idle (Running (begun operation limit)) (o .holder) (o .entry) (o .contention) e (λ k. absurd k)
+            (λ k. absurd (first-stays limit operation k)) (inv .whole .unstranded);
       };
     }
 
-world-begin : (table : ListTable) (plain : Plain) (operation : Operation) (t o : ℕ) → t ≢ 0 → table .threads t .state ≡ Idle → World table plain
-    → World (begin-at table operation t o) (fed-begin plain t o (Known operation))
-world-begin table plain operation t o z e world =
+world-begin : (table : ListTable) (plain : Plain) (operation : Operation) (limit : Limit) (t o : ℕ) → t ≢ 0 → table .threads t .state ≡ Idle → World table plain
+    → World (begin-at table operation limit t o) (fed-begin plain t o (Known operation limit))
+world-begin table plain operation limit t o z e world =
     record {
       inv = λ b. at b (equal? b o);
       monitors = world .monitors;
       objects = λ u.
           rw (
-            update-map (λ (x : OperationLog). x .object) (plain .logs) t (new-log operation o) u,
-            update-map (λ (x : ListThread). x .object) (table .threads) t (record { object = o; state = Running (begun operation) }) u,
+            update-map (λ (x : OperationLog). x .object) (plain .logs) t (new-log operation limit o) u,
+            update-map (λ (x : ListThread). x .object) (table .threads) t (record { object = o; state = Running (begun operation limit) }) u,
             fun-ext (world .objects),
           );
       ended = world .ended;
     }
   where
     at : (b : ℕ) → (b ≡ o) ⊎ (b ≢ o)
-        → Invariant (states-at (begin-at table operation t o) b) (table .objects b) (ghost-at (fed-begin plain t o (Known operation)) b)
+        → Invariant (states-at (begin-at table operation limit t o) b) (table .objects b) (ghost-at (fed-begin plain t o (Known operation limit)) b)
     at b (inl s) =
         subst₃ Invariant
         (fun-ext
         (λ u. sym
-        (update-map (seen-from b) (table .threads) t (record { object = o; state = Running (begun operation) }) u
+        (update-map (seen-from b) (table .threads) t (record { object = o; state = Running (begun operation limit) }) u
         ∙ ap (λ v. update (states-at table b) t v u) (seen-here b _ (sym s)))))
-        refl refl (inv-begin operation t o (states-at table b) (table .objects b) (ghost-at plain b) z (world .inv b) (seen-idle b (table .threads t) e))
+        refl refl (inv-begin operation limit t o (states-at table b) (table .objects b) (ghost-at plain b) z (world .inv b) (seen-idle b (table .threads t) e))
     at b (inr n) =
         subst₃ Invariant (fun-ext (λ u. sym (away u (equal? u t)))) refl refl
         (inv-log t (states-at table b) (table .objects b) (ghost-at plain b) _ (world .inv b) (seen-idle b (table .threads t) e))
       where
-        away : (u : ℕ) → (u ≡ t) ⊎ (u ≢ t) → states-at (begin-at table operation t o) b u ≡ states-at table b u
+        away : (u : ℕ) → (u ≡ t) ⊎ (u ≢ t) → states-at (begin-at table operation limit t o) b u ≡ states-at table b u
         away u (inl s) =
-            rw (s, update-same (table .threads) t (record { object = o; state = Running (begun operation) }))
+            rw (s, update-same (table .threads) t (record { object = o; state = Running (begun operation limit) }))
             (seen-elsewhere b _ (λ k. n (sym k)) ∙ sym (seen-idle b (table .threads t) e))
         away u (inr m) = ap (seen-from b) (update-other (table .threads) t _ u m)
 
@@ -154,6 +154,22 @@ module _ (table : ListTable) (o : ℕ) (result : Performed) where
       at true s = sym s
       at false s = refl
 
+-- how the threads are seen after a tick at those objects that pass a test
+pub tick-seen : (which : ℕ → Bool) (table : ListTable) (o t : ℕ)
+    → states-at (tick-where which table) o t ≡ pick (which o) (ticked-at table o .states) (states-at table o) t
+tick-seen which table o t =
+    either-way (equal? (table .threads t .object) o) (λ is. rw (eq-eqb (table .threads t .object) o is, is) (here (which o) is))
+    (λ away. rw (ne-eqb (table .threads t .object) o away) (elsewhere (which o) (seen-elsewhere o (table .threads t) away)))
+  where
+    here : (b : Bool) → table .threads t .object ≡ o
+        → pick b (ticked-at table o .states t) (table .threads t .state) ≡ pick b (ticked-at table o .states) (states-at table o) t
+    here true is = refl
+    here false is = sym (seen-here o (table .threads t) is)
+
+    elsewhere : (b : Bool) → states-at table o t ≡ Idle → Idle ≡ pick b (ticked-at table o .states) (states-at table o) t
+    elsewhere true idle = sym (ticked-idle (states-at table o) (table .objects o) t idle)
+    elsewhere false idle = sym idle
+
 -- a step of thread t, which is at the object `home`, with a result that refines the plain monitor there
 module _ (table : ListTable) (plain : Plain) (t : ℕ) (result : Performed) (world : World table plain) where
   abbrev home : ℕ
@@ -179,12 +195,12 @@ module _ (table : ListTable) (plain : Plain) (t : ℕ) (result : Performed) (wor
         );
       }
     where
-      runs : commit (plain .logs t .operation) t (plain .monitors (plain .logs t .object))
-          ≡ commit operation t (monitor-of (table .objects home) (ghost-at plain home))
-      runs = rw (e, world .objects t) (ap (commit operation t) (world .monitors home))
+      runs : commit (plain .logs t .operation) (plain .logs t .limit) t (plain .monitors (plain .logs t .object))
+          ≡ commit operation (plain .logs t .limit) t (monitor-of (table .objects home) (ghost-at plain home))
+      runs = rw (e, world .objects t) (ap (commit operation (plain .logs t .limit) t) (world .monitors home))
 
       log : log-after (result .commits) (plain .logs t) (refined .committed .answer)
-          ≡ log-after (result .commits) (plain .logs t) (commit (plain .logs t .operation) t (plain .monitors (plain .logs t .object)) .answer)
+          ≡ log-after (result .commits) (plain .logs t) (commit (plain .logs t .operation) (plain .logs t .limit) t (plain .monitors (plain .logs t .object)) .answer)
       log = log-is (result .commits) (plain .logs t) _ _ (λ k. sym (ap (λ (x : Committed). x .answer) (runs ∙ refined .commits k)))
 
       -- the plain monitor of the object, after the step
@@ -245,20 +261,34 @@ stepping table plain t doing z k world =
     let e : states-at table o t ≡ Running doing = seen-here o (table .threads t) refl ∙ k in
     record { inv = world .inv o; running = e; self = rw e at (world .inv o .threads t) }
 
+-- a tick: each object's own, and the plain monitor of each
+world-tick : (table : ListTable) (plain : Plain) → World table plain → World (tick-all table) (fed-tick plain)
+world-tick table plain world =
+    record {
+      inv = λ o. subst₃ Invariant (fun-ext (λ t. sym (tick-seen (λ b. true) table o t))) refl (known o) (shown-at o .0);
+      monitors = λ o. ap plain-tick (world .monitors o) ∙ (shown-at o .1 ∙ ap (monitor-of (ticked-at table o .object)) (known o));
+      objects = world .objects;
+      ended = world .ended;
+    }
+  where
+    shown-at : (o : ℕ) → TickRefines (table .objects o) (ghost-at plain o) (ticked-at table o)
+    shown-at o = tick-refines (states-at table o) (table .objects o) (ghost-at plain o) (world .inv o)
+
+    known : (o : ℕ) → ghost-after (table .objects o) (ghost-at plain o) ≡ ghost-at (fed-tick plain) o
+    known o =
+        ap (λ (monitor : PlainMonitor). record { logs = plain .logs; woken = plain-tick monitor .woken; saved = plain-tick monitor .saved }) (sym (world .monitors o))
+
 pub world-turn : (threads objects : ℕ) (table : ListTable) (plain : Plain) → World table plain → (event : Event)
     → World (turn threads objects table event .table) (feed plain event (turn threads objects table event .reply))
 world-turn threads objects table plain world =
-    by-event list-kind threads objects table (λ event result. World (result .table) (feed plain event (result .reply))) refused
-    (λ number operation t o asked low high olow ohigh idle. rw asked (world-begin table plain operation t o (λ z. omega (arith, low, z)) idle world))
+    by-event list-kind threads objects table (λ event result. World (result .table) (feed plain event (result .reply))) (λ event refusal high. world)
+    (λ number limit operation given t o asked fits low high olow ohigh idle. rw asked (world-begin table plain operation given t o (λ z. omega (arith, low, z)) idle world))
     (λ t doing low high running.
     let z : t ≢ 0 = λ e. omega (arith, low, e) in
     world-step table plain t (perform-at table (table .threads t .object) t doing) world (phase-row doing .operation)
     (stepping table plain t doing z running world .self .logged .0) (step-refines (actor-at table plain t z) (table .objects (table .threads t .object))
     doing (stepping table plain t doing z running world)))
-  where
-    refused : (event : Event) (refusal : Refusal) → first-refusal < refusal-number refusal → World table (feed plain event (Refused (refusal-number refusal)))
-    refused (Begin n t o) refusal high = world
-    refused (Step t) refusal high = world
+    (world-tick table plain world)
 
 inv-fresh : (reserved : Bool) (ghost : Ghost) → ((t : ℕ) → ghost .woken t ≡ false) → Invariant (λ t. Idle) (fresh-object reserved) ghost
 inv-fresh reserved ghost e =

@@ -3,9 +3,10 @@ use Prim.Native.Nat.{ℕ, _≤_, _<_}
 use mathlib.Core.Path.{_≡_}
 use mathlib.Core.Logic.{_⊎_}
 use mathlib.Core.List.{[]}
-use Rattle.lock_word.specs.{Depth.depth-limit, Layout.count-limit}
+use Rattle.lock_word.specs.{Depth.depth-limit, Layout.count-limit, Ticks.tick-limit}
 use Rattle.lock_rules.specs.Rules.{onward}
-use Rattle.lock_rules.specs.declared.{Suspension.Suspension, Doing.Doing, ThreadState.ThreadState}
+use Rattle.lock_rules.specs.declared.{Limit.Limit, Suspension.Suspension, Doing.Doing, ThreadState.ThreadState}
+use Rattle.lock_rules.specs.declared.Limit.the-variants.{Unlimited, Ticks}
 use Rattle.lock_rules.specs.declared.ThreadState.the-variants.{Idle}
 use Rattle.lock_word.specs.declared.meaning.WordSeen.{WordSeen}
 use Rattle.lock_word.specs.declared.meaning.WordSeen.the-variants.{Free, Anonymous, Fat, Flat, Reserved}
@@ -14,9 +15,22 @@ use Rattle.lock_rules.proofs.Objects.{ListObject, empty}
 use Rattle.lock_rules.proofs.Tables.{ListThread, ListTable, states-at}
 use Rattle.lock_rules.proofs.Invariant.{Placed}
 
+-- a limit is 1 to 65,535 ticks; only one that has run out is 0
+abbrev pub LimitFine : Limit → Type 0
+LimitFine Unlimited = Unit {0}
+LimitFine (Ticks left) = (1 ≤ left) × (left ≤ tick-limit)
+
+abbrev pub LeftFine : Limit → Type 0
+LeftFine Unlimited = Unit {0}
+LeftFine (Ticks left) = left ≤ tick-limit
+
 -- a saved depth is 1 to 65,535
 abbrev pub SuspensionFine : Suspension → Type 0
-SuspensionFine suspension = (0 < suspension .depth) × (suspension .depth ≤ depth-limit)
+SuspensionFine suspension = (0 < suspension .depth) × (suspension .depth ≤ depth-limit) × LeftFine (suspension .limit)
+
+-- of a wait that is not woken yet
+abbrev pub WaitingFine : Suspension → Type 0
+WaitingFine suspension = (0 < suspension .depth) × (suspension .depth ≤ depth-limit) × LimitFine (suspension .limit)
 
 -- a kept word in phase 2 has count 0 to 62 for enter, 1 to 63 for exit
 abbrev pub DoingFine : Doing → Type 0
@@ -25,13 +39,13 @@ DoingFine =
     each-doing _ (
       (fine, λ c. c < count-limit, fine, fine, fine, fine),
       (fine, λ c. (0 < c) × (c ≤ count-limit), fine, fine, fine, fine),
-      (fine, fine, fine, fine, fine, SuspensionFine),
+      (LimitFine, LimitFine, LimitFine, LimitFine, LimitFine, SuspensionFine),
       fine,
       fine,
     )
 
 abbrev pub StateFine : ThreadState → Type 0
-StateFine = each-state _ (Unit {0}, DoingFine, λ carried. DoingFine (onward carried), Unit {0}, SuspensionFine)
+StateFine = each-state _ (Unit {0}, DoingFine, λ carried. DoingFine (onward carried), Unit {0}, WaitingFine)
 
 -- a word is valid, with its thread at most `threads`
 abbrev pub WordFine : ℕ → WordSeen → Type 0

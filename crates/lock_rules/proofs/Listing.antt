@@ -11,6 +11,7 @@ use Rattle.lock_word.specs.declared.meaning.WordSeen.the-variants.{Free, Anonym
 use Rattle.lock_rules.specs.declared.event.Event.{Event}
 use Rattle.lock_rules.specs.declared.event.Event.the-variants.{Begin, Step}
 use Rattle.lock_rules.specs.Events.{returned, woken}
+use Rattle.lock_rules.specs.Gate.{event-thread}
 use Rattle.lock_rules.proofs.Perform.{enter-queue-all}
 use Rattle.lock_rules.proofs.Tables.{ListTable, turn, fresh}
 
@@ -27,17 +28,13 @@ pub record Line : Type 0 where
   woken : ℕ
   word : ℕ
 
-abbrev actor-of : Event → ℕ
-actor-of (Begin number t o) = t
-actor-of (Step t) = t
-
 abbrev lines : ℕ → ℕ → ListTable → List Event → List Line
 lines threads objects table [] = []
 lines threads objects table (event ∷ rest) =
     let result = turn threads objects table event in
     record {
       returned = returned (result .reply);
-      phase = phase-of (result .table .threads (actor-of event) .state);
+      phase = phase-of (result .table .threads (event-thread event) .state);
       woken = woken (result .reply);
       word = bits 1 (result .table .objects 1 .word);
     } ∷ lines threads objects (result .table) rest
@@ -46,7 +43,7 @@ abbrev line : ℕ → ℕ → ℕ → Line
 line number phase word = record { returned = number; phase = phase; woken = 0; word = word }
 
 listing : lines 2 1 (fresh false)
-    (Begin 1 1 1 ∷ Step 1 ∷ Begin 1 2 1 ∷ Step 2 ∷ Step 2 ∷ Step 2 ∷ Step 2 ∷ Begin 2 1 1 ∷ Step 1 ∷ Step 1 ∷ Step 1 ∷ Step 1 ∷ Step 1 ∷ Step 2 ∷ Step 2 ∷ [])
+    (Begin 1 1 1 0 ∷ Step 1 ∷ Begin 1 2 1 0 ∷ Step 2 ∷ Step 2 ∷ Step 2 ∷ Step 2 ∷ Begin 2 1 1 0 ∷ Step 1 ∷ Step 1 ∷ Step 1 ∷ Step 1 ∷ Step 1 ∷ Step 2 ∷ Step 2 ∷ [])
     ≡ line 0 1 0 ∷ line 1 0 0x100 ∷ line 0 1 0x100 ∷ line 0 4 0x100 ∷ line 0 6 0x100 ∷ line 0 7 0x100 ∷ line 2 8 0x100 ∷ line 0 1 0x100 ∷ line 0 9 0
     ∷ line 0 4 0 ∷ line 0 10 0 ∷ line 0 11 0 ∷ line 1 0 0 ∷ line 0 7 0 ∷ line 1 0 0x101 ∷ []
 unfolding update count enter-queue-all asked-for decide enter-look exit-owned go-in go-in-again enter-check enter-try exit-test exit-tell exit-leave

@@ -17,7 +17,7 @@ use Rattle.lock_rules.specs.Actions.{let-go}
 use Rattle.lock_rules.specs.Rules.{owner-seen, enter-look, exit-owned, wait-owned, owner-only}
 use Rattle.lock_rules.proofs.Changes.{seen-after}
 use Rattle.lock_rules.specs.Operations.{Enter, Exit, Wait}
-use Rattle.lock_rules.specs.declared.{Doing.Doing, WordChange.WordChange}
+use Rattle.lock_rules.specs.declared.{Limit.Limit, Doing.Doing, WordChange.WordChange}
 use Rattle.lock_rules.specs.declared.Doing.the-variants.{EnterLook, EnterStore, EnterCancel, EnterGoIn, ExitLook, ExitStore, ExitTest}
 use Rattle.lock_rules.specs.declared.Doing.the-variants.{ExitLeave, WaitLook, WaitCancel, WaitGoIn, WaitGiveUp}
 use Rattle.lock_rules.specs.declared.ThreadState.the-variants.{Running}
@@ -28,11 +28,11 @@ use Rattle.lock_rules.specs.declared.Answer.the-variants.{GoneOn}
 use Rattle.lock_rules.specs.PlainMonitor.{unowned, owned-by, finished}
 use Rattle.lock_rules.proofs.Commits.{commit-enter, commit-enter-again, commit-exit-last, commit-exit}
 use Rattle.lock_rules.proofs.Objects.{with-word, with-depth, ListObject, empty, sight-of, object-owner, owned-depth}
-use Rattle.lock_rules.proofs.Invariant.{all-committed, nothing-saved, phase-row, Seated, ReliesOn, MonitorOk, FlagOk, Unstranded}
+use Rattle.lock_rules.proofs.Invariant.{any-limit, all-committed, nothing-saved, phase-row, Seated, ReliesOn, MonitorOk, FlagOk, Unstranded}
 use Rattle.lock_rules.proofs.OtherThreads.{Others, others-word, others-depth}
 use Rattle.lock_rules.proofs.SharedFacts.{keeps-taken, keeps-flat, keeps-freed, keeps-anonymous, keeps-deflated}
 use Rattle.lock_rules.proofs.SharedFacts.{unstranded-empty, fat-owned, reserved-owned, first-commit, none, same-monitor}
-use Rattle.lock_rules.proofs.Refinement.{plain-at, Actor, Stepping, Right, refine}
+use Rattle.lock_rules.proofs.Refinement.{limit-of, plain-at, Actor, Stepping, Right, refine}
 use Rattle.lock_rules.proofs.RuleShapes.{move-refines, go-on-refines, owner-only-refines, word-refines, depth-refines}
 
 -- What is shown of an exit's last commit: the thread owned the object at depth 1, and nobody owns it after.
@@ -44,6 +44,7 @@ record LetGoParts (actor : Actor) (o : ListObject) (change : WordChange) (new : 
   relies : ReliesOn (phase-row next .reliance) (actor .thread) (seen-after (actor .thread) change (o .word)) (o .flag) (o .holder)
   operation : phase-row next .operation ≡ Exit
   stage : phase-row next .stage ≡ all-committed
+  limit : phase-row next .limit ≡ any-limit
   saved : phase-row next .saved ≡ nothing-saved
   monitor : MonitorOk (seen-after (actor .thread) change (o .word)) (o .holder) new
   flag : FlagOk (seen-after (actor .thread) change (o .word)) (o .flag) (o .contention)
@@ -60,7 +61,7 @@ module _ (actor : Actor) where
       word-refines actor Enter (with-word it Free) (OwnFlat 0) step refl refl
       (record {
         keeps = λ t n. keeps-taken (actor .states t) (actor .thread) t (it .holder) n 0;
-        does = commit-enter (actor .thread) (plain-at actor (with-word it Free)) refl;
+        does = commit-enter (limit-of actor) (actor .thread) (plain-at actor (with-word it Free)) refl;
         monitor = (step .inv .whole .monitor, actor .real, omega arith);
         flag = step .inv .whole .flag;
         unstranded = tt;
@@ -70,33 +71,33 @@ module _ (actor : Actor) where
       word-refines actor Enter (with-word it Anonymous) (OwnReserved 1) step refl refl
       (record {
         keeps = λ t n. keeps-anonymous (actor .states t) (actor .thread) t (it .holder) n (Reserved (actor .thread) 1);
-        does = commit-enter (actor .thread) (plain-at actor (with-word it Anonymous)) refl;
+        does = commit-enter (limit-of actor) (actor .thread) (plain-at actor (with-word it Anonymous)) refl;
         monitor = (step .inv .whole .monitor, actor .real, omega arith);
         flag = step .inv .whole .flag;
         unstranded = tt;
         ended = (first-commit (step .self .logged .1), refl);
       })
-  enter-look-refines it Fat step = go-on-refines actor _ EnterLook EnterGoIn step (refl, refl, refl, refl) (λ k. k) tt
+  enter-look-refines it Fat step = go-on-refines actor _ EnterLook EnterGoIn step (refl, refl, refl, refl, refl) (λ k. k) tt
   enter-look-refines it (Flat owner c) step =
       by-equal (Right actor Enter (with-word it (Flat owner c))) owner (actor .thread)
       (λ q. by-below (Right actor Enter (with-word it (Flat owner c))) c count-limit
       (λ l. word-refines actor Enter (with-word it (Flat owner c)) (OwnFlat (c + 1)) step refl refl
       (record {
         keeps = λ t n. keeps-flat (actor .states t) (actor .thread) t (it .holder) n owner c (c + 1) q;
-        does = commit-enter-again (actor .thread) (plain-at actor (with-word it (Flat owner c))) (actor .real) q (omega (arith, l));
+        does = commit-enter-again (limit-of actor) (actor .thread) (plain-at actor (with-word it (Flat owner c))) (actor .real) q (omega (arith, l));
         monitor = (step .inv .whole .monitor .0, actor .real, omega (arith, l));
         flag = step .inv .whole .flag;
         unstranded = tt;
         ended = (first-commit (step .self .logged .1), refl);
       }))
-      (λ l. go-on-refines actor _ EnterLook EnterGoIn step (refl, refl, refl, refl) (λ k. k) tt))
-      (λ q. go-on-refines actor _ EnterLook EnterGoIn step (refl, refl, refl, refl) (λ k. k) tt)
+      (λ l. go-on-refines actor _ EnterLook EnterGoIn step (refl, refl, refl, refl, refl) (λ k. k) tt))
+      (λ q. go-on-refines actor _ EnterLook EnterGoIn step (refl, refl, refl, refl, refl) (λ k. k) tt)
   enter-look-refines it (Reserved owner c) step =
       by-equal (Right actor Enter (with-word it (Reserved owner c))) owner (actor .thread)
       (λ q. by-below (Right actor Enter (with-word it (Reserved owner c))) c count-limit
-      (λ l. go-on-refines actor _ EnterLook (EnterStore c) step (refl, refl, refl, refl) (λ k. k) ((q, refl), l))
-      (λ l. go-on-refines actor _ EnterLook EnterCancel step (refl, refl, refl, refl) (λ k. k) tt))
-      (λ q. go-on-refines actor _ EnterLook EnterCancel step (refl, refl, refl, refl) (λ k. k) tt)
+      (λ l. go-on-refines actor _ EnterLook (EnterStore c) step (refl, refl, refl, refl, refl) (λ k. k) ((q, refl), l))
+      (λ l. go-on-refines actor _ EnterLook EnterCancel step (refl, refl, refl, refl, refl) (λ k. k) tt))
+      (λ q. go-on-refines actor _ EnterLook EnterCancel step (refl, refl, refl, refl, refl) (λ k. k) tt)
 
   -- an exit's last commit: nobody owns the object after it
   let-go-refines : (o : ListObject) (change : WordChange) (new : ℕ) (next : Doing) → Stepping actor ExitLook o → LetGoParts actor o change new next
@@ -114,13 +115,13 @@ module _ (actor : Actor) where
         saved = actor .ghost .saved;
         nobody = step .inv .whole .nobody;
         stays = λ t e. e;
-        does = λ k. commit-exit-last (actor .thread) (plain-at actor o) (parts .owns) (parts .one);
+        does = λ k. commit-exit-last (limit-of actor) (actor .thread) (plain-at actor o) (parts .owns) (parts .one);
         others = parts .others;
         self = record {
           seated = parts .seated;
           placed = step .self .placed;
           relies = parts .relies;
-          logged = rw (parts .operation, parts .stage) (step .self .logged .0, (first-commit (step .self .logged .1), refl));
+          logged = rw (parts .operation, parts .stage, parts .limit) (step .self .logged .0, (first-commit (step .self .logged .1), refl), tt);
           saved = rw (parts .saved) tt;
           woken = rw (parts .saved) (step .self .woken);
         };
@@ -153,10 +154,10 @@ module _ (actor : Actor) where
   exit-owned-refines it Anonymous step q = absurd (actor .real (sym q))
   exit-owned-refines it Fat step q =
       by-below (Right actor Exit (with-word it Fat)) 1 (it .depth)
-      (λ more. depth-refines actor Exit it (it .depth - 1) step (inside .1)
+      (λ more. depth-refines actor Exit it (it .depth - 1) 0 step (inside .1)
       (record {
         woken = actor .ghost .woken;
-        does = commit-exit (actor .thread) (plain-at actor (with-word it Fat)) q (λ e. omega (arith, more, e));
+        does = commit-exit (limit-of actor) (actor .thread) (plain-at actor (with-word it Fat)) q (λ e. omega (arith, more, e));
         others = λ t n. refl;
         asleep = step .self .woken;
         above = omega (arith, more);
@@ -187,6 +188,7 @@ module _ (actor : Actor) where
             relies = tt;
             operation = refl;
             stage = refl;
+            limit = refl;
             saved = refl;
             monitor = refl;
             flag = λ k. step .inv .whole .flag .1;
@@ -205,6 +207,7 @@ module _ (actor : Actor) where
             relies = tt;
             operation = refl;
             stage = refl;
+            limit = refl;
             saved = refl;
             monitor = (omega arith, λ k. absurd (omega arith));
             flag = step .inv .whole .flag;
@@ -217,7 +220,7 @@ module _ (actor : Actor) where
       (λ e. word-refines actor Exit (with-word it (Flat owner c)) (OwnFlat (c - 1)) step refl refl
       (record {
         keeps = λ t n. keeps-flat (actor .states t) (actor .thread) t (it .holder) n owner c (c - 1) q;
-        does = commit-exit (actor .thread) (plain-at actor (with-word it (Flat owner c))) q (λ x. omega (arith, e, x)) ∙ ap finished
+        does = commit-exit (limit-of actor) (actor .thread) (plain-at actor (with-word it (Flat owner c))) q (λ x. omega (arith, e, x)) ∙ ap finished
             (same-monitor refl (omega (arith, e)));
         monitor = (
           step .inv .whole .monitor .0,
@@ -238,6 +241,7 @@ module _ (actor : Actor) where
         relies = tt;
         operation = refl;
         stage = refl;
+        limit = refl;
         saved = refl;
         monitor = step .inv .whole .monitor .0;
         flag = step .inv .whole .flag;
@@ -247,7 +251,7 @@ module _ (actor : Actor) where
       }))
   exit-owned-refines it (Reserved owner c) step q =
       let (l, own) = reserved-owned owner c (actor .thread) (actor .real) q in
-      go-on-refines actor _ ExitLook (ExitStore c) step (refl, refl, refl, refl) (λ k. k) ((own, refl), l)
+      go-on-refines actor _ ExitLook (ExitStore c) step (refl, refl, refl, refl, refl) (λ k. k) ((own, refl), l)
 
   pub exit-look-refines : (o : ListObject) → Stepping actor ExitLook o
       → Right actor Exit o (owner-only (actor .thread) (sight-of o) (owner-seen (sight-of o)) (exit-owned (sight-of o) (o .word)))
@@ -255,14 +259,14 @@ module _ (actor : Actor) where
       owner-only-refines actor Exit o ExitLook (exit-owned (sight-of o) (o .word)) tt step (λ k. k) (step .self .seated) (step .self .woken)
       (step .self .logged .1) (exit-owned-refines o (o .word) step)
 
-  wait-owned-refines : (it : ListObject) (word : WordSeen) → let o = with-word it word in
-      Stepping actor WaitLook o → object-owner o ≡ actor .thread → Right actor Wait o (wait-owned (sight-of o) word)
+  wait-owned-refines : (it : ListObject) (word : WordSeen) (limit : Limit) → let o = with-word it word in
+      Stepping actor (WaitLook limit) o → object-owner o ≡ actor .thread → Right actor Wait o (wait-owned (sight-of o) limit word)
   unfolding wait-owned
-  wait-owned-refines it Free step q = absurd (actor .real (sym q))
-  wait-owned-refines it Anonymous step q = absurd (actor .real (sym q))
-  wait-owned-refines it Fat step q =
+  wait-owned-refines it Free limit step q = absurd (actor .real (sym q))
+  wait-owned-refines it Anonymous limit step q = absurd (actor .real (sym q))
+  wait-owned-refines it Fat limit step q =
       let (l, held) = fat-owned (it .holder) (it .depth) (actor .thread) (actor .real) q in
-      move-refines actor Wait _ WaitLook WaitGiveUp step (λ k. k) (λ k. k)
+      move-refines actor Wait _ (WaitLook limit) (WaitGiveUp limit) step (λ k. k) (λ k. k)
       (record {
         seated = (held, l, actor .real);
         placed = step .self .placed;
@@ -271,11 +275,11 @@ module _ (actor : Actor) where
         saved = tt;
         woken = step .self .woken;
       })
-  wait-owned-refines it (Flat owner c) step q = go-on-refines actor _ WaitLook WaitGoIn step (refl, refl, refl, refl) (λ k. k) q
-  wait-owned-refines it (Reserved owner c) step q = go-on-refines actor _ WaitLook WaitCancel step (refl, refl, refl, refl) (λ k. k) tt
+  wait-owned-refines it (Flat owner c) limit step q = go-on-refines actor _ (WaitLook limit) (WaitGoIn limit) step (refl, refl, refl, refl, refl) (λ k. k) q
+  wait-owned-refines it (Reserved owner c) limit step q = go-on-refines actor _ (WaitLook limit) (WaitCancel limit) step (refl, refl, refl, refl, refl) (λ k. k) tt
 
-  pub wait-look-refines : (o : ListObject) → Stepping actor WaitLook o
-      → Right actor Wait o (owner-only (actor .thread) (sight-of o) (owner-seen (sight-of o)) (wait-owned (sight-of o) (o .word)))
-  wait-look-refines o step =
-      owner-only-refines actor Wait o WaitLook (wait-owned (sight-of o) (o .word)) tt step (λ k. k) (step .self .seated) (step .self .woken)
-      (step .self .logged .1) (wait-owned-refines o (o .word) step)
+  pub wait-look-refines : (o : ListObject) (limit : Limit) → Stepping actor (WaitLook limit) o
+      → Right actor Wait o (owner-only (actor .thread) (sight-of o) (owner-seen (sight-of o)) (wait-owned (sight-of o) limit (o .word)))
+  wait-look-refines o limit step =
+      owner-only-refines actor Wait o (WaitLook limit) (wait-owned (sight-of o) limit (o .word)) tt step (λ k. k) (step .self .seated) (step .self .woken)
+      (step .self .logged .1) (wait-owned-refines o (o .word) limit step)

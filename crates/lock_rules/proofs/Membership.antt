@@ -8,14 +8,14 @@ use Rattle.laws.specs.Count.{count}
 use Rattle.laws.proofs.Choice.{equal?, either-way}
 use Rattle.laws.proofs.Count.{count-none, count-same, count-other}
 use Rattle.chains.specs.declared.named.Chain.{Chain}
-use Rattle.lock_rules.proofs.{Changes.sent-back, Each.each-state, Invariant.Placed}
-use Rattle.lock_rules.specs.declared.{Suspension.Suspension, OnwardStep.OnwardStep, ThreadState.ThreadState, Taken.Taken, ChainWork.ChainWork}
+use Rattle.lock_rules.proofs.{Changes.moved, Changes.sent-back, Each.each-state, Invariant.Placed}
+use Rattle.lock_rules.specs.declared.{Suspension.Suspension, OnwardStep.OnwardStep, ThreadState.ThreadState, ChainWork.ChainWork}
 use Rattle.lock_rules.specs.declared.ThreadState.the-variants.{Queued, Contending, Waiting}
 use Rattle.lock_rules.specs.declared.Taken.the-variants.{First}
 use Rattle.lock_rules.specs.declared.ChainWork.the-variants.{Stay, Join, JoinAndHand, Hand, Move, SendBack}
 use Rattle.lock_rules.proofs.Objects.{ListObject, chain-of}
-use Rattle.lock_rules.proofs.Perform.{count-entered-all, count-join, taken, left, count-taken, first-of, changed-states, joined-object}
-use Rattle.lock_rules.proofs.Perform.{handed-object, handed-states, moved-object, moved-states, states-after, object-after}
+use Rattle.lock_rules.proofs.Perform.{count-entered-all, count-join, taken, count-taken, first-of, changed-states, joined-object}
+use Rattle.lock_rules.proofs.Perform.{Parting, taking, handed-object, handed-states, parted-object, states-after, object-after}
 use Rattle.lock_rules.proofs.Reliances.{is-queued, is-contending, is-waiting}
 
 abbrev pub Members : ℕ → (ℕ → ThreadState) → ListObject → Type 0
@@ -75,40 +75,38 @@ module _ (t : ℕ) (state : ThreadState) (o : ListObject) (p : PlacedAt t state 
   pub placed-left : count t (taken First (o .entry)) ≡ 0 → PlacedAt t state (handed-object o)
   placed-left out = record { entry = omega (arith, count-taken First (o .entry) t, out, p .entry); contention = p .contention; waiting = p .waiting }
 
-  placed-requeued : (which : Taken) → PlacedAt t state (moved-object Chain.Entry which o)
-  placed-requeued which =
+  placed-requeued : (part : Parting (o .entry)) → PlacedAt t state (parted-object Chain.Entry (part .gone) (part .kept) o)
+  placed-requeued part =
       record {
-        entry = omega (arith, count-entered-all t (left which (o .entry)) (taken which (o .entry)), count-taken which (o .entry) t, p .entry);
+        entry = omega (arith, count-entered-all t (part .kept) (part .gone), part .parted t, p .entry);
         contention = p .contention;
         waiting = p .waiting;
       }
 
-  pub placed-unmoved : (from : Chain) (which : Taken) → count t (taken which (chain-of from o)) ≡ 0 → PlacedAt t state (moved-object from which o)
-  placed-unmoved Chain.Entry which out = placed-requeued which
-  placed-unmoved Chain.Contention which out =
+  pub placed-unmoved : (from : Chain) (part : Parting (chain-of from o)) → count t (part .gone) ≡ 0
+      → PlacedAt t state (parted-object from (part .gone) (part .kept) o)
+  placed-unmoved Chain.Entry part out = placed-requeued part
+  placed-unmoved Chain.Contention part out =
       record {
-        entry = omega (arith, count-entered-all t (o .entry) (taken which (o .contention)), out, p .entry);
-        contention = omega (arith, count-taken which (o .contention) t, out, p .contention);
+        entry = omega (arith, count-entered-all t (o .entry) (part .gone), out, p .entry);
+        contention = omega (arith, part .parted t, out, p .contention);
         waiting = p .waiting;
       }
-  placed-unmoved Chain.Waiting which out =
+  placed-unmoved Chain.Waiting part out =
       record {
-        entry = omega (arith, count-entered-all t (o .entry) (taken which (o .waiting)), out, p .entry);
+        entry = omega (arith, count-entered-all t (o .entry) (part .gone), out, p .entry);
         contention = p .contention;
-        waiting = omega (arith, count-taken which (o .waiting) t, out, p .waiting);
+        waiting = omega (arith, part .parted t, out, p .waiting);
       }
 
-  -- one that is taken from a chain was in its state, and is not left in it
-  pub was-in : (from : Chain) (which : Taken) (k : ℕ) → count t (taken which (chain-of from o)) ≡ suc k
-      → ParkedIn from state × (k + count t (left which (chain-of from o)) ≡ 0)
-  was-in Chain.Entry which k e =
-      let (carried, v, c) = is-queued state (k + count t (left which (o .entry))) (omega (arith, p .entry, count-taken which (o .entry) t, e)) in
-      ((carried, v), c)
-  was-in Chain.Contention which k e =
-      is-contending state (k + count t (left which (o .contention))) (omega (arith, p .contention, count-taken which (o .contention) t, e))
-  was-in Chain.Waiting which k e =
-      let (suspension, v, c) = is-waiting state (k + count t (left which (o .waiting))) (omega (arith, p .waiting, count-taken which (o .waiting) t, e)) in
-      ((suspension, v), c)
+  -- one that goes from a chain was in its state, and is not left in it
+  pub was-in : (from : Chain) (part : Parting (chain-of from o)) (k : ℕ) → count t (part .gone) ≡ suc k
+      → ParkedIn from state × (k + count t (part .kept) ≡ 0)
+  was-in Chain.Entry part k e =
+      let (carried, v, c) = is-queued state (k + count t (part .kept)) (omega (arith, p .entry, part .parted t, e)) in ((carried, v), c)
+  was-in Chain.Contention part k e = is-contending state (k + count t (part .kept)) (omega (arith, p .contention, part .parted t, e))
+  was-in Chain.Waiting part k e =
+      let (suspension, v, c) = is-waiting state (k + count t (part .kept)) (omega (arith, p .waiting, part .parted t, e)) in ((suspension, v), c)
 
 module _ (thread : ℕ) (states : ℕ → ThreadState) (o : ListObject) (members : Members thread states o) where
   pub members-joined : (chain : Chain) → Members thread states (joined-object chain thread o)
@@ -120,34 +118,35 @@ module _ (thread : ℕ) (states : ℕ → ThreadState) (o : ListObject) (members
       at : (k : ℕ) → count t (taken First (o .entry)) ≡ k → PlacedAt t (states t) o → PlacedAt t (handed-states states o t) (handed-object o)
       at zero e p = rw e (placed-left t (states t) o p e)
       at (suc k) e p =
-          let ((carried, v), c) = was-in t (states t) o p Chain.Entry First k e in
+          let ((carried, v), c) = was-in t (states t) o p Chain.Entry (taking First (o .entry)) k e in
           let p′ : PlacedAt t (Queued carried) o = rw v at p in
           rw (e, v) (record { entry = omega (arith, c); contention = p′ .contention; waiting = p′ .waiting })
 
-  pub members-moved : (from : Chain) (which : Taken) → Members thread (moved-states from which states o) (moved-object from which o)
-  members-moved from which t n = at from (count t (taken which (chain-of from o))) refl (members t n)
+  pub members-moved : (from : Chain) (part : Parting (chain-of from o))
+      → Members thread (changed-states moved states (part .gone)) (parted-object from (part .gone) (part .kept) o)
+  members-moved from part t n = at from part (count t (part .gone)) refl (members t n)
     where
-      at : (from : Chain) (k : ℕ) → count t (taken which (chain-of from o)) ≡ k → PlacedAt t (states t) o
-          → PlacedAt t (moved-states from which states o t) (moved-object from which o)
-      at from zero e p = rw e (placed-unmoved t (states t) o p from which e)
-      at Chain.Entry (suc k) e p =
-          let ((carried, v), c) = was-in t (states t) o p Chain.Entry which k e in
-          rw (e, v) (placed-requeued t (Queued carried) o (rw v at p) which)
-      at Chain.Contention (suc k) e p =
-          let (v, c) = was-in t (states t) o p Chain.Contention which k e in
+      at : (from : Chain) (part : Parting (chain-of from o)) (k : ℕ) → count t (part .gone) ≡ k → PlacedAt t (states t) o
+          → PlacedAt t (changed-states moved states (part .gone) t) (parted-object from (part .gone) (part .kept) o)
+      at from part zero e p = rw e (placed-unmoved t (states t) o p from part e)
+      at Chain.Entry part (suc k) e p =
+          let ((carried, v), c) = was-in t (states t) o p Chain.Entry part k e in
+          rw (e, v) (placed-requeued t (Queued carried) o (rw v at p) part)
+      at Chain.Contention part (suc k) e p =
+          let (v, c) = was-in t (states t) o p Chain.Contention part k e in
           let p′ : PlacedAt t Contending o = rw v at p in
           rw (e, v)
           (record {
-            entry = omega (arith, count-entered-all t (o .entry) (taken which (o .contention)), p′ .entry, c, e);
+            entry = omega (arith, count-entered-all t (o .entry) (part .gone), p′ .entry, c, e);
             contention = omega (arith, c);
             waiting = p′ .waiting;
           })
-      at Chain.Waiting (suc k) e p =
-          let ((suspension, v), c) = was-in t (states t) o p Chain.Waiting which k e in
+      at Chain.Waiting part (suc k) e p =
+          let ((suspension, v), c) = was-in t (states t) o p Chain.Waiting part k e in
           let p′ : PlacedAt t (Waiting suspension) o = rw v at p in
           rw (e, v)
           (record {
-            entry = omega (arith, count-entered-all t (o .entry) (taken which (o .waiting)), p′ .entry, c, e);
+            entry = omega (arith, count-entered-all t (o .entry) (part .gone), p′ .entry, c, e);
             contention = p′ .contention;
             waiting = omega (arith, c);
           })
@@ -166,5 +165,5 @@ members-after (Join chain) thread states o members = members-joined thread state
 members-after (JoinAndHand chain) thread states o members =
     members-joined thread (handed-states states o) (handed-object o) (members-handed thread states o members) chain
 members-after Hand thread states o members = members-handed thread states o members
-members-after (Move from which) thread states o members = members-moved thread states o members from which
+members-after (Move from which) thread states o members = members-moved thread states o members from (taking which (chain-of from o))
 members-after (SendBack u) thread states o members = members-sent-back thread states o members u

@@ -1,6 +1,6 @@
 -- Phase 1, look: notify and notify all.
 use Prim.Native.Nat.{ℕ}
-use mathlib.Core.Path.{_≡_, refl, sym, ap, _∙_}
+use mathlib.Core.Path.{_≡_, refl, sym, _∙_}
 use mathlib.Core.Logic.{_≢_, _⊎_, inl, inr}
 use mathlib.Core.Bool.{Bool, true, false}
 use mathlib.Core.List.{List, [], _∷_}
@@ -15,7 +15,7 @@ use Rattle.laws.proofs.Count.{count-none, count-same, count-other}
 use Rattle.chains.specs.declared.named.Chain.{Chain}
 use Rattle.lock_rules.specs.Actions.{keep-object, finish}
 use Rattle.lock_rules.specs.Rules.{owner-seen, notify-owned, notify-all-owned, owner-only}
-use Rattle.lock_rules.proofs.{Changes.moved, Reliances.is-waiting, Membership.placed-unmoved}
+use Rattle.lock_rules.proofs.{Changes.moved, Membership.placed-unmoved}
 use Rattle.lock_rules.specs.Operations.{Operation, Notify, NotifyAll}
 use Rattle.lock_rules.specs.declared.{Doing.Doing, Taken.Taken}
 use Rattle.lock_rules.specs.declared.Doing.the-variants.{NotifyLook, NotifyAllLook}
@@ -29,43 +29,30 @@ use Rattle.lock_rules.specs.PlainMonitor.{above-zero, commit}
 use Rattle.lock_rules.specs.Feed.{log-after, EndsRight}
 use Rattle.lock_rules.proofs.Commits.{commit-notify, commit-notify-all, commit-notify-nobody, commit-notify-all-nobody}
 use Rattle.lock_rules.proofs.Objects.{ListObject, with-word, with-waiting, sight-of, object-owner}
-use Rattle.lock_rules.proofs.Perform.{taken, count-taken, moved-object, moved-states}
-use Rattle.lock_rules.proofs.Invariant.{outside, Seated, IsFat, ThreadOk, Invariant, monitor-of}
+use Rattle.lock_rules.proofs.Perform.{taking, taken, count-taken, moved-object, moved-states}
+use Rattle.lock_rules.proofs.Invariant.{outside, Seated, monitor-of}
 use Rattle.lock_rules.proofs.OtherThreads.{others-ghost, others-moved}
-use Rattle.lock_rules.proofs.SharedFacts.{fat-owned, first-commit, none, idle-changed}
-use Rattle.lock_rules.proofs.Refinement.{known, plain-at, Actor, Stepping, Right, refine}
+use Rattle.lock_rules.proofs.SharedFacts.{nobody-waits, fat-owned, first-commit, none, idle-changed}
+use Rattle.lock_rules.proofs.Refinement.{limit-of, known, plain-at, Actor, Stepping, Right, refine}
 use Rattle.lock_rules.proofs.RuleShapes.{ended-self, end-refines, owner-only-refines}
 
 module _ (actor : Actor) where
-  -- only a fat word has waiters
-  nobody-waits : (o : ListObject) → Invariant (actor .states) o (actor .ghost) → (IsFat (o .word) → ⊥) → o .waiting ≡ []
-  nobody-waits o inv thin = at (o .waiting) refl
-    where
-      at : (waiters : List ℕ) → o .waiting ≡ waiters → waiters ≡ []
-      at [] e = refl
-      at (first ∷ rest) e =
-          let (d, v, u) = is-waiting (actor .states first) (count first rest) (sym (inv .threads first .placed .waiting)
-          ∙ (ap (count first) e ∙ count-same first rest)) in
-          let b : ThreadOk first (Waiting d) o (actor .ghost .logs first) (actor .ghost .woken first) (actor .ghost .saved first) = rw
-          v at (inv .threads first) in
-          absurd (thin (b .relies))
-
   notify-nobody : (o : ListObject) → Stepping actor NotifyLook o → object-owner o ≡ actor .thread → o .waiting ≡ [] → Right actor Notify o (finish (sight-of o))
   notify-nobody o step q e =
       end-refines actor Notify o NotifyLook (Finished 0) step (λ k. k) (step .self .seated) (step .self .woken)
-      (commit-notify-nobody (actor .thread) (plain-at actor o) q e) (first-commit (step .self .logged .1), refl)
+      (commit-notify-nobody (limit-of actor) (actor .thread) (plain-at actor o) q e) (first-commit (step .self .logged .1), refl)
 
   notify-all-nobody : (o : ListObject) → Stepping actor NotifyAllLook o → object-owner o ≡ actor .thread → o .waiting ≡ []
       → Right actor NotifyAll o (finish (sight-of o))
   notify-all-nobody o step q e =
       end-refines actor NotifyAll o NotifyAllLook (Finished 0) step (λ k. k) (step .self .seated) (step .self .woken)
-      (commit-notify-all-nobody (actor .thread) (plain-at actor o) q e) (first-commit (step .self .logged .1), refl)
+      (commit-notify-all-nobody (limit-of actor) (actor .thread) (plain-at actor o) q e) (first-commit (step .self .logged .1), refl)
 
   -- waiters are woken, the first or all
   wake-refines : (operation : Operation) (doing : Doing) (which : Taken) (number : ℕ) (woken : ℕ → Bool) (it : ListObject) → let o = with-word it Fat in
       Stepping actor doing o → Seated outside (actor .thread) (it .holder) (it .depth) → actor .ghost .woken (actor .thread) ≡ false
       → object-owner o ≡ actor .thread → ((t : ℕ) → woken t ≡ either (above-zero (count t (taken which (it .waiting)))) (actor .ghost .woken t))
-      → commit operation (actor .thread) (plain-at actor o)
+      → commit operation (limit-of actor) (actor .thread) (plain-at actor o)
       ≡ record { monitor = monitor-of (moved-object Chain.Waiting which o) (known actor woken (actor .ghost .saved)); answer = Finished number }
       → EndsRight operation (Finished number) (log-after true (actor .ghost .logs (actor .thread)) (Finished number))
       → Right actor operation o (keep-object (sight-of o) (Move Chain.Waiting which) Idle (Finished number) true)
@@ -88,8 +75,8 @@ module _ (actor : Actor) where
         does = λ k. does;
         others = others-ghost (actor .thread) (moved-states Chain.Waiting which (actor .states) o) (moved-object Chain.Waiting which o) _ woken
             (actor .ghost .saved) (λ t n. wakes t) (λ t n. refl)
-            (others-moved (actor .thread) (actor .states) o (actor .ghost) Chain.Waiting which (λ t n. step .inv .threads t));
-        self = ended-self actor seated (placed-unmoved (actor .thread) Idle o (step .self .placed) Chain.Waiting which out)
+            (others-moved (actor .thread) (actor .states) o (actor .ghost) Chain.Waiting (taking which (it .waiting)) (λ t n. step .inv .threads t));
+        self = ended-self actor seated (placed-unmoved (actor .thread) Idle o (step .self .placed) Chain.Waiting (taking which (it .waiting)) out)
             (wakes (actor .thread) ∙ rw out asleep);
         monitor = step .inv .whole .monitor;
         empty = λ x. absurd (actor .real (sym (fat-owned (it .holder) (it .depth) (actor .thread) (actor .real) q .1) ∙ x));
@@ -114,7 +101,7 @@ module _ (actor : Actor) where
   notify-fat-refines it [] false e step q = absurd (e refl)
   notify-fat-refines it (first ∷ rest) false e step q =
       wake-refines Notify NotifyLook First 1 (update (actor .ghost .woken) first true) (with-waiting it (first ∷ rest)) step
-      (step .self .seated) (step .self .woken) q (woken-one first) (commit-notify (actor .thread)
+      (step .self .seated) (step .self .woken) q (woken-one first) (commit-notify (limit-of actor) (actor .thread)
       (plain-at actor (with-waiting (with-word it Fat) (first ∷ rest))) q) (first-commit (step .self .logged .1), refl)
 
   notify-owned-refines : (it : ListObject) (word : WordSeen) → let o = with-word it word in
@@ -123,8 +110,8 @@ module _ (actor : Actor) where
   notify-owned-refines it Free step q = absurd (actor .real (sym q))
   notify-owned-refines it Anonymous step q = absurd (actor .real (sym q))
   notify-owned-refines it Fat step q = notify-fat-refines it (it .waiting) (eqb (length (it .waiting)) 0) (equal (length (it .waiting)) 0) step q
-  notify-owned-refines it (Flat owner c) step q = notify-nobody _ step q (nobody-waits _ (step .inv) (λ k. k))
-  notify-owned-refines it (Reserved owner c) step q = notify-nobody _ step q (nobody-waits _ (step .inv) (λ k. k))
+  notify-owned-refines it (Flat owner c) step q = notify-nobody _ step q (nobody-waits _ _ _ (step .inv) (λ k. k))
+  notify-owned-refines it (Reserved owner c) step q = notify-nobody _ step q (nobody-waits _ _ _ (step .inv) (λ k. k))
 
   pub notify-look-refines : (o : ListObject) → Stepping actor NotifyLook o
       → Right actor Notify o (owner-only (actor .thread) (sight-of o) (owner-seen (sight-of o)) (notify-owned (sight-of o) (o .word)))
@@ -139,10 +126,10 @@ module _ (actor : Actor) where
   notify-all-owned-refines it Anonymous step q = absurd (actor .real (sym q))
   notify-all-owned-refines it Fat step q =
       wake-refines NotifyAll NotifyAllLook All (length (it .waiting)) (λ t. either (above-zero (count t (it .waiting))) (actor .ghost .woken t)) it step
-      (step .self .seated) (step .self .woken) q (λ t. refl) (commit-notify-all (actor .thread) (plain-at actor (with-word it Fat)) q)
+      (step .self .seated) (step .self .woken) q (λ t. refl) (commit-notify-all (limit-of actor) (actor .thread) (plain-at actor (with-word it Fat)) q)
       (first-commit (step .self .logged .1), refl)
-  notify-all-owned-refines it (Flat owner c) step q = notify-all-nobody _ step q (nobody-waits _ (step .inv) (λ k. k))
-  notify-all-owned-refines it (Reserved owner c) step q = notify-all-nobody _ step q (nobody-waits _ (step .inv) (λ k. k))
+  notify-all-owned-refines it (Flat owner c) step q = notify-all-nobody _ step q (nobody-waits _ _ _ (step .inv) (λ k. k))
+  notify-all-owned-refines it (Reserved owner c) step q = notify-all-nobody _ step q (nobody-waits _ _ _ (step .inv) (λ k. k))
 
   pub notify-all-look-refines : (o : ListObject) → Stepping actor NotifyAllLook o
       → Right actor NotifyAll o (owner-only (actor .thread) (sight-of o) (owner-seen (sight-of o)) (notify-all-owned (sight-of o) (o .word)))

@@ -12,14 +12,14 @@ use Rattle.laws.proofs.Count.{count-none, count-same, count-other}
 use Rattle.chains.specs.declared.named.Chain.{Chain}
 use Rattle.lock_rules.specs.{Rules.onward, PlainMonitor.above-zero, Feed.OperationLog}
 use Rattle.lock_rules.proofs.Each.{each-state, each-carried, each-chain}
-use Rattle.lock_rules.proofs.{Changes.sent-back, Perform.moved-states}
-use Rattle.lock_rules.specs.declared.{Suspension.Suspension, OnwardStep.OnwardStep, ThreadState.ThreadState, Taken.Taken}
+use Rattle.lock_rules.proofs.{Changes.moved, Changes.sent-back, Perform.moved-states}
+use Rattle.lock_rules.specs.declared.{Suspension.Suspension, OnwardStep.OnwardStep, ThreadState.ThreadState}
 use Rattle.lock_rules.specs.declared.ThreadState.the-variants.{Idle, Running, Queued, Contending, Waiting}
 use Rattle.lock_rules.specs.declared.Taken.the-variants.{First, All}
 use Rattle.lock_word.specs.declared.meaning.WordSeen.{WordSeen}
 use Rattle.lock_word.specs.declared.meaning.WordSeen.the-variants.{Fat, Reserved}
 use Rattle.lock_rules.proofs.Objects.{ListObject, chain-of, with-word, with-flag, with-holder, with-depth}
-use Rattle.lock_rules.proofs.Perform.{taken, first-of, changed-states, joined-object, handed-object, handed-states, moved-object}
+use Rattle.lock_rules.proofs.Perform.{Parting, taking, taken, first-of, changed-states, joined-object, handed-object, handed-states, parted-object, moved-object}
 use Rattle.lock_rules.proofs.Invariant.{seat, Seated, Placed, Unreserved, FlatOf, Relies, Ghost, ThreadOk}
 use Rattle.lock_rules.proofs.Reliances.{seated-depth, seated-handed, not-own-unreserved, KeepsReliance, relies-flag, relies-handed}
 use Rattle.lock_rules.proofs.Reliances.{relies-word, relies-inflated, relies-sent-back, sent-back-row}
@@ -57,7 +57,7 @@ handed-ok : (t : ℕ) (o : ListObject) (log : OperationLog) (woken : Bool) (susp
     → ThreadOk t (Queued carried) o log woken suspension → PlacedAt t (Running (onward carried)) (handed-object o)
     → ThreadOk t (Running (onward carried)) (handed-object o) log woken suspension
 handed-ok t o log woken suspension real first =
-    each-carried _ (λ a placed. search, λ a placed. search, λ a placed. search, λ saved a placed. search)
+    each-carried _ (λ a placed. search, λ a placed. search, λ limit a placed. search, λ saved a placed. search)
 
 -- moving from the waiting chain wakes
 abbrev wakes : Chain → Bool
@@ -119,34 +119,35 @@ module _ (thread : ℕ) (states : ℕ → ThreadState) (o : ListObject) (ghost :
           (seated-handed (seat (states t)) t (o .holder) (o .depth) (first-of (o .entry)) 0 was (not-taken (o .entry) t e) (a .seated)) placed
           (relies-handed t (o .word) (o .flag) (o .holder) (first-of (o .entry)) was (states t) (a .relies)))
       at (suc k) e a =
-          let ((carried, v), c) = was-in t (states t) o (a .placed) Chain.Entry First k e in
+          let ((carried, v), c) = was-in t (states t) o (a .placed) Chain.Entry (taking First (o .entry)) k e in
           let b : ThreadOk t (Queued carried) o (ghost .logs t) (ghost .woken t) (ghost .saved t) = rw v at a in
           rw (e, v) (handed-ok t o (ghost .logs t) (ghost .woken t) (ghost .saved t) (b .seated .1) (first-taken (o .entry) t k e) carried b)
 
   -- threads of a chain move to the entry chain; waiters are woken
-  pub others-moved : (from : Chain) (which : Taken) → Others thread states o ghost
-      → Others thread (moved-states from which states o) (moved-object from which o)
+  pub others-moved : (from : Chain) (part : Parting (chain-of from o)) → Others thread states o ghost
+      → Others thread (changed-states moved states (part .gone)) (parted-object from (part .gone) (part .kept) o)
       (record {
         logs = ghost .logs;
-        woken = λ t. either (both (wakes from) (above-zero (count t (taken which (chain-of from o))))) (ghost .woken t);
+        woken = λ t. either (both (wakes from) (above-zero (count t (part .gone)))) (ghost .woken t);
         saved = ghost .saved;
       })
-  others-moved from which others t n =
-      at from (count t (taken which (chain-of from o))) refl (others t n) (members-moved thread states o (places others) from which t n)
+  others-moved from part others t n =
+      at from part (count t (part .gone)) refl (others t n) (members-moved thread states o (places others) from part t n)
     where
-      at : (from : Chain) (k : ℕ) → count t (taken which (chain-of from o)) ≡ k → ThreadOk t (states t) o (ghost .logs t) (ghost .woken t) (ghost .saved t)
-          → PlacedAt t (moved-states from which states o t) (moved-object from which o)
-          → ThreadOk t (moved-states from which states o t) (moved-object from which o) (ghost .logs t)
-          (either (both (wakes from) (above-zero (count t (taken which (chain-of from o))))) (ghost .woken t)) (ghost .saved t)
-      at Chain.Entry zero e a = rw e (λ placed. beside a (a .seated) placed (a .relies))
-      at Chain.Contention zero e a = rw e (λ placed. beside a (a .seated) placed (a .relies))
-      at Chain.Waiting zero e a = rw e (λ placed. beside a (a .seated) placed (a .relies))
-      at Chain.Entry (suc k) e a =
-          let ((carried, v), c) = was-in t (states t) o (a .placed) Chain.Entry which k e in
+      at : (from : Chain) (part : Parting (chain-of from o)) (k : ℕ) → count t (part .gone) ≡ k
+          → ThreadOk t (states t) o (ghost .logs t) (ghost .woken t) (ghost .saved t)
+          → PlacedAt t (changed-states moved states (part .gone) t) (parted-object from (part .gone) (part .kept) o)
+          → ThreadOk t (changed-states moved states (part .gone) t) (parted-object from (part .gone) (part .kept) o) (ghost .logs t)
+          (either (both (wakes from) (above-zero (count t (part .gone)))) (ghost .woken t)) (ghost .saved t)
+      at Chain.Entry part zero e a = rw e (λ placed. beside a (a .seated) placed (a .relies))
+      at Chain.Contention part zero e a = rw e (λ placed. beside a (a .seated) placed (a .relies))
+      at Chain.Waiting part zero e a = rw e (λ placed. beside a (a .seated) placed (a .relies))
+      at Chain.Entry part (suc k) e a =
+          let ((carried, v), c) = was-in t (states t) o (a .placed) Chain.Entry part k e in
           let b : ThreadOk t (Queued carried) o (ghost .logs t) (ghost .woken t) (ghost .saved t) = rw v at a in
           rw (e, v) (λ placed. beside b (b .seated) placed (b .relies))
-      at Chain.Contention (suc k) e a =
-          let (v, c) = was-in t (states t) o (a .placed) Chain.Contention which k e in
+      at Chain.Contention part (suc k) e a =
+          let (v, c) = was-in t (states t) o (a .placed) Chain.Contention part k e in
           let b : ThreadOk t Contending o (ghost .logs t) (ghost .woken t) (ghost .saved t) = rw v at a in
           rw (e, v)
           (λ placed. record {
@@ -157,8 +158,8 @@ module _ (thread : ℕ) (states : ℕ → ThreadState) (o : ListObject) (ghost :
             saved = tt;
             woken = b .woken;
           })
-      at Chain.Waiting (suc k) e a =
-          let ((suspension, v), c) = was-in t (states t) o (a .placed) Chain.Waiting which k e in
+      at Chain.Waiting part (suc k) e a =
+          let ((suspension, v), c) = was-in t (states t) o (a .placed) Chain.Waiting part k e in
           let b : ThreadOk t (Waiting suspension) o (ghost .logs t) (ghost .woken t) (ghost .saved t) = rw v at a in
           rw (e, v) (λ placed. record { seated = b .seated; placed = placed; relies = b .relies; logged = b .logged; saved = b .saved; woken = refl })
 
@@ -167,7 +168,7 @@ module _ (thread : ℕ) (states : ℕ → ThreadState) (o : ListObject) (ghost :
       → Others thread (moved-states Chain.Contention All states o) (inflated o depth) ghost
   others-inflated depth h foreign u others t n =
       let state = moved-states Chain.Contention All states o t in
-      let a = others-moved Chain.Contention All others t n in
+      let a = others-moved Chain.Contention (taking All (o .contention)) others t n in
       beside a (seated-depth (seat state) thread t (o .holder) (o .depth) depth n h (a .seated)) (a .placed)
       (relies-inflated t (o .word) (o .flag) (o .holder) (λ q z. n (sym q ∙ h)) (foreign t n) u state (sym (a .placed .contention) ∙ count-none t)
       (a .relies))
@@ -180,16 +181,16 @@ sent-back-ok t c it word′ log woken suspension =
     each-state _ (
       λ a. beside a (a .seated) (a .placed) tt,
       λ doing a.
-          (let (same-operation, same-seat, same-stage, same-saved) = sent-back-row doing in
+          (let (same-operation, same-seat, same-stage, same-saved, same-limit) = sent-back-row doing in
           record {
             seated = rw same-seat (a .seated);
             placed = a .placed;
             relies = relies-sent-back t c word′ (it .flag) (it .holder) doing (a .relies);
-            logged = rw (same-operation, same-stage) (a .logged);
+            logged = rw (same-operation, same-stage, same-limit) (a .logged);
             saved = rw same-saved (a .saved);
             woken = rw same-saved (a .woken);
           }),
-      each-carried _ (λ a. absurd (a .relies), λ a. absurd (a .relies), λ a. absurd (a .relies), λ saved a. absurd (a .relies)),
+      each-carried _ (λ a. absurd (a .relies), λ a. absurd (a .relies), λ limit a. absurd (a .relies), λ saved a. absurd (a .relies)),
       λ a. absurd (a .relies),
       λ saved a. absurd (a .relies),
     )

@@ -61,6 +61,15 @@ count-taken First [] t = refl
 count-taken First (first ∷ rest) t = omega arith
 count-taken All list t = omega arith
 
+-- a list parted in two: each of its threads is among those that go, or among those that are kept
+pub record Parting (list : List ℕ) : Type 0 where
+  pub gone : List ℕ
+  pub kept : List ℕ
+  pub parted : (t : ℕ) → count t list ≡ count t gone + count t kept
+
+abbrev pub taking : Taken → (list : List ℕ) → Parting list
+taking which list = record { gone = taken which list; kept = left which list; parted = count-taken which list }
+
 abbrev pub first-of : List ℕ → ℕ
 first-of [] = 0
 first-of (first ∷ rest) = first
@@ -84,10 +93,11 @@ abbrev pub handed-states : (ℕ → ThreadState) → ListObject → ℕ → Thre
 handed-states states o = changed-states handed states (taken First (o .entry))
 
 -- threads of a chain move to the entry chain
+abbrev pub parted-object : Chain → List ℕ → List ℕ → ListObject → ListObject
+parted-object from gone kept o = let rest = with-chain from o kept in with-entry rest (enter-queue-all (rest .entry) gone)
+
 abbrev pub moved-object : Chain → Taken → ListObject → ListObject
-moved-object from which o =
-    let rest = with-chain from o (left which (chain-of from o)) in
-    with-entry rest (enter-queue-all (rest .entry) (taken which (chain-of from o)))
+moved-object from which o = parted-object from (taken which (chain-of from o)) (left which (chain-of from o)) o
 
 abbrev pub moved-states : Chain → Taken → (ℕ → ThreadState) → ListObject → ℕ → ThreadState
 moved-states from which states o = changed-states moved states (taken which (chain-of from o))

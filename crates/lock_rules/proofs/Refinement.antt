@@ -8,7 +8,7 @@ use lib.Dec.{T}
 use Rattle.laws.specs.{Choice.pick, Update.update}
 use Rattle.laws.proofs.Update.{update-other}
 use Rattle.lock_rules.specs.Operations.{Operation}
-use Rattle.lock_rules.specs.declared.{Suspension.Suspension, Doing.Doing, ThreadState.ThreadState, Answer.Answer, Action.Action}
+use Rattle.lock_rules.specs.declared.{Limit.Limit, Suspension.Suspension, Doing.Doing, ThreadState.ThreadState, Answer.Answer, Action.Action}
 use Rattle.lock_rules.specs.declared.ThreadState.the-variants.{Idle, Running}
 use Rattle.lock_rules.specs.declared.Answer.the-variants.{GoneOn}
 use Rattle.lock_rules.specs.PlainMonitor.{PlainMonitor, Committed, unowned, commit}
@@ -35,6 +35,10 @@ pub record Stepping (actor : Actor) (doing : Doing) (o : ListObject) : Type 0 wh
   pub running : actor .states (actor .thread) ≡ Running doing
   pub self : Self actor (Running doing) o
 
+-- the limit that the thread's begin gave
+abbrev pub limit-of : Actor → Limit
+limit-of actor = actor .ghost .logs (actor .thread) .limit
+
 -- the plain monitor that an object shows
 abbrev pub plain-at : Actor → ListObject → PlainMonitor
 plain-at actor o = monitor-of o (actor .ghost)
@@ -47,16 +51,16 @@ Right actor operation o action = Refines (actor .thread) operation (actor .state
 abbrev pub Alike : Doing → Doing → Type 0
 Alike doing next =
     (phase-row next .seat ≡ phase-row doing .seat) × (phase-row next .operation ≡ phase-row doing .operation) × (phase-row next .stage ≡ phase-row doing .stage)
-    × (phase-row next .saved ≡ phase-row doing .saved)
+    × (phase-row next .saved ≡ phase-row doing .saved) × (phase-row next .limit ≡ phase-row doing .limit)
 
 pub sits-alike : (actor : Actor) {doing : Doing} {o : ListObject} → Self actor (Running doing) o → (next : Doing) → Alike doing next
     → ReliesOn (phase-row next .reliance) (actor .thread) (o .word) (o .flag) (o .holder) → Self actor (Running next) o
-sits-alike actor a next (same-seat, same-operation, same-stage, same-saved) relies =
+sits-alike actor a next (same-seat, same-operation, same-stage, same-saved, same-limit) relies =
     record {
       seated = rw same-seat (a .seated);
       placed = a .placed;
       relies = relies;
-      logged = rw (same-operation, same-stage) (a .logged);
+      logged = rw (same-operation, same-stage, same-limit) (a .logged);
       saved = rw same-saved (a .saved);
       woken = rw same-saved (a .woken);
     }
@@ -83,7 +87,7 @@ pub record RuleParts (actor : Actor) (operation : Operation) (o : ListObject) : 
   pub saved : ℕ → Suspension
   pub nobody : actor .states 0 ≡ Idle
   pub stays : (t : ℕ) → actor .states t ≡ Idle → states t ≡ Idle
-  pub does : T commits → commit operation (actor .thread) (plain-at actor o) ≡ committed
+  pub does : T commits → commit operation (limit-of actor) (actor .thread) (plain-at actor o) ≡ committed
   pub others : Others (actor .thread) states after (known actor woken saved)
   pub self : ThreadOk (actor .thread) state after (log-after commits (actor .ghost .logs (actor .thread)) (committed .answer)) (woken (actor .thread))
       (saved (actor .thread))

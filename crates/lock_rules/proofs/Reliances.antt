@@ -94,7 +94,7 @@ module _ (t : ℕ) (word : WordSeen) (flag : Bool) (holder : ℕ) where
   relies-word (Running doing) word′ keeps a = relies-on-word (Running doing) word′ keeps (phase-row doing .reliance) a
   relies-word (Queued ToCheck) word′ keeps a = keeps .unreserved a
   relies-word (Queued ToTell) word′ keeps a = keeps .unreserved a
-  relies-word (Queued ToInflate) word′ keeps a = keeps .flat a
+  relies-word (Queued (ToInflate limit)) word′ keeps a = keeps .flat a
   relies-word (Queued (ToResume saved)) word′ keeps a = keeps .chained (omega arith) a
   relies-word Contending word′ keeps a = keeps .not-own a
   relies-word (Waiting saved) word′ keeps a = keeps .chained (omega arith) a
@@ -120,7 +120,7 @@ module _ (t : ℕ) (word : WordSeen) (flag : Bool) (holder : ℕ) where
       each-state _ (
         search,
         λ doing none. relies-on-inflated other foreign u (phase-row doing .reliance),
-        each-carried _ (search, search, λ none a. absurd (foreign a), search),
+        each-carried _ (search, search, λ limit none a. absurd (foreign a), search),
         λ none. absurd (omega (arith, none)),
         search,
       )
@@ -133,7 +133,7 @@ relies-sent-back t c word′ flag holder =
     each-doing _ (
       (search, search, search, λ a. absurd a, λ a. absurd a, λ a. absurd (a .0)),
       (search absurd),
-      (search, search, λ a. absurd a, λ a. absurd a, λ a. absurd (a .0), λ saved a. absurd (a .0)),
+      (search, search, λ limit a. absurd a, λ limit a. absurd a, λ limit a. absurd (a .0), λ saved a. absurd (a .0)),
       search,
       search,
     )
@@ -142,6 +142,7 @@ relies-sent-back t c word′ flag holder =
 pub sent-back-row : (doing : Doing)
     → (phase-row (look-again doing) .operation ≡ phase-row doing .operation) × (phase-row (look-again doing) .seat ≡ phase-row doing .seat)
     × (phase-row (look-again doing) .stage ≡ phase-row doing .stage) × (phase-row (look-again doing) .saved ≡ phase-row doing .saved)
+    × (phase-row (look-again doing) .limit ≡ phase-row doing .limit)
 sent-back-row = each-doing _ (search)
 
 -- who is in a chain

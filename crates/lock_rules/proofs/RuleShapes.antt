@@ -32,7 +32,7 @@ use Rattle.lock_rules.proofs.Invariant.{ReliesOn, ThreadOk, MonitorOk, 
 use Rattle.lock_rules.proofs.OtherThreads.{Others, inflated, others-word, others-depth, others-ghost, others-handed, others-inflated}
 use Rattle.lock_rules.proofs.SharedFacts.{unstranded-moved, monitor-handed, fat-owner, first-commit, idle-changed}
 use Rattle.lock_rules.proofs.SharedFacts.{first-queued, same-monitor}
-use Rattle.lock_rules.proofs.Refinement.{known, Actor, Self, Stepping, plain-at, Right, Alike, sits-alike, refine, quiet-refines}
+use Rattle.lock_rules.proofs.Refinement.{known, Actor, limit-of, Self, Stepping, plain-at, Right, Alike, sits-alike, refine, quiet-refines}
 
 -- the plain monitor, owned by the thread
 abbrev pub owned : Actor → ListObject → ℕ → (ℕ → Bool) → PlainMonitor
@@ -41,21 +41,21 @@ owned actor o depth woken = record { owner = actor .thread; depth = depth; waiti
 -- what is shown of a rule that changes the word and ends the operation
 pub record WordParts (actor : Actor) (operation : Operation) (o : ListObject) (change : WordChange) : Type 0 where
   pub keeps : (t : ℕ) → t ≢ actor .thread → KeepsReliance (actor .states t) t (o .word) (seen-after (actor .thread) change (o .word)) (o .holder)
-  pub does : commit operation (actor .thread) (plain-at actor o) ≡ finished (plain-at actor (with-word o (seen-after (actor .thread) change (o .word))))
+  pub does : commit operation (limit-of actor) (actor .thread) (plain-at actor o) ≡ finished (plain-at actor (with-word o (seen-after (actor .thread) change (o .word))))
   pub monitor : MonitorOk (seen-after (actor .thread) change (o .word)) (o .holder) (o .depth)
   pub flag : FlagOk (seen-after (actor .thread) change (o .word)) (o .flag) (o .contention)
   pub unstranded : Unstranded (seen-after (actor .thread) change (o .word)) (update (actor .states) (actor .thread) Idle) (o .holder) (o .entry) (o .contention)
   pub ended : EndsRight operation (Finished 0) (log-after true (actor .ghost .logs (actor .thread)) (Finished 0))
 
 -- what is shown of a rule that changes the depth and ends the operation; a wait that resumes is no longer woken
-pub record DepthParts (actor : Actor) (operation : Operation) (o : ListObject) (new : ℕ) : Type 0 where
+pub record DepthParts (actor : Actor) (operation : Operation) (o : ListObject) (new number : ℕ) : Type 0 where
   pub woken : ℕ → Bool
-  pub does : commit operation (actor .thread) (plain-at actor o) ≡ finished (owned actor o new woken)
+  pub does : commit operation (limit-of actor) (actor .thread) (plain-at actor o) ≡ record { monitor = owned actor o new woken; answer = Finished number }
   pub others : (t : ℕ) → t ≢ actor .thread → woken t ≡ actor .ghost .woken t
   pub asleep : woken (actor .thread) ≡ false
   pub above : 0 < new
   pub limit : new ≤ depth-limit
-  pub ended : EndsRight operation (Finished 0) (log-after true (actor .ghost .logs (actor .thread)) (Finished 0))
+  pub ended : EndsRight operation (Finished number) (log-after true (actor .ghost .logs (actor .thread)) (Finished number))
 
 -- what is shown of a rule that inflates: the word is no other thread's and not reserved
 pub record InflateParts (actor : Actor) (operation : Operation) (o : ListObject) (new : ℕ) : Type 0 where
@@ -67,7 +67,7 @@ pub record InflateParts (actor : Actor) (operation : Operation) (o : ListObject)
   pub open-word : Unreserved (o .word)
   pub above : 0 < new
   pub limit : new ≤ depth-limit
-  pub does : T commits → commit operation (actor .thread) (plain-at actor o) ≡ committed
+  pub does : T commits → commit operation (limit-of actor) (actor .thread) (plain-at actor o) ≡ committed
   pub self : InChains 0 0 0 (actor .thread) (enter-queue-all (o .entry) (o .contention)) [] (o .waiting)
       → ThreadOk (actor .thread) state (inflated o new) (log-after commits (actor .ghost .logs (actor .thread)) (committed .answer))
       (actor .ghost .woken (actor .thread)) (actor .ghost .saved (actor .thread))
@@ -88,7 +88,7 @@ pub record HandParts (actor : Actor) (operation : Operation) (o : ListObject) : 
   pub commits : Bool
   pub committed : Committed
   pub saved : ℕ → Suspension
-  pub does : T commits → commit operation (actor .thread) (plain-at actor o) ≡ committed
+  pub does : T commits → commit operation (limit-of actor) (actor .thread) (plain-at actor o) ≡ committed
   pub others : Others (actor .thread) (actor .states) (with-chains o contenders waiters) (known actor (actor .ghost .woken) saved)
   pub self : (next : ℕ) (rest : List ℕ) → Seated outside (actor .thread) next 0 → count (actor .thread) rest ≡ 0
       → ThreadOk (actor .thread) state (with-chains (handed-to o next rest) contenders waiters)
@@ -135,7 +135,7 @@ module _ (actor : Actor) where
   pub end-refines : (operation : Operation) (o : ListObject) (doing : Doing) (answer : Answer) → Stepping actor doing o
       → (T (telling? (phase-row doing .seat)) → ⊥)
       → Seated outside (actor .thread) (o .holder) (o .depth) → actor .ghost .woken (actor .thread) ≡ false
-      → commit operation (actor .thread) (plain-at actor o) ≡ unaltered (plain-at actor o) answer
+      → commit operation (limit-of actor) (actor .thread) (plain-at actor o) ≡ unaltered (plain-at actor o) answer
       → EndsRight operation answer (log-after true (actor .ghost .logs (actor .thread)) answer)
       → Right actor operation o (keep-object (sight-of o) Stay Idle answer true)
   end-refines operation o doing answer step quiet seated asleep does ended =
@@ -171,7 +171,7 @@ module _ (actor : Actor) where
       → Right actor operation o (owner-only (actor .thread) (sight-of o) (owner-seen (sight-of o)) action)
   owner-only-refines operation o doing action only step quiet seated asleep fresh owner =
       by-equal (Right actor operation o) (object-owner o) (actor .thread) owner
-      (λ other. end-refines operation o doing NotOwner step quiet seated asleep (commit-not-owner (actor .thread) (plain-at actor o) operation only asleep
+      (λ other. end-refines operation o doing NotOwner step quiet seated asleep (commit-not-owner (limit-of actor) (actor .thread) (plain-at actor o) operation only asleep
       other)
       (first-commit fresh, refl))
 
@@ -205,18 +205,19 @@ module _ (actor : Actor) where
       })
 
   -- the holder's depth changes to one above 0, and the operation ends
-  pub depth-refines : (operation : Operation) (it : ListObject) (new : ℕ) {doing : Doing} → let o = with-word it Fat in
-      Stepping actor doing o → it .holder ≡ actor .thread → DepthParts actor operation o new → Right actor operation o (finish-depth (sight-of o) new)
-  depth-refines operation it new step q parts =
+  pub depth-refines : (operation : Operation) (it : ListObject) (new number : ℕ) {doing : Doing} → let o = with-word it Fat in
+      Stepping actor doing o → it .holder ≡ actor .thread → DepthParts actor operation o new number
+      → Right actor operation o (finish-depth (sight-of o) new number)
+  depth-refines operation it new number step q parts =
       let o = with-word it Fat in
       refine actor operation o
       (record {
         after = with-depth o new;
         states = actor .states;
         state = Idle;
-        answer = Finished 0;
+        answer = Finished number;
         commits = true;
-        committed = finished (owned actor o new (parts .woken));
+        committed = record { monitor = owned actor o new (parts .woken); answer = Finished number };
         woken = parts .woken;
         saved = actor .ghost .saved;
         nobody = step .inv .whole .nobody;

@@ -14,13 +14,13 @@ use Rattle.laws.proofs.Update.{update-same, update-other}
 use Rattle.laws.proofs.Count.{count-same}
 use Rattle.lock_word.specs.Meaning.{owner-of}
 use Rattle.lock_rules.specs.declared.{Suspension.Suspension, ThreadState.ThreadState}
-use Rattle.lock_rules.specs.declared.ThreadState.the-variants.{Idle}
+use Rattle.lock_rules.specs.declared.ThreadState.the-variants.{Idle, Waiting}
 use Rattle.lock_word.specs.declared.meaning.WordSeen.{WordSeen}
 use Rattle.lock_word.specs.declared.meaning.WordSeen.the-variants.{Free, Anonymous, Fat, Flat, Reserved}
 use Rattle.lock_rules.specs.PlainMonitor.{PlainMonitor, above-zero}
-use Rattle.lock_rules.proofs.{Each.each-word, Objects.ListObject, Reliances.KeepsReliance}
+use Rattle.lock_rules.proofs.{Each.each-word, Objects.ListObject, Reliances.KeepsReliance, Reliances.is-waiting}
 use Rattle.lock_rules.proofs.Perform.{enter-queue, entered≢nil, changed-states}
-use Rattle.lock_rules.proofs.Invariant.{seat, telling?, leaving?, in-entry, in-waiting, Ghost}
+use Rattle.lock_rules.proofs.Invariant.{seat, telling?, leaving?, in-entry, in-waiting, Ghost, IsFat, ThreadOk}
 use Rattle.lock_rules.proofs.Invariant.{FlatOf, KeptWord, MonitorOk, FlagOk, Told, Unstranded, Invariant}
 
 -- what a new word owes to another thread t than the one that steps
@@ -155,6 +155,17 @@ module _ (states : ℕ → ThreadState) (o : ListObject) (ghost : Ghost) (inv : 
   first-queued first rest e =
       let c : in-entry (states first) ≡ suc (count first rest) = sym (inv .threads first .placed .entry) ∙ (ap (count first) e ∙ count-same first rest) in
       (λ q. (let b : in-entry (states 0) ≡ suc (count 0 rest) = rw q at c in absurd (omega (arith, rw (inv .whole .nobody) at b))), c)
+
+  -- only a fat word has waiters
+  pub nobody-waits : (IsFat (o .word) → ⊥) → o .waiting ≡ []
+  nobody-waits thin = at (o .waiting) refl
+    where
+      at : (waiters : List ℕ) → o .waiting ≡ waiters → waiters ≡ []
+      at [] e = refl
+      at (first ∷ rest) e =
+          let (saved, v, u) = is-waiting (states first) (count first rest) (sym (inv .threads first .placed .waiting) ∙ (ap (count first) e ∙ count-same first rest)) in
+          let b : ThreadOk first (Waiting saved) o (ghost .logs first) (ghost .woken first) (ghost .saved first) = rw v at (inv .threads first) in
+          absurd (thin (b .relies))
 
 -- two plain monitors with the same waiting, woken and saved
 pub same-monitor : {owner owner′ depth depth′ : ℕ} {waiting : List ℕ} {woken : ℕ → Bool} {saved : ℕ → Suspension} → owner ≡ owner′ → depth ≡ depth′

@@ -6,23 +6,24 @@ use mathlib.Core.List.{List, [], _∷_}
 use Rattle.laws.proofs.Choice.{false≢true}
 use Rattle.lock_rules.specs.{Numbers.asked-for, Gate.event-thread}
 use Rattle.lock_rules.specs.Operations.{Operation, Asked, Unknown, Known}
-use Rattle.lock_rules.specs.declared.{Doing.Doing, ThreadState.ThreadState}
+use Rattle.lock_rules.specs.declared.{Limit.Limit, Doing.Doing, ThreadState.ThreadState}
 use Rattle.lock_rules.specs.declared.ThreadState.the-variants.{Idle, Running, Queued, Contending, Waiting}
 use Rattle.lock_rules.specs.declared.event.Event.{Event}
-use Rattle.lock_rules.specs.declared.event.Event.the-variants.{Begin, Step}
+use Rattle.lock_rules.specs.declared.event.Event.the-variants.{Begin, Step, Tick}
 use Rattle.lock_rules.specs.declared.event.Gate.the-variants.{Open}
 use Rattle.lock_rules.proofs.Gate.{Passed, within-says, by-gate, gate-same}
 use Rattle.lock_rules.proofs.TableKinds.{TurnOf, Kind, status-of, status-idle, begin-asked, step-thread, through, turn-on, final-on, shown-on}
-use Rattle.lock_rules.proofs.Tables.{ListTable, begin-at, step-at, list-kind, turn, final, shown}
+use Rattle.lock_rules.proofs.Tables.{ListTable, begin-at, step-at, tick-all, list-kind, turn, final, shown}
 
 -- R relates a table of the kind to the table with lists that it stands for; W holds of every table with lists that matters
 pub record Simulates (kind : Kind) (threads objects : ℕ) (R : kind .Table → ListTable → Type 0) (W : ListTable → Type 0) : Type 0 where
   pub state : (x : kind .Table) (table : ListTable) → R x table → W table → (t : ℕ) → 1 ≤ t → t ≤ threads → kind .state x t ≡ table .threads t .state
-  pub begins : (x : kind .Table) (table : ListTable) → R x table → W table → (operation : Operation) (t o : ℕ) → 1 ≤ t → t ≤ threads → 1 ≤ o → o ≤ objects
-      → table .threads t .state ≡ Idle → R (kind .begins x operation t o) (begin-at table operation t o)
+  pub begins : (x : kind .Table) (table : ListTable) → R x table → W table → (operation : Operation) (limit : Limit) (t o : ℕ) → 1 ≤ t → t ≤ threads
+      → 1 ≤ o → o ≤ objects → table .threads t .state ≡ Idle → R (kind .begins x operation limit t o) (begin-at table operation limit t o)
   pub steps : (x : kind .Table) (table : ListTable) → R x table → W table → (t : ℕ) (doing : Doing) → 1 ≤ t → t ≤ threads
       → table .threads t .state ≡ Running doing
       → R (kind .steps x t doing .table) (step-at table t doing .table) × (kind .steps x t doing .reply ≡ step-at table t doing .reply)
+  pub ticks : (x : kind .Table) (table : ListTable) → R x table → W table → R (kind .ticks x) (tick-all table)
   pub keeps : (table : ListTable) (event : Event) → W table → W (turn threads objects table event .table)
 
 module _ (kind : Kind) (threads objects : ℕ) (R : kind .Table → ListTable → Type 0) (W : ListTable → Type 0) (simulates : Simulates kind threads objects R W)
@@ -42,7 +43,8 @@ module _ (kind : Kind) (threads objects : ℕ) (R : kind .Table → ListTable �
         known : (thread object : ℕ) (asked : Asked) → 1 ≤ thread → thread ≤ threads → 1 ≤ object → object ≤ objects → table .threads thread .state ≡ Idle
             → SameTurn (begin-asked kind x asked thread object) (begin-asked list-kind table asked thread object)
         known thread object Unknown low high real small idle = (r, refl)
-        known thread object (Known operation) low high real small idle = (simulates .begins x table r w operation thread object low high real small idle, refl)
+        known thread object (Known operation limit) low high real small idle =
+            (simulates .begins x table r w operation limit thread object low high real small idle, refl)
 
         running : (thread : ℕ) (state : ThreadState) → table .threads thread .state ≡ state → 1 ≤ thread → thread ≤ threads
             → SameTurn (step-thread kind x thread state) (step-thread list-kind table thread state)
@@ -54,10 +56,11 @@ module _ (kind : Kind) (threads objects : ℕ) (R : kind .Table → ListTable �
 
         at : (event : Event) → Passed threads objects event (status-of (table .threads (event-thread event) .state))
             → SameTurn (through kind Open x event) (through list-kind Open table event)
-        at (Begin number thread object) (low, high, operation, real, small, idle) =
-            known thread object (asked-for number) low high real small (status-idle (table .threads thread .state) idle)
+        at (Begin number thread object limit) (low, high, operation, real, small, idle, fits) =
+            known thread object (asked-for number limit) low high real small (status-idle (table .threads thread .state) idle)
         at (Step thread) (low, high, ready) =
             rw (simulates .state x table r w thread low high) (running thread (table .threads thread .state) refl low high)
+        at Tick passed = (simulates .ticks x table r w, refl)
 
     -- over a whole schedule it goes on simulates for it, and the same is shown
     pub simulated-run : (events : List Event) (x : kind .Table) (table : ListTable) → R x table → W table

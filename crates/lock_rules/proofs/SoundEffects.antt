@@ -195,20 +195,20 @@ module _ (threads thread : ℕ) (sight : Sight) (real : thread ≢ 0) (deep : si
   decide-fine ExitTest fine = λ word. search (either-fine, inl)
   decide-fine ExitTell fine = λ word. by-held _ (λ held. search (either-fine, inl))
   decide-fine ExitLeave fine = λ word. by-held _ (λ held. search (either-fine, inl))
-  decide-fine WaitLook fine = by-owned (wait-owned sight) (search inl)
-  decide-fine WaitCancel fine = by-word (cancel sight WaitLook) (search inl)
-  decide-fine WaitGoIn fine = λ word. go-in-fine ToInflate tt
-  decide-fine WaitInflate fine = λ word. by-held _ (λ held.
-      by-word (wait-inflate thread sight) (
+  decide-fine (WaitLook limit) fine = by-owned (wait-owned sight limit) (search inl)
+  decide-fine (WaitCancel limit) fine = by-word (cancel sight (WaitLook limit)) (search inl)
+  decide-fine (WaitGoIn limit) fine = λ word. go-in-fine (ToInflate limit) fine
+  decide-fine (WaitInflate limit) fine = λ word. by-held _ (λ held.
+      by-word (wait-inflate thread sight limit) (
         search,
         search,
         search,
         λ owner c w. either-fine (eqb owner thread) _ _
-            (inflate-fine (c + 1) (Running WaitGiveUp) GoneOn false (omega (arith, w .2)) held tt (refl, refl, refl)) tt,
+            (inflate-fine (c + 1) (Running (WaitGiveUp limit)) GoneOn false (omega (arith, w .2)) held fine (refl, refl, refl)) tt,
         search,
       ) word)
-  decide-fine WaitGiveUp fine = λ word. by-held _ (λ held.
-      by-word (wait-give-up sight)
+  decide-fine (WaitGiveUp limit) fine = λ word. by-held _ (λ held.
+      by-word (wait-give-up sight limit)
       (search, search, λ w. equal-fine (sight .depth) 0 _ _ (λ e. tt) (λ e. (let above : 1 ≤ sight .depth = omega (arith, e) in search inl)), search, search) word)
   decide-fine (WaitResume suspension) fine = λ word. by-held _ (λ held.
       by-word (wait-resume sight suspension)

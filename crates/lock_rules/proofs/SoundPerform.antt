@@ -13,7 +13,8 @@ use Rattle.laws.proofs.Count.{count-none, count-same}
 use Rattle.chains.specs.declared.named.Chain.{Chain}
 use Rattle.lock_word.specs.Depth.{depth-limit}
 use Rattle.lock_rules.proofs.Changes.{seen-after, handed, moved, look-again, sent-back}
-use Rattle.lock_rules.specs.declared.{Doing.Doing, ThreadState.ThreadState, WordChange.WordChange, Taken.Taken, ChainWork.ChainWork}
+use Rattle.lock_rules.specs.declared.Limit.the-variants.{Unlimited, Ticks}
+use Rattle.lock_rules.specs.declared.{Limit.Limit, Doing.Doing, ThreadState.ThreadState, WordChange.WordChange, Taken.Taken, ChainWork.ChainWork}
 use Rattle.lock_rules.specs.declared.{Action.Action}
 use Rattle.lock_rules.specs.declared.ThreadState.the-variants.{Idle, Running}
 use Rattle.lock_word.specs.declared.meaning.WordSeen.{WordSeen}
@@ -25,12 +26,12 @@ use Rattle.lock_rules.specs.declared.Action.the-variants.{Unruled, Do}
 use Rattle.lock_rules.specs.PlainMonitor.{above-zero}
 use Rattle.lock_rules.proofs.Each.{each-doing, each-state, each-chain}
 use Rattle.lock_rules.proofs.Objects.{ListObject, chain-of, empty}
-use Rattle.lock_rules.proofs.Perform.{count-join, taken, left, count-taken, first-of, changed-states, joined-object, handed-object}
+use Rattle.lock_rules.proofs.Perform.{count-join, taking, taken, left, count-taken, first-of, changed-states, joined-object, handed-object}
 use Rattle.lock_rules.proofs.Perform.{moved-object, states-after, object-after, effected, perform}
 use Rattle.lock_rules.proofs.Invariant.{InChains, Placed}
 use Rattle.lock_rules.proofs.Membership.{PlacedAt, placed-left, placed-unmoved, members-after}
 use Rattle.lock_rules.proofs.SharedFacts.{idle-changed}
-use Rattle.lock_rules.proofs.ListSound.{DoingFine, StateFine, WordFine, SoundObject}
+use Rattle.lock_rules.proofs.ListSound.{LimitFine, LeftFine, DoingFine, StateFine, WordFine, SoundObject}
 use Rattle.lock_rules.proofs.SoundEffects.{InNone, Joins, EntryHeld, ChangeFine, ActionFine, either-way}
 
 -- the word after the step
@@ -58,17 +59,21 @@ look-again-fine = each-doing _ (search)
 sent-back-fine : (state : ThreadState) → StateFine state → StateFine (sent-back state)
 sent-back-fine = each-state _ (search look-again-fine)
 
-handed-fine : (state : ThreadState) → StateFine state → StateFine (handed state)
+pub handed-fine : (state : ThreadState) → StateFine state → StateFine (handed state)
 handed-fine = each-state _ (search)
 
+left-fine : (limit : Limit) → LimitFine limit → LeftFine limit
+left-fine Unlimited fine = tt
+left-fine (Ticks left) fine = fine .1
+
 moved-fine : (state : ThreadState) → StateFine state → StateFine (moved state)
-moved-fine = each-state _ (search)
+moved-fine = each-state _ (search, search, search, search, λ saved fine. (fine .0, fine .1, left-fine (saved .limit) (fine .2)))
 
 module _ (states : ℕ → ThreadState) (fine : (t : ℕ) → StateFine (states t)) where
   update-fine : (u : ℕ) (state : ThreadState) → StateFine state → (t : ℕ) → StateFine (update states u state t)
   update-fine u state f t = by-case (equal? t u) (λ q. rw (q, update-same states u state) f) (λ n. rw (update-other states u state t n) (fine t))
 
-  changed-fine : (change : ThreadState → ThreadState) → ((state : ThreadState) → StateFine state → StateFine (change state)) → (list : List ℕ) (t : ℕ)
+  pub changed-fine : (change : ThreadState → ThreadState) → ((state : ThreadState) → StateFine state → StateFine (change state)) → (list : List ℕ) (t : ℕ)
       → StateFine (changed-states change states list t)
   changed-fine change kept list t = either-way StateFine (above-zero (count t list)) (kept (states t) (fine t)) (fine t)
 
@@ -131,7 +136,7 @@ module _ (thread : ℕ) where
       own-joined chain (handed-object o) state (placed-left thread Idle o p (untaken (o .entry) First (p .entry))) joins
   own-after Hand o state p joins = placed-left thread state o (own-out o state p joins) (untaken (o .entry) First (p .entry))
   own-after (Move from which) o state p joins =
-      placed-unmoved thread state o (own-out o state p joins) from which (untaken (chain-of from o) which (at from))
+      placed-unmoved thread state o (own-out o state p joins) from (taking which (chain-of from o)) (untaken (chain-of from o) which (at from))
     where
       at : (from : Chain) → count thread (chain-of from o) ≡ 0
       at Chain.Entry = p .entry
@@ -144,7 +149,7 @@ module _ (threads : ℕ) where
   abbrev WholeFine : ListObject → Type 0
   WholeFine o = WordFine threads (o .word) × (o .holder ≤ threads) × (o .depth ≤ depth-limit) × (o .holder ≡ 0 → o .depth ≡ 0) × (o .holder ≡ 0 → o .entry ≡ [])
 
-  whole-handed : (o : ListObject) → ((t : ℕ) → 0 < count t (o .entry) → (0 < t) × (t ≤ threads)) → WordFine threads (o .word) → WholeFine (handed-object o)
+  pub whole-handed : (o : ListObject) → ((t : ℕ) → 0 < count t (o .entry) → (0 < t) × (t ≤ threads)) → WordFine threads (o .word) → WholeFine (handed-object o)
   whole-handed o members word = let (low, alone) = at (o .entry) members in (word, low, omega arith, λ e. refl, alone)
     where
       at : (queue : List ℕ) → ((t : ℕ) → 0 < count t queue → (0 < t) × (t ≤ threads)) → (first-of queue ≤ threads) × (first-of queue ≡ 0 → left First queue ≡ [])

@@ -26,7 +26,7 @@ use Rattle.lock_rules.proofs.Invariant.{anything, phase-row, leaving?, 
 use Rattle.lock_rules.proofs.OtherThreads.{beside, others-word, others-cancelled}
 use Rattle.lock_rules.proofs.SharedFacts.{keeps-anonymous, keeps-reserved, unstranded-empty, reserved-owner}
 use Rattle.lock_rules.proofs.SharedFacts.{reserved-unowned, first-commit, idle-changed, same-monitor}
-use Rattle.lock_rules.proofs.Refinement.{plain-at, Actor, Stepping, Right, Alike, sits-alike, nothing-committed, refine, quiet-refines}
+use Rattle.lock_rules.proofs.Refinement.{limit-of, plain-at, Actor, Stepping, Right, Alike, sits-alike, nothing-committed, refine, quiet-refines}
 use Rattle.lock_rules.proofs.RuleShapes.{go-on-refines, word-refines}
 
 module _ (actor : Actor) where
@@ -61,10 +61,10 @@ module _ (actor : Actor) where
       first : Bool → Committed
       first b = finished (owned-by (plain-at actor (with-word it (Reserved owner d))) (actor .thread) (pick b 1 (d + 1)))
 
-      does : (b : Bool) → Equal b d 0 → commit Enter (actor .thread) (plain-at actor (with-word it (Reserved owner d))) ≡ first b
-      does true e = commit-enter (actor .thread) (plain-at actor (with-word it (Reserved owner d))) (reserved-unowned owner d (it .holder) (it .depth) e)
+      does : (b : Bool) → Equal b d 0 → commit Enter (limit-of actor) (actor .thread) (plain-at actor (with-word it (Reserved owner d))) ≡ first b
+      does true e = commit-enter (limit-of actor) (actor .thread) (plain-at actor (with-word it (Reserved owner d))) (reserved-unowned owner d (it .holder) (it .depth) e)
       does false e =
-          commit-enter-again (actor .thread) (plain-at actor (with-word it (Reserved owner d))) (actor .real)
+          commit-enter-again (limit-of actor) (actor .thread) (plain-at actor (with-word it (Reserved owner d))) (actor .real)
           (reserved-owner owner d (it .holder) (it .depth) (omega (arith, e)) ∙ own) (omega (arith, step .inv .whole .monitor .2))
 
       deep : (b : Bool) → Equal b d 0 → pick b 1 (d + 1) ≡ c + 1
@@ -108,9 +108,9 @@ module _ (actor : Actor) where
           let m = plain-at actor (with-word it (Reserved owner d)) in
           pick b (owned-by m 0 0) (owned-by m (actor .thread) (d - 1))
 
-      does : (b : Bool) → Equal b d 1 → commit Exit (actor .thread) (plain-at actor (with-word it (Reserved owner d))) ≡ finished (after b)
-      does true e = commit-exit-last (actor .thread) (plain-at actor (with-word it (Reserved owner d))) owns e
-      does false e = commit-exit (actor .thread) (plain-at actor (with-word it (Reserved owner d))) owns e
+      does : (b : Bool) → Equal b d 1 → commit Exit (limit-of actor) (actor .thread) (plain-at actor (with-word it (Reserved owner d))) ≡ finished (after b)
+      does true e = commit-exit-last (limit-of actor) (actor .thread) (plain-at actor (with-word it (Reserved owner d))) owns e
+      does false e = commit-exit (limit-of actor) (actor .thread) (plain-at actor (with-word it (Reserved owner d))) owns e
 
       shows : (b : Bool) → Equal b d 1 → after b ≡ plain-at actor (with-word it (Reserved (actor .thread) (c - 1)))
       shows true e = same-monitor (sym (reserved-unowned (actor .thread) (c - 1) (it .holder) (it .depth) (omega (arith, e, kept)))) (omega (arith, e, kept))

@@ -9,7 +9,7 @@ use borrow.Author.Tests.{eq-eqb, ne-eqb}
 use Rattle.laws.specs.{Choice.pick, Update.update}
 use Rattle.lock_rules.specs.Rules.{decide, begun}
 use Rattle.lock_rules.specs.Operations.{Operation}
-use Rattle.lock_rules.specs.declared.{Doing.Doing, ThreadState.ThreadState}
+use Rattle.lock_rules.specs.declared.{Limit.Limit, Doing.Doing, ThreadState.ThreadState}
 use Rattle.lock_rules.specs.declared.ThreadState.the-variants.{Idle, Running}
 use Rattle.lock_word.specs.declared.meaning.WordSeen.{WordSeen}
 use Rattle.lock_word.specs.declared.meaning.WordSeen.the-variants.{Free, Anonymous}
@@ -17,6 +17,7 @@ use Rattle.lock_rules.specs.declared.event.Event.{Event}
 use Rattle.lock_rules.specs.Events.{Answered, Shown}
 use Rattle.lock_rules.proofs.Objects.{ListObject, object-of, sight-of}
 use Rattle.lock_rules.proofs.Perform.{Performed, perform}
+use Rattle.lock_rules.proofs.Tick.{Ticked, tick-at}
 use Rattle.lock_rules.proofs.TableKinds.{TurnOf, Kind, turn-on, final-on, shown-on}
 
 -- a thread's object and state; the object of an idle thread is its last one
@@ -49,15 +50,37 @@ put-back table o performed =
 abbrev pub perform-at : ListTable → ℕ → ℕ → Doing → Performed
 perform-at table o thread doing = perform thread (states-at table o) (table .objects o) (decide thread (sight-of (table .objects o)) doing)
 
-abbrev pub begin-at : ListTable → Operation → ℕ → ℕ → ListTable
-begin-at table operation thread o =
-    record { threads = update (table .threads) thread (record { object = o; state = Running (begun operation) }); objects = table .objects }
+abbrev pub begin-at : ListTable → Operation → Limit → ℕ → ℕ → ListTable
+begin-at table operation limit thread o =
+    record { threads = update (table .threads) thread (record { object = o; state = Running (begun operation limit) }); objects = table .objects }
 
 abbrev pub step-at : ListTable → ℕ → Doing → TurnOf ListTable
 step-at table thread doing = put-back table (table .threads thread .object) (perform-at table (table .threads thread .object) thread doing)
 
+-- a tick at one object, at those that pass a test, at all
+abbrev pub ticked-at : ListTable → ℕ → Ticked
+ticked-at table o = tick-at (states-at table o) (table .objects o)
+
+abbrev pub tick-where : (ℕ → Bool) → ListTable → ListTable
+tick-where which table =
+    record {
+      threads = λ t. let home = table .threads t .object in
+          record { object = home; state = pick (which home) (ticked-at table home .states t) (table .threads t .state) };
+      objects = λ o. pick (which o) (ticked-at table o .object) (table .objects o);
+    }
+
+abbrev pub tick-all : ListTable → ListTable
+tick-all = tick-where (λ o. true)
+
 abbrev pub list-kind : Kind
-list-kind = record { Table = ListTable; state = λ table thread. table .threads thread .state; begins = begin-at; steps = step-at }
+list-kind =
+    record {
+      Table = ListTable;
+      state = λ table thread. table .threads thread .state;
+      begins = begin-at;
+      steps = step-at;
+      ticks = tick-all;
+    }
 
 abbrev pub turn : ℕ → ℕ → ListTable → Event → TurnOf ListTable
 turn = turn-on list-kind

@@ -10,32 +10,33 @@ use Rattle.laws.proofs.Update.{update-same, update-other}
 use Rattle.chains.specs.declared.named.Chain.{Chain}
 use Rattle.lock_rules.specs.Rules.{wait-inflate, wait-give-up, wait-resume}
 use Rattle.lock_rules.specs.Operations.{Wait}
-use Rattle.lock_rules.specs.declared.Suspension.{Suspension}
+use Rattle.lock_rules.specs.Limits.{run-out}
+use Rattle.lock_rules.specs.declared.{Limit.Limit, Suspension.Suspension}
 use Rattle.lock_rules.specs.declared.Doing.the-variants.{WaitInflate, WaitGiveUp, WaitResume}
 use Rattle.lock_rules.specs.declared.ThreadState.the-variants.{Running, Waiting}
 use Rattle.lock_word.specs.declared.meaning.WordSeen.{WordSeen}
 use Rattle.lock_word.specs.declared.meaning.WordSeen.the-variants.{Free, Anonymous, Fat, Flat, Reserved}
-use Rattle.lock_rules.specs.declared.Answer.the-variants.{GoneOn, Parked}
-use Rattle.lock_rules.specs.PlainMonitor.{finished, give-up}
+use Rattle.lock_rules.specs.declared.Answer.the-variants.{GoneOn, Finished, Parked}
+use Rattle.lock_rules.specs.PlainMonitor.{give-up}
 use Rattle.lock_rules.proofs.Commits.{commit-give-up, commit-resume}
 use Rattle.lock_rules.proofs.Objects.{ListObject, with-word, with-waiting, sight-of}
 use Rattle.lock_rules.proofs.OtherThreads.{others-joined, others-ghost}
 use Rattle.lock_rules.proofs.SharedFacts.{fat-owner, fat-unowned, first-commit, second-commit, same-monitor}
-use Rattle.lock_rules.proofs.Refinement.{plain-at, Actor, Stepping, Right, nothing-committed}
-use Rattle.lock_rules.proofs.RuleShapes.{depth-refines, hand-refines, inflate-refines}
+use Rattle.lock_rules.proofs.Refinement.{limit-of, plain-at, Actor, Stepping, Right, nothing-committed}
+use Rattle.lock_rules.proofs.RuleShapes.{owned, depth-refines, hand-refines, inflate-refines}
 
 module _ (actor : Actor) where
-  pub wait-inflate-refines : (it : ListObject) (word : WordSeen) → let o = with-word it word in
-      Stepping actor WaitInflate o → Right actor Wait o (wait-inflate (actor .thread) (sight-of o) word)
+  pub wait-inflate-refines : (it : ListObject) (word : WordSeen) (limit : Limit) → let o = with-word it word in
+      Stepping actor (WaitInflate limit) o → Right actor Wait o (wait-inflate (actor .thread) (sight-of o) limit word)
   unfolding wait-inflate
-  wait-inflate-refines it Free step = absurd (step .self .relies)
-  wait-inflate-refines it Anonymous step = absurd (step .self .relies)
-  wait-inflate-refines it Fat step = absurd (step .self .relies)
-  wait-inflate-refines it (Flat owner c) step =
+  wait-inflate-refines it Free limit step = absurd (step .self .relies)
+  wait-inflate-refines it Anonymous limit step = absurd (step .self .relies)
+  wait-inflate-refines it Fat limit step = absurd (step .self .relies)
+  wait-inflate-refines it (Flat owner c) limit step =
       by-equal (Right actor Wait (with-word it (Flat owner c))) owner (actor .thread)
       (λ q. inflate-refines actor Wait (with-word it (Flat owner c)) (c + 1) step (step .self .seated .0)
       (record {
-        state = Running WaitGiveUp;
+        state = Running (WaitGiveUp limit);
         answer = GoneOn;
         commits = false;
         committed = nothing-committed;
@@ -56,30 +57,32 @@ module _ (actor : Actor) where
         ended = tt;
       }))
       (λ q. absurd (q (step .self .relies)))
-  wait-inflate-refines it (Reserved owner c) step = absurd (step .self .relies)
+  wait-inflate-refines it (Reserved owner c) limit step = absurd (step .self .relies)
 
-  pub wait-give-up-refines : (it : ListObject) (word : WordSeen) → let o = with-word it word in
-      Stepping actor WaitGiveUp o → Right actor Wait o (wait-give-up (sight-of o) word)
+  pub wait-give-up-refines : (it : ListObject) (word : WordSeen) (limit : Limit) → let o = with-word it word in
+      Stepping actor (WaitGiveUp limit) o → Right actor Wait o (wait-give-up (sight-of o) limit word)
   unfolding wait-give-up
-  wait-give-up-refines it Free step = absurd (step .self .relies .0)
-  wait-give-up-refines it Anonymous step = absurd (step .self .relies .0)
-  wait-give-up-refines it Fat step =
+  wait-give-up-refines it Free limit step = absurd (step .self .relies .0)
+  wait-give-up-refines it Anonymous limit step = absurd (step .self .relies .0)
+  wait-give-up-refines it Fat limit step =
       by-equal (Right actor Wait (with-word it Fat)) (it .depth) 0 (λ e. absurd (omega (arith, e, step .self .seated .1)))
       (λ e. let o = with-word it Fat in
-      let saved = update (actor .ghost .saved) (actor .thread) (record { depth = it .depth }) in
-      hand-refines actor Wait o WaitGiveUp step (step .self .seated .0)
+      let saves : Suspension = record { depth = it .depth; limit = limit } in
+      let saved = update (actor .ghost .saved) (actor .thread) saves in
+      hand-refines actor Wait o (WaitGiveUp limit) step (step .self .seated .0)
       (record {
         contenders = it .contention;
         waiters = it .waiting ++ (actor .thread ∷ []);
-        state = Waiting (record { depth = it .depth });
+        state = Waiting saves;
         answer = Parked;
         commits = true;
-        committed = give-up (actor .thread) (plain-at actor o);
+        committed = give-up limit (actor .thread) (plain-at actor o);
         saved = saved;
-        does = λ k. commit-give-up (actor .thread) (plain-at actor o) (step .self .woken) (fat-owner (it .holder) (it .depth) (step .self .seated .1)
-            ∙ step .self .seated .0);
+        does = λ k. commit-give-up (limit-of actor) (actor .thread) (plain-at actor o) (step .self .woken) (fat-owner (it .holder) (it .depth) (step .self .seated .1)
+            ∙ step .self .seated .0)
+            ∙ ap (λ (given : Limit). give-up given (actor .thread) (plain-at actor o)) (step .self .logged .2);
         others = others-ghost (actor .thread) (actor .states) (with-waiting o (it .waiting ++ (actor .thread ∷ []))) (actor .ghost) (actor .ghost .woken) saved
-            (λ t n. refl) (λ t n. update-other (actor .ghost .saved) (actor .thread) (record { depth = it .depth }) t n)
+            (λ t n. refl) (λ t n. update-other (actor .ghost .saved) (actor .thread) saves t n)
             (others-joined (actor .thread) (actor .states) o (actor .ghost) Chain.Waiting (λ t n. step .inv .threads t));
         self = λ next rest seated gone. record {
           seated = (λ x. omega (arith, seated x (actor .real)), actor .real);
@@ -89,8 +92,8 @@ module _ (actor : Actor) where
             waiting = count-joined (actor .thread) (it .waiting) ∙ ap suc (step .self .placed .waiting);
           };
           relies = tt;
-          logged = (step .self .logged .0, first-commit (step .self .logged .1));
-          saved = (update-same (actor .ghost .saved) (actor .thread) (record { depth = it .depth }), step .self .seated .1, step .inv .whole .monitor .0);
+          logged = (step .self .logged .0, first-commit (step .self .logged .1), tt);
+          saved = (update-same (actor .ghost .saved) (actor .thread) saves, step .self .seated .1, step .inv .whole .monitor .0);
           woken = step .self .woken;
         };
         flag = step .inv .whole .flag;
@@ -98,8 +101,8 @@ module _ (actor : Actor) where
         shows = λ next rest. refl;
         ended = tt;
       }))
-  wait-give-up-refines it (Flat owner c) step = absurd (step .self .relies .0)
-  wait-give-up-refines it (Reserved owner c) step = absurd (step .self .relies .0)
+  wait-give-up-refines it (Flat owner c) limit step = absurd (step .self .relies .0)
+  wait-give-up-refines it (Reserved owner c) limit step = absurd (step .self .relies .0)
 
   pub wait-resume-refines : (it : ListObject) (word : WordSeen) (suspension : Suspension) → let o = with-word it word in
       Stepping actor (WaitResume suspension) o → Right actor Wait o (wait-resume (sight-of o) suspension word)
@@ -109,11 +112,12 @@ module _ (actor : Actor) where
   wait-resume-refines it Fat suspension step =
       by-equal (Right actor Wait (with-word it Fat)) (it .depth) 0
       (λ e. let o = with-word it Fat in
-      depth-refines actor Wait it (suspension .depth) step (step .self .seated .0)
+      depth-refines actor Wait it (suspension .depth) (run-out (suspension .limit)) step (step .self .seated .0)
       (record {
         woken = update (actor .ghost .woken) (actor .thread) false;
-        does = commit-resume (actor .thread) (plain-at actor o) (step .self .woken)
-            (fat-unowned (it .holder) (it .depth) e) ∙ ap finished (same-monitor refl (ap (λ (k : Suspension). k .depth) (step .self .saved .0)));
+        does = commit-resume (limit-of actor) (actor .thread) (plain-at actor o) (step .self .woken) (fat-unowned (it .holder) (it .depth) e)
+            ∙ ap (λ (saved : Suspension). record { monitor = owned actor o (saved .depth) (update (actor .ghost .woken) (actor .thread) false); answer = Finished (run-out (saved .limit)) })
+            (step .self .saved .0);
         others = λ t n. update-other (actor .ghost .woken) (actor .thread) false t n;
         asleep = update-same (actor .ghost .woken) (actor .thread) false;
         above = step .self .saved .1;

@@ -59,9 +59,9 @@ finish-word sight word =
       commits = true;
     })
 
--- finish (c), with another depth of the monitor
-abbrev pub finish-depth : Sight → ℕ → Action
-finish-depth sight depth =
+-- finish (c), with another depth of the monitor and this woken number
+abbrev pub finish-depth : Sight → ℕ → ℕ → Action
+finish-depth sight depth woken =
     Do
     (record {
       work = Stay;
@@ -70,7 +70,7 @@ finish-depth sight depth =
       flag = sight .flag;
       holder = sight .holder;
       depth = depth;
-      answer = Finished 0;
+      answer = Finished woken;
       commits = true;
     })
 

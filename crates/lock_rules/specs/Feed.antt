@@ -6,20 +6,20 @@ use mathlib.Core.List.{List, [], _∷_}
 use Rattle.laws.specs.Choice.{pick}
 use Rattle.laws.specs.Update.{update}
 use Rattle.lock_rules.specs.Numbers.{asked-for}
-use Rattle.lock_rules.specs.Operations.{Operation}
-use Rattle.lock_rules.specs.Operations.{Enter, Exit, Wait, Notify, NotifyAll}
-use Rattle.lock_rules.specs.Operations.{Asked}
-use Rattle.lock_rules.specs.Operations.{Unknown, Known}
+use Rattle.lock_rules.specs.Operations.{Operation, Enter, Exit, Wait, Notify, NotifyAll, Asked, Unknown, Known}
+use Rattle.lock_rules.specs.declared.Limit.{Limit}
+use Rattle.lock_rules.specs.declared.Limit.the-variants.{Unlimited}
 use Rattle.lock_rules.specs.declared.Answer.{Answer}
 use Rattle.lock_rules.specs.declared.Answer.the-variants.{GoneOn, Finished, Parked, NotOwner, TooDeep, NoRule}
 use Rattle.lock_rules.specs.declared.event.Event.{Event}
-use Rattle.lock_rules.specs.declared.event.Event.the-variants.{Begin, Step}
-use Rattle.lock_rules.specs.Events.{Reply, Begun, Refused, Answered, Shown}
-use Rattle.lock_rules.specs.PlainMonitor.{PlainMonitor, unowned, commit}
+use Rattle.lock_rules.specs.declared.event.Event.the-variants.{Begin, Step, Tick}
+use Rattle.lock_rules.specs.Events.{Reply, Accepted, Refused, Answered, Shown}
+use Rattle.lock_rules.specs.PlainMonitor.{PlainMonitor, unowned, commit, plain-tick}
 
--- a thread's last begin that returned 0: operation and object, how often it has committed since, and the plain answer of its last commit
+-- a thread's last begin that returned 0: operation, limit and object, how often it has committed since, and the plain answer of its last commit
 pub record OperationLog : Type 0 where
   pub operation : Operation
+  pub limit : Limit
   pub object : ℕ
   pub commits : ℕ
   pub answer : Answer
@@ -36,18 +36,19 @@ pub record Plain : Type 0 where
   pub logs : ℕ → OperationLog
   pub steps : List StepEntry
 
-abbrev pub new-log : Operation → ℕ → OperationLog
-new-log operation object = record { operation = operation; object = object; commits = 0; answer = GoneOn }
+abbrev pub new-log : Operation → Limit → ℕ → OperationLog
+new-log operation limit object = record { operation = operation; limit = limit; object = object; commits = 0; answer = GoneOn }
 
 abbrev pub log-after : Bool → OperationLog → Answer → OperationLog
 log-after commits log answer =
-    pick commits (record { operation = log .operation; object = log .object; commits = log .commits + 1; answer = answer }) log
+    pick commits
+    (record { operation = log .operation; limit = log .limit; object = log .object; commits = log .commits + 1; answer = answer }) log
 
 -- only a committing step alters a monitor: it runs the operation and object of its thread's last begin that returned 0
 abbrev pub fed-step : Plain → ℕ → Answer → Bool → Plain
 fed-step plain thread answer commits =
     let log = plain .logs thread in
-    let committed = commit (log .operation) thread (plain .monitors (log .object)) in
+    let committed = commit (log .operation) (log .limit) thread (plain .monitors (log .object)) in
     let after = log-after commits log (committed .answer) in
     record {
       monitors = update (plain .monitors) (log .object) (pick commits (committed .monitor) (plain .monitors (log .object)));
@@ -57,16 +58,29 @@ fed-step plain thread answer commits =
 
 abbrev pub fed-begin : Plain → ℕ → ℕ → Asked → Plain
 fed-begin plain thread object Unknown = plain
-fed-begin plain thread object (Known operation) =
-    record { monitors = plain .monitors; logs = update (plain .logs) thread (new-log operation object); steps = plain .steps }
+fed-begin plain thread object (Known operation limit) =
+    record { monitors = plain .monitors; logs = update (plain .logs) thread (new-log operation limit object); steps = plain .steps }
+
+-- an accepted tick is one whole operation over all objects
+abbrev pub fed-tick : Plain → Plain
+fed-tick plain = record { monitors = λ o. plain-tick (plain .monitors o); logs = plain .logs; steps = plain .steps }
+
+-- a begin or a tick that returned 0
+abbrev pub fed-accepted : Plain → Event → Plain
+fed-accepted plain (Begin number thread object limit) = fed-begin plain thread object (asked-for number limit)
+fed-accepted plain (Step thread) = plain
+fed-accepted plain Tick = fed-tick plain
+
+-- a step that its rule answered
+abbrev pub fed-answered : Plain → Event → Answer → Bool → Plain
+fed-answered plain (Begin number thread object limit) answer commits = plain
+fed-answered plain (Step thread) answer commits = fed-step plain thread answer commits
+fed-answered plain Tick answer commits = plain
 
 abbrev pub feed : Plain → Event → Reply → Plain
-feed plain (Begin number thread object) Begun = fed-begin plain thread object (asked-for number)
-feed plain (Begin number thread object) (Refused refusal) = plain
-feed plain (Begin number thread object) (Answered answer commits) = plain
-feed plain (Step thread) Begun = plain
-feed plain (Step thread) (Refused refusal) = plain
-feed plain (Step thread) (Answered answer commits) = fed-step plain thread answer commits
+feed plain event Accepted = fed-accepted plain event
+feed plain event (Refused refusal) = plain
+feed plain event (Answered answer commits) = fed-answered plain event answer commits
 
 abbrev pub feed-all : Plain → List Shown → Plain
 feed-all plain [] = plain
@@ -74,7 +88,7 @@ feed-all plain (shown ∷ rest) = feed-all (feed plain (shown .event) (shown .re
 
 -- before any event
 abbrev pub blank : Plain
-blank = record { monitors = λ o. unowned; logs = λ t. new-log Enter 0; steps = [] }
+blank = record { monitors = λ o. unowned; logs = λ t. new-log Enter Unlimited 0; steps = [] }
 
 -- the commits of an operation that ends with 1
 abbrev pub commits-due : Operation → ℕ

@@ -7,9 +7,12 @@ use lib.ListN.{length}
 use Rattle.laws.specs.Choice.{pick, both, either}
 use Rattle.laws.specs.Update.{update}
 use Rattle.laws.specs.Count.{count}
+use Rattle.laws.specs.Filter.{failing}
 use Rattle.lock_word.specs.Depth.{depth-limit}
-use Rattle.lock_rules.specs.Operations.{Operation}
-use Rattle.lock_rules.specs.Operations.{Enter, Exit, Wait, Notify, NotifyAll}
+use Rattle.lock_rules.specs.Operations.{Operation, Enter, Exit, Wait, Notify, NotifyAll}
+use Rattle.lock_rules.specs.Limits.{ticked, at-zero, run-out}
+use Rattle.lock_rules.specs.declared.Limit.{Limit}
+use Rattle.lock_rules.specs.declared.Limit.the-variants.{Unlimited}
 use Rattle.lock_rules.specs.declared.Suspension.{Suspension}
 use Rattle.lock_rules.specs.declared.Answer.{Answer}
 use Rattle.lock_rules.specs.declared.Answer.the-variants.{GoneOn, Finished, NotOwner, TooDeep}
@@ -28,7 +31,7 @@ pub record Committed : Type 0 where
   pub answer : Answer
 
 abbrev pub unowned : PlainMonitor
-unowned = record { owner = 0; depth = 0; waiting = []; woken = λ t. false; saved = λ t. record { depth = 0 } }
+unowned = record { owner = 0; depth = 0; waiting = []; woken = λ t. false; saved = λ t. record { depth = 0; limit = Unlimited } }
 
 abbrev pub owned-by : PlainMonitor → ℕ → ℕ → PlainMonitor
 owned-by monitor owner depth = record { owner = owner; depth = depth; waiting = monitor .waiting; woken = monitor .woken; saved = monitor .saved }
@@ -57,31 +60,33 @@ abbrev pub plain-exit : ℕ → PlainMonitor → Committed
 plain-exit thread monitor =
     finished (pick (eqb (monitor .depth) 1) (owned-by monitor 0 0) (owned-by monitor thread (monitor .depth - 1)))
 
--- join the waiting at the end, depth saved; no owner, depth 0, no answer yet
-abbrev pub give-up : ℕ → PlainMonitor → Committed
-give-up thread monitor =
+-- join the waiting at the end, depth saved and the limit kept; no owner, depth 0, no answer yet
+abbrev pub give-up : Limit → ℕ → PlainMonitor → Committed
+give-up limit thread monitor =
     record {
       monitor = record {
         owner = 0;
         depth = 0;
         waiting = monitor .waiting ++ (thread ∷ []);
         woken = monitor .woken;
-        saved = update (monitor .saved) thread (record { depth = monitor .depth });
+        saved = update (monitor .saved) thread (record { depth = monitor .depth; limit = limit });
       };
       answer = GoneOn;
     }
 
--- a woken thread, no owner: no longer woken, own it at the saved depth
+-- a woken thread, no owner: no longer woken, own it at the saved depth; 1 with 1 if its limit ran out
 abbrev pub resume : ℕ → PlainMonitor → Committed
 resume thread monitor =
-    finished
-    (record {
-      owner = thread;
-      depth = monitor .saved thread .depth;
-      waiting = monitor .waiting;
-      woken = update (monitor .woken) thread false;
-      saved = monitor .saved;
-    })
+    record {
+      monitor = record {
+        owner = thread;
+        depth = monitor .saved thread .depth;
+        waiting = monitor .waiting;
+        woken = update (monitor .woken) thread false;
+        saved = monitor .saved;
+      };
+      answer = Finished (run-out (monitor .saved thread .limit));
+    }
 
 -- the first waiting, if any, becomes woken
 abbrev pub wake-first : PlainMonitor → List ℕ → Committed
@@ -110,11 +115,28 @@ wake-all monitor =
       answer = Finished (length (monitor .waiting));
     }
 
--- a committing step of an operation by a thread
-abbrev pub commit : Operation → ℕ → PlainMonitor → Committed
-commit Enter thread monitor = plain-enter thread monitor
-commit Exit thread monitor = by-owner thread monitor (plain-exit thread monitor)
-commit Wait thread monitor =
-    pick (both (monitor .woken thread) (eqb (monitor .owner) 0)) (resume thread monitor) (by-owner thread monitor (give-up thread monitor))
-commit Notify thread monitor = by-owner thread monitor (wake-first monitor (monitor .waiting))
-commit NotifyAll thread monitor = by-owner thread monitor (wake-all monitor)
+-- a committing step of an operation, with the limit of its begin, by a thread
+abbrev pub commit : Operation → Limit → ℕ → PlainMonitor → Committed
+commit Enter limit thread monitor = plain-enter thread monitor
+commit Exit limit thread monitor = by-owner thread monitor (plain-exit thread monitor)
+commit Wait limit thread monitor =
+    pick (both (monitor .woken thread) (eqb (monitor .owner) 0)) (resume thread monitor) (by-owner thread monitor (give-up limit thread monitor))
+commit Notify limit thread monitor = by-owner thread monitor (wake-first monitor (monitor .waiting))
+commit NotifyAll limit thread monitor = by-owner thread monitor (wake-all monitor)
+
+-- A tick (document 02, L1): "each timed thread among the waiting loses one, those at zero become woken as run out".
+abbrev pub is-waiting : PlainMonitor → ℕ → Bool
+is-waiting monitor t = above-zero (count t (monitor .waiting))
+
+abbrev pub ticked-saved : PlainMonitor → ℕ → Suspension
+ticked-saved monitor t = pick (is-waiting monitor t) (ticked (monitor .saved t)) (monitor .saved t)
+
+abbrev pub plain-tick : PlainMonitor → PlainMonitor
+plain-tick monitor =
+    record {
+      owner = monitor .owner;
+      depth = monitor .depth;
+      waiting = failing (λ t. at-zero (ticked-saved monitor t)) (monitor .waiting);
+      woken = λ t. either (both (is-waiting monitor t) (at-zero (ticked-saved monitor t))) (monitor .woken t);
+      saved = ticked-saved monitor;
+    }

@@ -10,6 +10,8 @@ use Rattle.lock_word.specs.Layout.{count-limit}
 use Rattle.lock_word.specs.Meaning.{owner-of}
 use Rattle.lock_rules.specs.Operations.{Operation}
 use Rattle.lock_rules.specs.Operations.{Enter, Exit, Wait, Notify, NotifyAll}
+use Rattle.lock_rules.specs.Limits.{run-out}
+use Rattle.lock_rules.specs.declared.Limit.{Limit}
 use Rattle.lock_rules.specs.declared.Suspension.{Suspension}
 use Rattle.lock_rules.specs.declared.OnwardStep.{OnwardStep}
 use Rattle.lock_rules.specs.declared.OnwardStep.the-variants.{ToCheck, ToTell, ToInflate, ToResume}
@@ -31,18 +33,18 @@ use Rattle.lock_rules.specs.declared.Action.{Action}
 use Rattle.lock_rules.specs.declared.Action.the-variants.{Unruled}
 
 -- begin sets phase 1
-abbrev pub begun : Operation → Doing
-begun Enter = EnterLook
-begun Exit = ExitLook
-begun Wait = WaitLook
-begun Notify = NotifyLook
-begun NotifyAll = NotifyAllLook
+abbrev pub begun : Operation → Limit → Doing
+begun Enter limit = EnterLook
+begun Exit limit = ExitLook
+begun Wait limit = WaitLook limit
+begun Notify limit = NotifyLook
+begun NotifyAll limit = NotifyAllLook
 
 -- what a queued thread does when the monitor is handed to it
 abbrev pub onward : OnwardStep → Doing
 onward ToCheck = EnterCheck
 onward ToTell = ExitTell
-onward ToInflate = WaitInflate
+onward (ToInflate limit) = WaitInflate limit
 onward (ToResume suspension) = WaitResume suspension
 
 -- phases 6, 7, 10 to 13 and 15 need the thread as holder, else 20
@@ -77,17 +79,17 @@ deflation sight = pick (both (sight .entryempty) (both (sight .contentionempty) 
 unfoldable pub exit-owned : Sight → WordSeen → Action
 exit-owned sight Free = not-owner sight
 exit-owned sight Anonymous = not-owner sight
-exit-owned sight Fat = pick (ltb 1 (sight .depth)) (finish-depth sight (sight .depth - 1)) (let-go sight (deflation sight) 0 ExitLeave)
+exit-owned sight Fat = pick (ltb 1 (sight .depth)) (finish-depth sight (sight .depth - 1) 0) (let-go sight (deflation sight) 0 ExitLeave)
 exit-owned sight (Flat owner count) = pick (ltb 0 count) (finish-word sight (OwnFlat (count - 1))) (let-go sight Freed (sight .depth) ExitTest)
 exit-owned sight (Reserved owner count) = go-on sight (ExitStore count)
 
 -- 1 look, wait, by the owner: flat to 4, reserved to 3, fat to 13
-unfoldable pub wait-owned : Sight → WordSeen → Action
-wait-owned sight Free = not-owner sight
-wait-owned sight Anonymous = not-owner sight
-wait-owned sight Fat = go-on sight WaitGiveUp
-wait-owned sight (Flat owner count) = go-on sight WaitGoIn
-wait-owned sight (Reserved owner count) = go-on sight WaitCancel
+unfoldable pub wait-owned : Sight → Limit → WordSeen → Action
+wait-owned sight limit Free = not-owner sight
+wait-owned sight limit Anonymous = not-owner sight
+wait-owned sight limit Fat = go-on sight (WaitGiveUp limit)
+wait-owned sight limit (Flat owner count) = go-on sight (WaitGoIn limit)
+wait-owned sight limit (Reserved owner count) = go-on sight (WaitCancel limit)
 
 -- 1 look, notify, by the owner: flat or reserved, finish with 0 (c); fat, first waiter to the entry chain carrying 15, finish with the number moved (c)
 unfoldable pub notify-owned : Sight → WordSeen → Action
@@ -124,9 +126,9 @@ cancel sight look (Reserved owner count) = cancel-word sight (SendBack owner) lo
 unfoldable pub go-in-again : Sight → OnwardStep → Action
 go-in-again sight ToCheck =
     pick (eqb (sight .depth) 0) Unruled
-    (pick (ltb (sight .depth) depth-limit) (finish-depth sight (sight .depth + 1)) (keep-object sight Stay Idle TooDeep true))
+    (pick (ltb (sight .depth) depth-limit) (finish-depth sight (sight .depth + 1) 0) (keep-object sight Stay Idle TooDeep true))
 go-in-again sight ToTell = Unruled
-go-in-again sight ToInflate = Unruled
+go-in-again sight (ToInflate limit) = Unruled
 go-in-again sight (ToResume suspension) = Unruled
 
 -- 4 go in: holder 0, become holder; to 6, 10 or 12 for enter, exit, wait. Holder another: join entry, phase 5, carrying that same 6, 10 or 12.
@@ -139,7 +141,7 @@ go-in thread sight carried =
 unfoldable pub enter-check : ℕ → Sight → WordSeen → Action
 enter-check thread sight Free = raise-flag sight
 enter-check thread sight Anonymous = Unruled
-enter-check thread sight Fat = pick (eqb (sight .depth) 0) (finish-depth sight 1) Unruled
+enter-check thread sight Fat = pick (eqb (sight .depth) 0) (finish-depth sight 1 0) Unruled
 enter-check thread sight (Flat owner count) = pick (eqb owner thread) (inflate sight (count + 2) Idle (Finished 0) true) (raise-flag sight)
 enter-check thread sight (Reserved owner count) = Unruled
 
@@ -166,27 +168,28 @@ unfoldable pub exit-leave : Sight → Action
 exit-leave sight = pick (eqb (sight .depth) 0) (keep-object sight Hand Idle (Finished 0) false) Unruled
 
 -- 12 inflate: flat own, inflate to count + 1, to 13; else 20
-unfoldable pub wait-inflate : ℕ → Sight → WordSeen → Action
-wait-inflate thread sight Free = Unruled
-wait-inflate thread sight Anonymous = Unruled
-wait-inflate thread sight Fat = Unruled
-wait-inflate thread sight (Flat owner count) = pick (eqb owner thread) (inflate sight (count + 1) (Running WaitGiveUp) GoneOn false) Unruled
-wait-inflate thread sight (Reserved owner count) = Unruled
+unfoldable pub wait-inflate : ℕ → Sight → Limit → WordSeen → Action
+wait-inflate thread sight limit Free = Unruled
+wait-inflate thread sight limit Anonymous = Unruled
+wait-inflate thread sight limit Fat = Unruled
+wait-inflate thread sight limit (Flat owner count) = pick (eqb owner thread) (inflate sight (count + 1) (Running (WaitGiveUp limit)) GoneOn false) Unruled
+wait-inflate thread sight limit (Reserved owner count) = Unruled
 
 -- 13 wait: fat and depth above 0: save depth, depth 0, join waiting, phase 14, hand (c: gives up); else 20
-unfoldable pub wait-give-up : Sight → WordSeen → Action
-wait-give-up sight Free = Unruled
-wait-give-up sight Anonymous = Unruled
-wait-give-up sight Fat =
-    pick (eqb (sight .depth) 0) Unruled (keep-object sight (JoinAndHand Chain.Waiting) (Waiting (record { depth = sight .depth })) Parked true)
-wait-give-up sight (Flat owner count) = Unruled
-wait-give-up sight (Reserved owner count) = Unruled
+unfoldable pub wait-give-up : Sight → Limit → WordSeen → Action
+wait-give-up sight limit Free = Unruled
+wait-give-up sight limit Anonymous = Unruled
+wait-give-up sight limit Fat =
+    pick (eqb (sight .depth) 0) Unruled
+    (keep-object sight (JoinAndHand Chain.Waiting) (Waiting (record { depth = sight .depth; limit = limit })) Parked true)
+wait-give-up sight limit (Flat owner count) = Unruled
+wait-give-up sight limit (Reserved owner count) = Unruled
 
 -- 15 resume: fat and depth 0: depth becomes the saved one, finish (c: resumes); else 20
 unfoldable pub wait-resume : Sight → Suspension → WordSeen → Action
 wait-resume sight suspension Free = Unruled
 wait-resume sight suspension Anonymous = Unruled
-wait-resume sight suspension Fat = pick (eqb (sight .depth) 0) (finish-depth sight (suspension .depth)) Unruled
+wait-resume sight suspension Fat = pick (eqb (sight .depth) 0) (finish-depth sight (suspension .depth) (run-out (suspension .limit))) Unruled
 wait-resume sight suspension (Flat owner count) = Unruled
 wait-resume sight suspension (Reserved owner count) = Unruled
 
@@ -204,11 +207,11 @@ decide thread sight ExitGoIn = go-in thread sight ToTell
 decide thread sight ExitTest = exit-test sight
 decide thread sight ExitTell = holder-only thread sight (exit-tell sight)
 decide thread sight ExitLeave = holder-only thread sight (exit-leave sight)
-decide thread sight WaitLook = owner-only thread sight (owner-seen sight) (wait-owned sight (sight .word))
-decide thread sight WaitCancel = cancel sight WaitLook (sight .word)
-decide thread sight WaitGoIn = go-in thread sight ToInflate
-decide thread sight WaitInflate = holder-only thread sight (wait-inflate thread sight (sight .word))
-decide thread sight WaitGiveUp = holder-only thread sight (wait-give-up sight (sight .word))
+decide thread sight (WaitLook limit) = owner-only thread sight (owner-seen sight) (wait-owned sight limit (sight .word))
+decide thread sight (WaitCancel limit) = cancel sight (WaitLook limit) (sight .word)
+decide thread sight (WaitGoIn limit) = go-in thread sight (ToInflate limit)
+decide thread sight (WaitInflate limit) = holder-only thread sight (wait-inflate thread sight limit (sight .word))
+decide thread sight (WaitGiveUp limit) = holder-only thread sight (wait-give-up sight limit (sight .word))
 decide thread sight (WaitResume suspension) = holder-only thread sight (wait-resume sight suspension (sight .word))
 decide thread sight NotifyLook = owner-only thread sight (owner-seen sight) (notify-owned sight (sight .word))
 decide thread sight NotifyAllLook = owner-only thread sight (owner-seen sight) (notify-all-owned sight (sight .word))

@@ -10,20 +10,27 @@ pub use event::ThreadStatus;
 use lock_word::Depth;
 use lock_word::WordSeen;
 
+// How long a wait goes on: until it is notified, or for so many ticks of the clock at most.
+pub enum Limit {
+    Unlimited,
+    Ticks(lock_word::Ticks), // ticks left
+}
+
 // What a wait keeps from giving the monitor up until it resumes.
 pub struct Suspension {
     pub depth: Depth, // saved depth
+    pub limit: Limit, // what is left of it
 }
 
 // What a queued thread goes on with when the monitor is handed to it.
 pub enum OnwardStep {
     ToCheck, // 6, an enter
     ToTell, // 10, an exit
-    ToInflate, // 12, a wait
+    ToInflate(Limit), // 12, a wait
     ToResume(Suspension), // 15, a woken wait
 }
 
-// Operation and phase of a thread that can take a step. A store holds the count of its kept word.
+// Operation and phase of a thread that can take a step. A store holds the count of its kept word, a wait its limit.
 pub enum Doing {
     EnterLook, // enter, 1 look
     EnterStore(u8), // enter, 2 store
@@ -37,11 +44,11 @@ pub enum Doing {
     ExitTest, // exit, 9 test
     ExitTell, // exit, 10 tell
     ExitLeave, // exit, 11 leave
-    WaitLook, // wait, 1 look
-    WaitCancel, // wait, 3 cancel
-    WaitGoIn, // wait, 4 go in
-    WaitInflate, // wait, 12 inflate
-    WaitGiveUp, // wait, 13 wait
+    WaitLook(Limit), // wait, 1 look
+    WaitCancel(Limit), // wait, 3 cancel
+    WaitGoIn(Limit), // wait, 4 go in
+    WaitInflate(Limit), // wait, 12 inflate
+    WaitGiveUp(Limit), // wait, 13 wait
     WaitResume(Suspension), // wait, 15 resume
     NotifyLook, // notify, 1 look
     NotifyAllLook, // notify all, 1 look
@@ -96,7 +103,7 @@ pub enum ChainWork {
 // What a step answers.
 pub enum Answer {
     GoneOn, // 0
-    Finished(u8), // 1, with the number of threads woken
+    Finished(u8), // 1, with the woken number: how many a notify woke; of a wait 1 if it ran out
     Parked, // 2
     NotOwner, // 18
     TooDeep, // 19

@@ -1,48 +1,48 @@
--- An event of the engine on a sound table is the turn of the tables of records: what the gate lets through is the begin or the step there.
+-- An event of the engine on a sound table is the turn of the tables of records: what the gate lets through is the begin, the step or the tick there.
 use Prim.Native.Nat.{ℕ, zero, suc}
 use mathlib.Core.Path.{_≡_, refl, sym, ap, _∙_, subst}
 use mathlib.Core.Bool.{true}
 use native.Mathlib.Omega.{arith}
 use lib.Dec.{T}
-use borrow.Author.Tests.{le-leb, lt-leb}
+use borrow.Author.Tests.{le-leb, lt-leb, le-ltb}
 use Rattle.laws.specs.Choice.{pick, within}
 use Rattle.laws.proofs.Choice.{false≢true}
+use Rattle.lock_word.specs.Ticks.{tick-limit}
 use Rattle.lock_word.specs.Read.{read-word}
 use Rattle.lock_word.specs.declared.reading.Decoded.{Decoded}
 use Rattle.lock_word.specs.declared.reading.Decoded.the-variants.{Valid, Invalid}
-use Rattle.lock_rules.specs.Gate.{gate, event-thread}
+use Rattle.lock_rules.specs.Gate.{limit-fits, gate, event-thread, event-object}
 use Rattle.lock_rules.specs.{Operations.operation-limit, Rules.decide}
 use Rattle.lock_rules.specs.Numbers.{asked-for, refusal-number}
-use Rattle.lock_rules.proofs.Each.{each-doing, each-state, each-carried}
+use Rattle.lock_rules.proofs.Each.{each-limit, each-suspension, each-doing, each-state, each-carried}
 use Rattle.lock_rules.proofs.Status.{unfinished}
 use Rattle.lock_rules.specs.declared.event.{Event.Event, Gate.Gate}
-use Rattle.lock_rules.specs.declared.event.Event.the-variants.{Begin, Step}
+use Rattle.lock_rules.specs.declared.event.Event.the-variants.{Begin, Step, Tick}
 use Rattle.lock_rules.specs.declared.event.ThreadStatus.the-variants.{Ready}
 use Rattle.lock_rules.specs.declared.event.Refusal.the-variants.{NotSound}
 use Rattle.lock_rules.specs.declared.event.Gate.the-variants.{Open}
 use Rattle.lock_rules.specs.declared.{Doing.Doing, ThreadState.ThreadState, Action.Action}
 use Rattle.lock_rules.specs.declared.ThreadState.the-variants.{Idle, Running, Queued, Contending, Waiting}
 use Rattle.lock_rules.specs.declared.Action.the-variants.{Unruled, Do}
-use Rattle.lock_rules.proofs.Gate.{Passed, by-gate}
+use Rattle.lock_rules.proofs.Gate.{Passed, within-says, by-gate}
 use Rattle.lock_rules.proofs.TableKinds.{TurnOf, status-of, begin-asked, step-thread, through, turn-on}
 use Rattle.lock_table.specs.Limits.{thread-limit, object-limit}
 use Rattle.lock_table.specs.Operation.{operation-from}
 use Rattle.lock_table.specs.Access.{thread-at, set-thread, object-at, set-object}
 use Rattle.lock_table.specs.declared.operation.Operation.{Operation}
-use Rattle.lock_table.specs.declared.operation.Operation.the-variants.{Idle as NoOperation, Enter, Exit, Wait, Notify, NotifyAll}
+use Rattle.lock_table.specs.declared.operation.Operation.the-variants.{Enter, Exit, Wait, Notify, NotifyAll, TimedWait}
 use Rattle.lock_table.specs.declared.record.{ThreadRecord.ThreadRecord, ObjectRecord.ObjectRecord, Table.Table}
 use Rattle.lock_table.proofs.Records.{object-unchanged, thread-unchanged, object-beside-thread}
-use Rattle.lock_perform.specs.State.{read-thread, write-activity, doing-activity, carried-activity}
+use Rattle.lock_perform.specs.State.{read-thread, write-activity, doing-activity, wait-activity, carried-activity}
 use Rattle.lock_perform.specs.{Sight.sight-at, Perform.stays}
 use Rattle.lock_soundness.specs.Sound.{sound-of}
 use Rattle.lock_soundness.proofs.Reading.{sound-reads}
-use Rattle.lock_records.proofs.Operations.{asked-of, asked-from}
 use Rattle.lock_records.proofs.RecordKind.{record-kind, step-acts, step-reads}
 use Rattle.lock_records.proofs.{Settled.settled-performs, EveryNumber.written-at}
 use Rattle.lock_records.proofs.ReadBack.{IsWritten, state-back}
-use Rattle.lock_engine.specs.Turn.{begun, begin-turn, action-turn, word-turn, state-turn, step-turn, open-turn, gate-turn, refused}
+use Rattle.lock_engine.specs.Turn.{given-ticks, begun, begin-turn, action-turn, word-turn, state-turn, step-turn, open-turn, gate-turn, refused}
 use Rattle.lock_gate.specs.Status.{thread-status}
-use Rattle.lock_engine.specs.Handle.{event-object, waiters-of, outcome-of, handle-trusting, handle}
+use Rattle.lock_engine.specs.Handle.{waiters-of, work-stays, work-done-by, outcome-of, handle-trusting, handle}
 use Rattle.lock_engine.specs.declared.outcome.Outcome.{Outcome}
 use Rattle.lock_engine.proofs.{Refused.refused-stays, Narrow.sizes}
 use Rattle.lock_schedule.specs.Schedule.{reply-shown}
@@ -51,54 +51,55 @@ use Rattle.lock_schedule.specs.Schedule.{reply-shown}
 abbrev pub turn-of : Outcome → TurnOf Table
 turn-of outcome = record { table = outcome .table; reply = reply-shown (outcome .reply) (outcome .commits) }
 
--- a number that is an operation's gives one
-known-operation : (number : ℕ) → within 1 operation-limit number ≡ true → operation-from number ≡ NoOperation → ⊥
-unfolding operation-from
-known-operation zero inside none = false≢true inside
-known-operation (suc zero) inside none = let z : _≡_ {A = ℕ} 0 1 = cc in omega arith
-known-operation (suc (suc zero)) inside none = let z : _≡_ {A = ℕ} 0 1 = cc in omega arith
-known-operation (suc (suc (suc zero))) inside none = let z : _≡_ {A = ℕ} 0 1 = cc in omega arith
-known-operation (suc (suc (suc (suc zero)))) inside none = let z : _≡_ {A = ℕ} 0 1 = cc in omega arith
-known-operation (suc (suc (suc (suc (suc zero))))) inside none = let z : _≡_ {A = ℕ} 0 1 = cc in omega arith
-known-operation (suc (suc (suc (suc (suc (suc more)))))) inside none =
-    let number = suc (suc (suc (suc (suc (suc more))))) in
-    false≢true (rw (le-leb 1 number (omega arith), lt-leb number operation-limit (omega arith)) at inside)
+-- the gate has seen to it that a timed wait's ticks are its limit
+ticks-given : (limit : ℕ) → within 1 tick-limit limit ≡ true → given-ticks TimedWait limit ≡ limit
+unfolding given-ticks
+ticks-given limit inside = rw (le-ltb tick-limit limit (within-says {low = 1} {high = tick-limit} {n = limit} inside .1)) refl
 
 -- the status of a record that is written is that of its state
 status-written : (n o : ℕ) (state : ThreadState) → thread-status (write-activity n o state .phase) ≡ status-of state
-unfolding thread-status write-activity doing-activity carried-activity
-status-written n o = each-state _ (search, each-doing _ (search), each-carried _ (search), search, search)
+unfolding thread-status write-activity doing-activity wait-activity carried-activity
+status-written n o =
+    each-state _ (
+      search,
+      each-doing _
+          (search, search, (each-limit _ (search), each-limit _ (search), each-limit _ (search), each-limit _ (search), each-limit _ (search), each-suspension _ (search)), search, search),
+      each-carried _ (search, search, each-limit _ (search), each-suspension _ (search)),
+      search,
+      each-suspension _ (search),
+    )
 
 module _ (t : Table) where
   -- a begin: the object is written as it stands
-  begin-settles : (n o : ℕ) (operation : Operation)
-      → outcome-of t n o (begin-turn (thread-at t n) (object-at t o) operation o) .table ≡ set-thread t n (begun (thread-at t n) operation o)
-  unfolding stays
-  begin-settles n o operation =
-      let own = begun (thread-at t n) operation o in
+  begin-settles : (n o : ℕ) (operation : Operation) (limit : ℕ)
+      → outcome-of t n o (begin-turn (thread-at t n) (object-at t o) operation o limit) .table ≡ set-thread t n (begun (thread-at t n) operation o limit)
+  unfolding work-stays stays
+  begin-settles n o operation limit =
+      let own = begun (thread-at t n) operation o limit in
       let after = set-thread t n own in
       subst (λ (object : ObjectRecord). set-object after o object ≡ after) (object-beside-thread t n o own) (object-unchanged after o)
 
-  begins-so : (n o number : ℕ) → within 1 operation-limit number ≡ true
-      → turn-of (outcome-of t n o (begin-turn (thread-at t n) (object-at t o) (operation-from number) o)) ≡ begin-asked record-kind t (asked-for number) n o
-  begins-so n o number inside =
-      rw (asked-from number) (at (operation-from number) (known-operation number inside))
-    where
-      at : (operation : Operation) → (operation ≡ NoOperation → ⊥)
-          → turn-of (outcome-of t n o (begin-turn (thread-at t n) (object-at t o) operation o)) ≡ begin-asked record-kind t (asked-of operation) n o
-      at NoOperation known = absurd (known refl)
-      at Enter known = rw (begin-settles n o Enter) refl
-      at Exit known = rw (begin-settles n o Exit) refl
-      at Wait known = rw (begin-settles n o Wait) refl
-      at Notify known = rw (begin-settles n o Notify) refl
-      at NotifyAll known = rw (begin-settles n o NotifyAll) refl
+  begins-so : (n o number limit : ℕ) → within 1 operation-limit number ≡ true → limit-fits number limit ≡ true
+      → turn-of (outcome-of t n o (begin-turn (thread-at t n) (object-at t o) (operation-from number) o limit))
+      ≡ begin-asked record-kind t (asked-for number limit) n o
+  unfolding asked-for operation-from given-ticks
+  begins-so n o zero limit inside fits = false≢true inside
+  begins-so n o (suc zero) limit inside fits = rw (begin-settles n o Enter limit) refl
+  begins-so n o (suc (suc zero)) limit inside fits = rw (begin-settles n o Exit limit) refl
+  begins-so n o (suc (suc (suc zero))) limit inside fits = rw (begin-settles n o Wait limit) refl
+  begins-so n o (suc (suc (suc (suc zero)))) limit inside fits = rw (begin-settles n o Notify limit) refl
+  begins-so n o (suc (suc (suc (suc (suc zero))))) limit inside fits = rw (begin-settles n o NotifyAll limit) refl
+  begins-so n o (suc (suc (suc (suc (suc (suc zero)))))) limit inside fits = rw (begin-settles n o TimedWait limit, ticks-given limit fits) refl
+  begins-so n o (suc (suc (suc (suc (suc (suc (suc more))))))) limit inside fits =
+      let number = suc (suc (suc (suc (suc (suc (suc more)))))) in
+      false≢true (rw (le-leb 1 number (omega arith), lt-leb number operation-limit (omega arith)) at inside)
 
   -- a step's rule
   rule-acts : (n : ℕ) (action : Action)
       → let own = thread-at t n in
       turn-of (outcome-of t n (own .object) (action-turn n own (object-at t (own .object)) action))
       ≡ step-acts t n (own .object) (object-at t (own .object)) action
-  unfolding action-turn
+  unfolding action-turn work-stays work-done-by
   rule-acts n Unruled = unfold stays in rw (thread-unchanged t n, object-unchanged t (thread-at t n .object)) refl
   rule-acts n (Do effect) = rw (settled-performs t n (thread-at t n .object) (object-at t (thread-at t n .object)) effect) refl
 
@@ -153,7 +154,7 @@ module _ (t : Table) where
         let object = object-at t number in
         let gated = gate true (t .threadcount) (t .objectcount) event (status-of (read-thread own)) in
         turn-of (outcome-of t (event-thread event) number (gate-turn gated event own object (waiters-of t object))) ≡ through record-kind gated t event
-    unfolding gate-turn open-turn
+    unfolding gate-turn open-turn work-stays work-done-by
     through-gate event =
         let own = thread-at t (event-thread event) in
         let number = event-object event (own .object) in
@@ -168,8 +169,9 @@ module _ (t : Table) where
             let number = event-object event (own .object) in
             let object = object-at t number in
             turn-of (outcome-of t (event-thread event) number (open-turn event own object (waiters-of t object))) ≡ through record-kind Open t event
-        opened (Begin number thread object) (low, high, operation, real, small, idle) = begins-so thread object number operation
+        opened (Begin number thread object limit) (low, high, operation, real, small, idle, fits) = begins-so thread object number limit operation fits
         opened (Step thread) (low, high, ready) = steps-so thread ready
+        opened Tick passed = refl
 
     pub event-is-turn : (event : Event) → turn-of (handle t event) ≡ turn-on record-kind (t .threadcount) (t .objectcount) t event
     unfolding handle handle-trusting

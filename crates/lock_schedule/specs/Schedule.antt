@@ -2,16 +2,16 @@
 use mathlib.Core.Bool.{Bool}
 use mathlib.Core.List.{List, [], _∷_}
 use Rattle.lock_rules.specs.declared.event.Event.{Event}
-use Rattle.lock_rules.specs.Events.{Reply as ShownReply, Begun as ShownBegun, Refused as ShownRefused, Answered as ShownAnswered, Shown}
+use Rattle.lock_rules.specs.Events.{Reply as ShownReply, Accepted as ShownAccepted, Refused as ShownRefused, Answered as ShownAnswered, Shown}
 use Rattle.lock_rules.specs.Numbers.{refusal-number}
 use Rattle.lock_table.specs.declared.record.Table.{Table}
 use Rattle.lock_engine.specs.Handle.{handle}
 use Rattle.lock_engine.specs.declared.outcome.Reply.{Reply}
-use Rattle.lock_engine.specs.declared.outcome.Reply.the-variants.{Begun, Refused, Answered}
+use Rattle.lock_engine.specs.declared.outcome.Reply.the-variants.{Accepted, Refused, Answered}
 
 -- what of an outcome the plain monitors are shown: the reply, with its number, and the mark (c); of the table, nothing
 abbrev pub reply-shown : Reply → Bool → ShownReply
-reply-shown Begun commits = ShownBegun
+reply-shown Accepted commits = ShownAccepted
 reply-shown (Refused refusal) commits = ShownRefused (refusal-number refusal)
 reply-shown (Answered answer) commits = ShownAnswered answer commits
 

@@ -1,6 +1,7 @@
 // Runs a schedule given in bytes from a fresh table; event_bytes says how its events are written.
 use event_bytes::EVENT_SIZE;
 use event_bytes::event_from;
+use event_bytes::limit_from;
 use lock_engine::handle;
 use lock_table::FreshAnswer;
 use lock_table::FreshRequest;
@@ -25,7 +26,19 @@ fn run_events(table: Table, events: &[u8]) -> Table
     let mut at: usize = 0;
     let mut left = events.len() / EVENT_SIZE;
     while 0 < left {
-        let event = event_from(events[at], events[at + 1], events[at + 2], events[at + 3]);
+        let limit = limit_from(
+            events[at + 4],
+            events[at + 5],
+            events[at + 6],
+            events[at + 7],
+        );
+        let event = event_from(
+            events[at],
+            events[at + 1],
+            events[at + 2],
+            events[at + 3],
+            limit,
+        );
         let outcome = handle(current, event);
         current = outcome.table;
         at += EVENT_SIZE;

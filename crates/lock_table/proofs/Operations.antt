@@ -6,8 +6,8 @@ use borrow.Author.Tests.{ne-eqb}
 use Rattle.lock_table.specs.Operation.{operation-from}
 use Rattle.lock_table.specs.declared.operation.Operation.the-variants.{Idle as NoOperation}
 
--- the operations are 1 to 5
-pub no-operation : (number : ℕ) → 6 ≤ number → operation-from number ≡ NoOperation
+-- the operations are 1 to 6
+pub no-operation : (number : ℕ) → 7 ≤ number → operation-from number ≡ NoOperation
 unfolding operation-from
 no-operation number high =
     rw (
@@ -16,4 +16,5 @@ no-operation number high =
       ne-eqb number 3 (λ is. omega (arith, is, high)),
       ne-eqb number 4 (λ is. omega (arith, is, high)),
       ne-eqb number 5 (λ is. omega (arith, is, high)),
+      ne-eqb number 6 (λ is. omega (arith, is, high)),
     )

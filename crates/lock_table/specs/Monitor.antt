@@ -1,6 +1,6 @@
 -- What is done to a monitor (document 01, "Steps": going in, handing, inflating and moving each take a monitor and give it back altered).
 use Prim.Native.Nat.{ℕ}
-use Rattle.chains.specs.Chain.{first-with}
+use Rattle.chains.specs.Joining.{first-with}
 use Rattle.chains.specs.declared.named.Chain.{Chain}
 use Rattle.lock_table.specs.declared.record.Monitor.{Monitor}
 use Rattle.lock_table.specs.declared.monitor.Handed.{Handed}

@@ -2,25 +2,15 @@
 // A chain's other threads are reached through the table (chain.rt); a method is told the next index that it needs.
 use crate::record::Monitor;
 use chains::Chain;
+use chains::first_with;
 use lock_word::Depth;
 ghost use mathlib.Core.Path.{_≡_};
-ghost use Rattle.chains.specs.Chain.{first-with};
 ghost use Rattle.lock_table.specs.Monitor.{held-by, with-depth, hand-of, first-in, with-first, join, move-to-entry};
 
 // A monitor, and the thread that was handed it; 0 for nobody.
 pub struct Handed {
     pub monitor: Monitor,
     pub thread: u8,
-}
-
-// The first thread of chain `front` with chain `back` hung behind it.
-fn first_of_both(front: u8, back: u8) -> u8
-    ensures { λ r. ⌜ r ≡ first-with front back ⌝ }
-{
-    if front == 0 {
-        return back;
-    }
-    front
 }
 
 impl Monitor {
@@ -87,7 +77,7 @@ impl Monitor {
     pub fn join(mut self, chain: Chain, first: u8) -> Monitor
         ensures { λ r. ⌜ r ≡ join self chain first ⌝ }
     {
-        self = self.with_first(chain, first_of_both(self.first_in(chain), first));
+        self = self.with_first(chain, first_with(self.first_in(chain), first));
         self
     }
 

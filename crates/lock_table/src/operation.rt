@@ -1,4 +1,4 @@
-// The operations, with document 01's numbers.
+// The operations, with document 01's numbers and document 02's.
 ghost use mathlib.Core.Path.{_≡_};
 ghost use Rattle.lock_table.specs.Operation.{operation-number, operation-from};
 
@@ -15,6 +15,8 @@ pub enum Operation {
     Notify,
     // 5
     NotifyAll,
+    // 6
+    TimedWait,
 }
 
 pub fn operation_number(operation: Operation) -> u8
@@ -27,6 +29,7 @@ pub fn operation_number(operation: Operation) -> u8
         Operation::Wait => 3,
         Operation::Notify => 4,
         Operation::NotifyAll => 5,
+        Operation::TimedWait => 6,
     }
 }
 
@@ -48,6 +51,9 @@ pub fn operation_from(number: u8) -> Operation
     }
     if number == 5 {
         return Operation::NotifyAll;
+    }
+    if number == 6 {
+        return Operation::TimedWait;
     }
     Operation::Idle
 }

@@ -2,6 +2,7 @@
 use crate::operation::Operation;
 use crate::phase::Phase;
 use lock_word::Depth;
+use lock_word::Ticks;
 ghost use mathlib.Core.Path.{_≡_};
 ghost use Rattle.lock_table.specs.Record.{no-thread, no-monitor, no-object, no-activity, with-activity, with-phase, with-next};
 ghost use Rattle.lock_table.specs.Record.{with-word, with-flag, with-monitor};
@@ -16,6 +17,8 @@ pub struct ThreadRecord {
     pub kept: u32,
     // the depth that a wait gave up
     pub saved: Depth,
+    // the ticks that a timed wait has left
+    pub ticks: Ticks,
     pub object: u8,
     pub next: u8,
     pub operation: Operation,
@@ -26,6 +29,7 @@ pub struct ThreadRecord {
 pub struct Activity {
     pub kept: u32,
     pub saved: Depth,
+    pub ticks: Ticks,
     pub object: u8,
     pub operation: Operation,
     pub phase: Phase,
@@ -61,6 +65,7 @@ pub fn no_thread() -> ThreadRecord
     ThreadRecord {
         kept: 0,
         saved: 0,
+        ticks: 0,
         object: 0,
         next: 0,
         operation: Operation::Idle,
@@ -75,6 +80,7 @@ pub fn no_activity() -> Activity
     Activity {
         kept: 0,
         saved: 0,
+        ticks: 0,
         object: 0,
         operation: Operation::Idle,
         phase: Phase::Idle,
@@ -113,6 +119,7 @@ impl ThreadRecord {
         ThreadRecord {
             kept: activity.kept,
             saved: activity.saved,
+            ticks: activity.ticks,
             object: activity.object,
             operation: operation,
             phase: phase,

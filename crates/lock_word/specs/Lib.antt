@@ -1,5 +1,6 @@
 -- What lock words are, in document 01's words.
 pub mod Depth
+pub mod Ticks
 pub mod Layout
 pub mod Read
 pub mod Write

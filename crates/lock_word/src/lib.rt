@@ -12,6 +12,7 @@ mod kinds;
 mod layout;
 mod meaning;
 mod reading;
+mod ticks;
 mod writing;
 
 pub use depth::DEPTH_LIMIT;
@@ -29,6 +30,8 @@ pub use reading::LockWord;
 pub use reading::MonitorNumber;
 pub use reading::ThreadNumber;
 pub use reading::read_word;
+pub use ticks::TICK_LIMIT;
+pub use ticks::Ticks;
 pub use writing::anonymous_word;
 pub use writing::fat_word;
 pub use writing::flat_word;

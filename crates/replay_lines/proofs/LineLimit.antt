@@ -17,13 +17,20 @@ use Rattle.replay_lines.proofs.ReadBack.{read-written}
 spaced-fits : (number : ℕ) (rest : List ℕ) → length (spaced number rest) ≤ length rest + 6
 spaced-fits number rest = omega (arith, length-append (decimal number) rest, decimal-fits number)
 
+-- the header and a timed wait have the most numbers
+three-fit : (first second third : ℕ) → length (spaced first (spaced second (spaced third line-break))) < line-limit
+three-fit first second third =
+    let last = spaced third line-break in
+    omega (arith, spaced-fits first (spaced second last), spaced-fits second last, spaced-fits third line-break)
+
 written-fits : {line : Line} {text : List ℕ} → Writes line text → length text ≤ line-limit
 written-fits (Writes.header {threads} {objects} {reserved} fits fits′) =
-    let last = spaced (one-if reserved) line-break in
-    omega (arith, spaced-fits threads (spaced objects last), spaced-fits objects last, spaced-fits (one-if reserved) line-break)
+    omega (arith, three-fit threads objects (one-if reserved))
 written-fits (Writes.begin {thread = thread} {object} named fits fits′) =
     omega (arith, spaced-fits thread (spaced object line-break), spaced-fits object line-break)
+written-fits (Writes.timed-wait {thread} {object} {limit} fits fits′ fits″) = omega (arith, three-fit thread object limit)
 written-fits (Writes.step {thread} fits) = omega (arith, spaced-fits thread line-break)
+written-fits Writes.tick = omega arith
 
 pub long-line : (line : List ℕ) → line-limit < length line → read-line line ≡ Malformed
 long-line line long = either-way (read-written line) (λ none. none) (λ written. absurd (omega (arith, written-fits written, long)))

@@ -1,4 +1,4 @@
--- The reader takes the lines that document 01 writes, and no others.
+-- The reader takes the lines that document 01 and request L1 write, and no others.
 use Prim.Native.Nat.{ℕ, zero, suc, _≤_}
 use mathlib.Core.Path.{_≡_, refl, sym, ap, _∙_, subst}
 use mathlib.Core.Logic.{_⊎_, inl, inr}
@@ -14,15 +14,15 @@ use Rattle.laws.specs.{Choice.pick, Count.one-if}
 use Rattle.laws.proofs.Choice.{by-test}
 use Rattle.replay_text.specs.Digits.{decimal}
 use Rattle.replay_text.specs.Bytes.{newline, space}
-use Rattle.replay_lines.specs.Bytes.{letter-L, letter-S}
+use Rattle.replay_lines.specs.Bytes.{letter-C, letter-L, letter-S, letter-V}
 use Rattle.replay_lines.specs.Number.{number-limit, is-digit, read-number, one-byte-more, read-field}
-use Rattle.replay_lines.specs.Grammar.{number-then, field-then, end-line, read-step, read-begin-object, read-begin, operation-of, read-line}
-use Rattle.replay_lines.specs.Grammar.{read-header-reserved, read-header-objects, read-header}
+use Rattle.replay_lines.specs.Grammar.{number-then, field-then, end-line, read-step, timed-wait, read-begin-limit, read-begin-object, read-begin}
+use Rattle.replay_lines.specs.Grammar.{read-header-reserved, read-header-objects, read-header, operation-of, read-line}
 use Rattle.replay_lines.specs.LineText.{spaced, line-break, Letter, Writes}
 use Rattle.replay_lines.specs.declared.number.Number.{Number}
 use Rattle.replay_lines.specs.declared.number.Number.the-variants.{Found, Absent}
 use Rattle.replay_lines.specs.declared.reading.Line.{Line}
-use Rattle.replay_lines.specs.declared.reading.Line.the-variants.{Header, Begin, Step, Malformed}
+use Rattle.replay_lines.specs.declared.reading.Line.the-variants.{Header, Begin, Step, Tick, Malformed}
 use Rattle.replay_lines.proofs.Decimal.{NoDigit, number-read, Starts, number-starts}
 
 -- a field that is written is read, up to what stands behind it
@@ -48,18 +48,27 @@ step-read : (thread : ℕ) → thread ≤ number-limit → read-step (spaced thr
 unfolding read-step
 step-read thread fits = field-read thread line-break _ fits no-digit-break ∙ end-read (Step thread)
 
-begin-object-read : (operation thread object : ℕ) → object ≤ number-limit
-    → read-begin-object operation thread (spaced object line-break) ≡ Begin operation thread object
-unfolding read-begin-object
-begin-object-read operation thread object fits = field-read object line-break _ fits no-digit-break ∙ end-read (Begin operation thread object)
-
-begin-read : (operation thread object : ℕ) → eqb operation 0 ≡ false → thread ≤ number-limit → object ≤ number-limit
-    → read-begin operation (spaced thread (spaced object line-break)) ≡ Begin operation thread object
-unfolding read-begin
-begin-read operation thread object some fits fits′ =
+-- thread and object of any operation, up to what stands behind them
+begin-read : (operation thread object : ℕ) (rest : List ℕ) → eqb operation 0 ≡ false → thread ≤ number-limit → object ≤ number-limit → NoDigit rest
+    → read-begin operation (spaced thread (spaced object rest)) ≡ read-begin-limit operation thread object rest
+unfolding read-begin read-begin-object
+begin-read operation thread object rest some fits fits′ none =
     rw some
-    (field-read thread (spaced object line-break) (read-begin-object operation) fits (no-digit-space (decimal object ++ line-break))
-    ∙ begin-object-read operation thread object fits′)
+    (field-read thread (spaced object rest) (read-begin-object operation) fits (no-digit-space (decimal object ++ rest))
+    ∙ field-read object rest (read-begin-limit operation thread) fits′ none)
+
+plain-read : (operation thread object : ℕ) → eqb operation 0 ≡ false → eqb operation timed-wait ≡ false → thread ≤ number-limit → object ≤ number-limit
+    → read-begin operation (spaced thread (spaced object line-break)) ≡ Begin operation thread object 0
+unfolding read-begin-limit
+plain-read operation thread object some plain fits fits′ =
+    begin-read operation thread object line-break some fits fits′ no-digit-break ∙ rw plain (end-read (Begin operation thread object 0))
+
+timed-read : (thread object limit : ℕ) → thread ≤ number-limit → object ≤ number-limit → limit ≤ number-limit
+    → read-begin timed-wait (spaced thread (spaced object (spaced limit line-break))) ≡ Begin timed-wait thread object limit
+unfolding read-begin-limit
+timed-read thread object limit fits fits′ fits″ =
+    begin-read timed-wait thread object (spaced limit line-break) refl fits fits′ (no-digit-space (decimal limit ++ line-break))
+    ∙ field-read limit line-break _ fits″ no-digit-break ∙ end-read (Begin timed-wait thread object limit)
 
 header-reserved-read : (threads objects : ℕ) (reserved : Bool)
     → read-header-reserved threads objects (spaced (one-if reserved) line-break) ≡ Header threads objects reserved
@@ -76,16 +85,18 @@ header-read threads objects reserved fits fits′ =
     ∙ field-read objects last (read-header-reserved threads) fits′ (no-digit-space (decimal (one-if reserved) ++ line-break))
     ∙ header-reserved-read threads objects reserved
 
--- EACH LINE OF DOCUMENT 01 IS READ
+-- EACH LINE OF DOCUMENT 01 AND REQUEST L1 IS READ
 pub written-read : {line : Line} {text : List ℕ} → Writes line text → read-line text ≡ line
 unfolding read-line operation-of
 written-read (Writes.header {threads} {objects} {reserved} fits fits′) = header-read threads objects reserved fits fits′
-written-read (Writes.begin {thread = thread} {object} Letter.enter fits fits′) = begin-read 1 thread object refl fits fits′
-written-read (Writes.begin {thread = thread} {object} Letter.exit fits fits′) = begin-read 2 thread object refl fits fits′
-written-read (Writes.begin {thread = thread} {object} Letter.wait fits fits′) = begin-read 3 thread object refl fits fits′
-written-read (Writes.begin {thread = thread} {object} Letter.notify fits fits′) = begin-read 4 thread object refl fits fits′
-written-read (Writes.begin {thread = thread} {object} Letter.notify-all fits fits′) = begin-read 5 thread object refl fits fits′
+written-read (Writes.begin {thread = thread} {object} Letter.enter fits fits′) = plain-read 1 thread object refl refl fits fits′
+written-read (Writes.begin {thread = thread} {object} Letter.exit fits fits′) = plain-read 2 thread object refl refl fits fits′
+written-read (Writes.begin {thread = thread} {object} Letter.wait fits fits′) = plain-read 3 thread object refl refl fits fits′
+written-read (Writes.begin {thread = thread} {object} Letter.notify fits fits′) = plain-read 4 thread object refl refl fits fits′
+written-read (Writes.begin {thread = thread} {object} Letter.notify-all fits fits′) = plain-read 5 thread object refl refl fits fits′
+written-read (Writes.timed-wait {thread} {object} {limit} fits fits′ fits″) = timed-read thread object limit fits fits′ fits″
 written-read (Writes.step {thread} fits) = step-read thread fits
+written-read Writes.tick = end-read Tick
 
 -- what is read of a field is written there: what holds of malformed lines and behind each written field holds behind the field
 number-form : (number : Number) (byte : ℕ) (text : List ℕ) (next : ℕ → List ℕ → Line) (P : Line → Type 0) → byte ≡ space → Starts text number
@@ -115,7 +126,39 @@ end-form (byte ∷ more ∷ text) line P none some = none
 abbrev Form : List ℕ → Line → Type 0
 Form text line = (line ≡ Malformed) ⊎ Writes line text
 
+-- the letters that begin an operation: those with no limit, and that of the timed wait
+data Opens : ℕ → ℕ → Type 0 where
+  plain : {operation letter : ℕ} → Letter operation letter → Opens operation letter
+  timed : Opens timed-wait letter-V
+
+no-limit : {operation letter : ℕ} → Letter operation letter → eqb operation timed-wait ≡ false
+no-limit Letter.enter = refl
+no-limit Letter.exit = refl
+no-limit Letter.wait = refl
+no-limit Letter.notify = refl
+no-limit Letter.notify-all = refl
+
+limit-form : {operation letter : ℕ} (text : List ℕ) (thread object : ℕ) (rest : List ℕ) → Opens operation letter → thread ≤ number-limit
+    → object ≤ number-limit → text ≡ spaced thread (spaced object rest) → Form (letter ∷ text) (read-begin-limit operation thread object rest)
+unfolding read-begin-limit
+limit-form {operation} {letter} text thread object rest (Opens.plain named) fits fits′ same =
+    rw (no-limit named)
+    (end-form rest (Begin operation thread object 0) (Form (letter ∷ text)) (inl refl) (λ last.
+    let whole = same ∙ ap (λ (x : List ℕ). spaced thread (spaced object x)) last in
+    inr (subst (λ (x : List ℕ). Writes (Begin operation thread object 0) (letter ∷ x)) (sym whole) (Writes.begin named fits fits′))))
+limit-form text thread object rest Opens.timed fits fits′ same =
+    field-form rest _ (Form (letter-V ∷ text)) (inl refl) (λ limit end fits″ third.
+    end-form end (Begin timed-wait thread object limit) (Form (letter-V ∷ text)) (inl refl) (λ last.
+    let whole = same ∙ ap (λ (x : List ℕ). spaced thread (spaced object x)) (third ∙ ap (spaced limit) last) in
+    inr (subst (λ (x : List ℕ). Writes (Begin timed-wait thread object limit) (letter-V ∷ x)) (sym whole) (Writes.timed-wait fits fits′ fits″))))
+
 module _ (letter : ℕ) (text : List ℕ) where
+  tick-form : letter ≡ letter-C → Form (letter ∷ text) (end-line text Tick)
+  tick-form same =
+      end-form text Tick (Form (letter ∷ text)) (inl refl) (λ last.
+      let whole : letter ∷ text ≡ letter-C ∷ line-break = ap (λ (x : ℕ). x ∷ text) same ∙ ap (λ (x : List ℕ). letter-C ∷ x) last in
+      inr (subst (λ (x : List ℕ). Writes Tick x) (sym whole) Writes.tick))
+
   step-form : letter ≡ letter-S → Form (letter ∷ text) (read-step text)
   unfolding read-step
   step-form same =
@@ -125,17 +168,14 @@ module _ (letter : ℕ) (text : List ℕ) where
       ap (λ (x : ℕ). x ∷ text) same ∙ ap (λ (x : List ℕ). letter-S ∷ x) (first ∙ ap (spaced thread) last) in
       inr (subst (λ (x : List ℕ). Writes (Step thread) x) (sym whole) (Writes.step fits))))
 
-  begin-form : (operation : ℕ) → (operation ≡ 0) ⊎ Letter operation letter → Form (letter ∷ text) (read-begin operation text)
+  begin-form : (operation : ℕ) → (operation ≡ 0) ⊎ Opens operation letter → Form (letter ∷ text) (read-begin operation text)
   unfolding read-begin read-begin-object
   begin-form operation (inl none) = rw none (inl refl)
-  begin-form operation (inr named) =
+  begin-form operation (inr opens) =
       by-test (Form (letter ∷ text)) (eqb operation 0) (λ zero-number. inl refl)
       (λ some. field-form text _ (Form (letter ∷ text)) (inl refl) (λ thread rest fits first.
       field-form rest _ (Form (letter ∷ text)) (inl refl) (λ object end fits′ second.
-      end-form end (Begin operation thread object) (Form (letter ∷ text)) (inl refl) (λ last.
-      let whole : letter ∷ text ≡ letter ∷ spaced thread (spaced object line-break) =
-      ap (λ (x : List ℕ). letter ∷ x) (first ∙ ap (spaced thread) (second ∙ ap (spaced object) last)) in
-      inr (subst (λ (x : List ℕ). Writes (Begin operation thread object) x) (sym whole) (Writes.begin named fits fits′))))))
+      limit-form text thread object end opens fits fits′ (first ∙ ap (spaced thread) second))))
 
   header-form : letter ≡ letter-L → Form (letter ∷ text) (read-header text)
   unfolding read-header read-header-objects read-header-reserved
@@ -157,23 +197,27 @@ module _ (letter : ℕ) (text : List ℕ) where
       one-bit (suc zero) small = refl
       one-bit (suc (suc r)) small = absurd (omega arith)
 
-letter-form : (letter : ℕ) → (operation-of letter ≡ 0) ⊎ Letter (operation-of letter) letter
+letter-form : (letter : ℕ) → (operation-of letter ≡ 0) ⊎ Opens (operation-of letter) letter
 unfolding operation-of
 letter-form letter =
-    named Letter.enter
-    (named Letter.exit (named Letter.wait (named Letter.notify (named Letter.notify-all (let none : (0 ≡ 0) ⊎ Letter 0 letter = inl refl in none)))))
+    named (Opens.plain Letter.enter)
+    (named (Opens.plain Letter.exit)
+    (named (Opens.plain Letter.wait)
+    (named (Opens.plain Letter.notify)
+    (named (Opens.plain Letter.notify-all) (named Opens.timed (let none : (0 ≡ 0) ⊎ Opens 0 letter = inl refl in none))))))
   where
-    named : {operation byte other : ℕ} → Letter operation byte → (other ≡ 0) ⊎ Letter other letter
-        → (pick (eqb letter byte) operation other ≡ 0) ⊎ Letter (pick (eqb letter byte) operation other) letter
+    named : {operation byte other : ℕ} → Opens operation byte → (other ≡ 0) ⊎ Opens other letter
+        → (pick (eqb letter byte) operation other ≡ 0) ⊎ Opens (pick (eqb letter byte) operation other) letter
     named {operation} {byte} is rest =
-        by-test (λ n. (n ≡ 0) ⊎ Letter n letter) (eqb letter byte)
-        (λ same. inr (subst (λ (l : ℕ). Letter operation l) (sym (eqb-true letter byte same)) is)) (λ away. rest)
+        by-test (λ n. (n ≡ 0) ⊎ Opens n letter) (eqb letter byte)
+        (λ same. inr (subst (λ (l : ℕ). Opens operation l) (sym (eqb-true letter byte same)) is)) (λ away. rest)
 
--- A LINE THAT IS READ IS ONE OF DOCUMENT 01
+-- A LINE THAT IS READ IS ONE OF DOCUMENT 01 OR REQUEST L1
 pub read-written : (text : List ℕ) → (read-line text ≡ Malformed) ⊎ Writes (read-line text) text
 unfolding read-line
 read-written [] = inl refl
 read-written (letter ∷ text) =
     by-test (Form (letter ∷ text)) (eqb letter letter-L) (λ same. header-form letter text (eqb-true letter letter-L same))
     (λ other. by-test (Form (letter ∷ text)) (eqb letter letter-S) (λ same. step-form letter text (eqb-true letter letter-S same))
-    (λ away. begin-form letter text (operation-of letter) (letter-form letter)))
+    (λ away. by-test (Form (letter ∷ text)) (eqb letter letter-C) (λ same. tick-form letter text (eqb-true letter letter-C same))
+    (λ none. begin-form letter text (operation-of letter) (letter-form letter))))

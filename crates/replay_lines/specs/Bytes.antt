@@ -7,6 +7,9 @@ digit-nine = 57
 abbrev pub letter-A : ℕ
 letter-A = 65
 
+abbrev pub letter-C : ℕ
+letter-C = 67
+
 abbrev pub letter-E : ℕ
 letter-E = 69
 
@@ -18,6 +21,9 @@ letter-N = 78
 
 abbrev pub letter-S : ℕ
 letter-S = 83
+
+abbrev pub letter-V : ℕ
+letter-V = 86
 
 abbrev pub letter-W : ℕ
 letter-W = 87

@@ -1,8 +1,10 @@
-// The line reader of the replay program (document 01, "The replay program"): what one line says, and where it ends.
+// The line reader of the replay program (document 01, "The replay program"; V and C: request L1): what one line says, and where it ends.
 //
 //   L threads objects r     the header; r is 1 for reserved words, 0 for free ones
 //   E thread object         enter; X exit, W wait, N notify, A notify all
+//   V thread object limit   timed wait
 //   S thread                one step
+//   C                       one tick of the clock
 //
 // Each reader gets the part of the line that starts where it reads, and hands on the part behind what it has read.
 mod bytes;

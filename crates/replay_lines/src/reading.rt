@@ -1,16 +1,21 @@
 // What a line says. The letter picks the reader; each reader takes one field and hands the rest to the next.
 use crate::bytes::LETTER_A;
+use crate::bytes::LETTER_C;
 use crate::bytes::LETTER_E;
 use crate::bytes::LETTER_L;
 use crate::bytes::LETTER_N;
 use crate::bytes::LETTER_S;
+use crate::bytes::LETTER_V;
 use crate::bytes::LETTER_W;
 use crate::bytes::LETTER_X;
 use crate::number::Number;
 use crate::number::read_field;
 ghost use mathlib.Core.Path.{_≡_};
-ghost use Rattle.replay_lines.specs.Grammar.{end-line, read-step, read-begin, read-begin-object, read-header, read-header-objects, read-header-reserved, operation-of, read-line};
+ghost use Rattle.replay_lines.specs.Grammar.{end-line, read-step, read-begin, read-begin-object, read-begin-limit, read-header, read-header-objects, read-header-reserved, operation-of, read-line};
 use replay_text::NEWLINE;
+
+// The number of the one operation that has a limit.
+const TIMED_WAIT: u8 = 6;
 
 pub enum Line {
     Header {
@@ -18,15 +23,19 @@ pub enum Line {
         objects: u16,
         reserved: bool,
     },
-    // document 01's number of the operation: 1 enter, 2 exit, 3 wait, 4 notify, 5 notify all
+    // document 01's number of the operation: 1 enter, 2 exit, 3 wait, 4 notify, 5 notify all; request L1's: 6 timed wait
     Begin {
         operation: u8,
         thread: u16,
         object: u16,
+        // of a timed wait; 0 for the others
+        limit: u16,
     },
     Step {
         thread: u16,
     },
+    // one tick of the clock
+    Tick,
     Malformed,
 }
 
@@ -73,12 +82,34 @@ fn read_begin_object(operation: u8, thread: u16, text: &[u8]) -> Line
     let Number::Found { value, length } = read_field(text) else {
         return Line::Malformed;
     };
+    read_begin_limit(operation, thread, value, &text[length..])
+}
+
+// Behind the object: the limit of a timed wait, or the end of the line.
+fn read_begin_limit(operation: u8, thread: u16, object: u16, text: &[u8]) -> Line
+    ensures { λ r. ⌜ r ≡ read-begin-limit operation thread object (now (text .entry)) ⌝ }
+{
+    if operation != TIMED_WAIT {
+        return end_line(
+            text,
+            Line::Begin {
+                operation: operation,
+                thread: thread,
+                object: object,
+                limit: 0,
+            },
+        );
+    }
+    let Number::Found { value, length } = read_field(text) else {
+        return Line::Malformed;
+    };
     end_line(
         &text[length..],
         Line::Begin {
             operation: operation,
             thread: thread,
-            object: value,
+            object: object,
+            limit: value,
         },
     )
 }
@@ -142,6 +173,9 @@ fn operation_of(letter: u8) -> u8
     if letter == LETTER_A {
         return 5;
     }
+    if letter == LETTER_V {
+        return TIMED_WAIT;
+    }
     0
 }
 
@@ -159,6 +193,9 @@ pub fn read_line(line: &[u8]) -> Line
     }
     if letter == LETTER_S {
         return read_step(text);
+    }
+    if letter == LETTER_C {
+        return end_line(text, Line::Tick);
     }
     read_begin(operation_of(letter), text)
 }

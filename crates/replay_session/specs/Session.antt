@@ -1,4 +1,4 @@
--- The session of a replay and what each line does to it (document 01, "The replay program"), by the engine's own begin and step.
+-- The session of a replay and what each line does to it (document 01, "The replay program"), by the engine's own begin, step and tick.
 use Prim.Native.Nat.{ℕ}
 use mathlib.Core.Bool.{Bool, true, false}
 use lib.Dec.{leb}
@@ -11,13 +11,13 @@ use Rattle.lock_table.specs.declared.fresh_table.FreshAnswer.{FreshAnswer}
 use Rattle.lock_table.specs.declared.fresh_table.FreshAnswer.the-variants.{Made, SizeOutOfRange}
 use Rattle.lock_rules.specs.Numbers.{first-refusal}
 use Rattle.lock_engine.specs.Outcome.{reply-returned, reply-woken}
-use Rattle.lock_engine.specs.Handle.{begin, step}
+use Rattle.lock_engine.specs.Handle.{begin, step, tick-event}
 use Rattle.lock_engine.specs.declared.outcome.Outcome.{Outcome}
 use Rattle.replay_lines.specs.declared.reading.Line.{Line}
-use Rattle.replay_lines.specs.declared.reading.Line.the-variants.{Header, Begin, Step, Malformed}
+use Rattle.replay_lines.specs.declared.reading.Line.the-variants.{Header, Begin, Step, Tick, Malformed}
 use Rattle.replay_text.specs.Text.{answer-text}
 use Rattle.replay_text.specs.declared.answer.Answer.{Answer}
-use Rattle.replay_text.specs.declared.answer.Answer.the-variants.{Silent, Refused, Accepted}
+use Rattle.replay_text.specs.declared.answer.Answer.the-variants.{Silent, Alone, Accepted}
 use Rattle.replay_parts.specs.Replay.{Replay}
 use Rattle.replay_session.specs.declared.session.Stage.{Stage}
 use Rattle.replay_session.specs.declared.session.Stage.the-variants.{Opening, Running, Over}
@@ -40,13 +40,14 @@ staying stage table answer = record { session = record { stage = stage; table = 
 -- a good header prints nothing; one with bad sizes the fresh table's number, 22, and ends the run
 unfoldable pub opened-by : FreshAnswer → Table → Reaction
 opened-by Made table = staying Running table Silent
-opened-by SizeOutOfRange table = staying Over table (Refused (fresh-returned SizeOutOfRange))
+opened-by SizeOutOfRange table = staying Over table (Alone (fresh-returned SizeOutOfRange))
 
 unfoldable pub open-by : Table → Line → Reaction
 open-by table (Header threads objects reserved) = let made = fresh-of (sized-request threads objects reserved) in opened-by (made .answer) (made .table)
-open-by table (Begin operation thread object) = staying Over table (Refused malformed)
-open-by table (Step thread) = staying Over table (Refused malformed)
-open-by table Malformed = staying Over table (Refused malformed)
+open-by table (Begin operation thread object limit) = staying Over table (Alone malformed)
+open-by table (Step thread) = staying Over table (Alone malformed)
+open-by table Tick = staying Over table (Alone malformed)
+open-by table Malformed = staying Over table (Alone malformed)
 
 abbrev pub phase-of : Table → ℕ → ℕ
 phase-of table thread = phase-number (thread-at table thread .phase)
@@ -56,7 +57,7 @@ word-of table object = object-at table object .word
 
 -- a refused event prints its number alone; else returned, phase, woken, word
 unfoldable pub answer-from : ℕ → ℕ → ℕ → ℕ → ℕ → Answer
-answer-from first number phase woken word = pick (leb first number) (Refused number) (Accepted number phase woken word)
+answer-from first number phase woken word = pick (leb first number) (Alone number) (Accepted number phase woken word)
 
 abbrev pub answer-with : ℕ → ℕ → ℕ → ℕ → Answer
 answer-with number phase woken word = answer-from first-refusal number phase woken word
@@ -66,18 +67,23 @@ after-event outcome thread object =
     staying Running (outcome .table)
     (answer-with (reply-returned (outcome .reply)) (phase-of (outcome .table) thread) (reply-woken (outcome .reply)) (word-of (outcome .table) object))
 
-abbrev pub begun-by : Table → ℕ → ℕ → ℕ → Reaction
-begun-by table thread operation object = after-event (begin table thread operation object) thread object
+-- a tick prints its number alone, refused or not
+abbrev pub after-tick : Outcome → Reaction
+after-tick outcome = staying Running (outcome .table) (Alone (reply-returned (outcome .reply)))
+
+abbrev pub begun-by : Table → ℕ → ℕ → ℕ → ℕ → Reaction
+begun-by table thread operation object limit = after-event (begin table thread operation object limit) thread object
 
 -- the object of the operation that the thread was in, also when it has just finished
 abbrev pub stepped-by : Table → ℕ → Reaction
 stepped-by table thread = after-event (step table thread) thread (thread-at table thread .object)
 
 unfoldable pub run-of : Table → Line → Reaction
-run-of table (Header threads objects reserved) = staying Running table (Refused malformed)
-run-of table (Begin operation thread object) = begun-by table thread operation object
+run-of table (Header threads objects reserved) = staying Running table (Alone malformed)
+run-of table (Begin operation thread object limit) = begun-by table thread operation object limit
 run-of table (Step thread) = stepped-by table thread
-run-of table Malformed = staying Running table (Refused malformed)
+run-of table Tick = after-tick (tick-event table)
+run-of table Malformed = staying Running table (Alone malformed)
 
 unfoldable pub react-at-stage : Stage → Table → Line → Reaction
 react-at-stage Opening table line = open-by table line
@@ -89,7 +95,7 @@ react-of session line = react-at-stage (session .stage) (session .table) line
 
 -- the end of the input: a header that never came is missing
 unfoldable pub closing-by : Stage → Table → Reaction
-closing-by Opening table = staying Over table (Refused malformed)
+closing-by Opening table = staying Over table (Alone malformed)
 closing-by Running table = staying Running table Silent
 closing-by Over table = staying Over table Silent
 

@@ -6,7 +6,7 @@ pub use reacting::Reaction;
 pub use reacting::closing;
 pub use reacting::line_event;
 pub use reacting::react_trusting;
-pub use reacting::runs_event;
+pub use reacting::runs_thread_event;
 pub use reacting::turn_answer;
 pub use session::Session;
 pub use session::Stage;

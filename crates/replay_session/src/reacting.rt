@@ -3,12 +3,12 @@ use crate::session::Session;
 use crate::session::Stage;
 use lock_engine::Outcome;
 use lock_engine::Reply;
-use lock_engine::event_object;
-use lock_engine::event_thread;
 use lock_engine::handle_trusting;
 use lock_engine::refusal_number;
 use lock_engine::returned;
 use lock_engine::woken;
+use lock_gate::event_object;
+use lock_gate::event_thread;
 use lock_rules::Event;
 use lock_rules::Refusal;
 use lock_table::FreshAnswer;
@@ -26,8 +26,8 @@ use replay_lines::Line;
 use replay_text::Answer;
 ghost use mathlib.Core.Path.{_≡_};
 ghost use Rattle.lock_rules.specs.Numbers.{first-refusal};
-ghost use Rattle.replay_session.specs.Session.{staying, opened-by, open-by, phase-of, word-of, answer-from, answer-with, after-event, closing-by, closing-of};
-ghost use Rattle.replay_session.specs.Trusting.{event-known, line-event, is-event, runs-event, turn-answer, run-by, react-by, react-trusting};
+ghost use Rattle.replay_session.specs.Session.{staying, opened-by, open-by, phase-of, word-of, answer-from, answer-with, after-event, after-tick, closing-by, closing-of};
+ghost use Rattle.replay_session.specs.Trusting.{event-known, line-event, is-thread-event, runs-thread-event, turn-answer, run-by, react-by, react-trusting};
 
 pub struct Reaction {
     pub session: Session,
@@ -56,7 +56,7 @@ fn opened(answer: FreshAnswer, table: Table) -> Reaction
         FreshAnswer::SizeOutOfRange => stay(
             Stage::Over,
             table,
-            Answer::Refused {
+            Answer::Alone {
                 number: fresh_returned(answer) as u16,
             },
         ),
@@ -85,9 +85,11 @@ fn open_by(table: Table, line: Line) -> Reaction
             operation: _,
             thread: _,
             object: _,
-        } => stay(Stage::Over, table, Answer::Refused { number: MALFORMED }),
-        Line::Step { thread: _ } => stay(Stage::Over, table, Answer::Refused { number: MALFORMED }),
-        Line::Malformed => stay(Stage::Over, table, Answer::Refused { number: MALFORMED }),
+            limit: _,
+        } => stay(Stage::Over, table, Answer::Alone { number: MALFORMED }),
+        Line::Step { thread: _ } => stay(Stage::Over, table, Answer::Alone { number: MALFORMED }),
+        Line::Tick => stay(Stage::Over, table, Answer::Alone { number: MALFORMED }),
+        Line::Malformed => stay(Stage::Over, table, Answer::Alone { number: MALFORMED }),
     }
 }
 
@@ -118,7 +120,7 @@ fn answer_from(first: u8, number: u8, phase: u8, woken: u8, word: u32) -> Answer
     ensures { λ r. ⌜ r ≡ answer-from first number phase woken word ⌝ }
 {
     if first <= number {
-        return Answer::Refused {
+        return Answer::Alone {
             number: number as u16,
         };
     }
@@ -163,6 +165,21 @@ fn event_by(table: Table, event: Event, issound: bool) -> Reaction
     )
 }
 
+// A tick prints its number alone, refused or not.
+fn after_tick(outcome: Outcome) -> Reaction
+    ensures { λ r. ⌜ r ≡ after-tick outcome ⌝ }
+{
+    let table = outcome.table;
+    let reply = outcome.reply;
+    stay(
+        Stage::Running,
+        table,
+        Answer::Alone {
+            number: returned(reply) as u16,
+        },
+    )
+}
+
 // A line behind a good header.
 fn run_by(table: Table, line: Line, issound: bool) -> Reaction
     ensures { λ r. ⌜ r ≡ run-by table line issound ⌝ }
@@ -172,17 +189,19 @@ fn run_by(table: Table, line: Line, issound: bool) -> Reaction
             threads: _,
             objects: _,
             reserved: _,
-        } => stay(Stage::Running, table, Answer::Refused { number: MALFORMED }),
+        } => stay(Stage::Running, table, Answer::Alone { number: MALFORMED }),
         Line::Begin {
             operation,
             thread,
             object,
+            limit,
         } => event_by(
             table,
             Event::Begin {
                 operation: operation,
                 thread: narrow(thread as u32),
                 object: narrow(object as u32),
+                limit: limit as u32,
             },
             issound,
         ),
@@ -193,7 +212,8 @@ fn run_by(table: Table, line: Line, issound: bool) -> Reaction
             },
             issound,
         ),
-        Line::Malformed => stay(Stage::Running, table, Answer::Refused { number: MALFORMED }),
+        Line::Tick => after_tick(handle_trusting(table, Event::Tick, issound)),
+        Line::Malformed => stay(Stage::Running, table, Answer::Alone { number: MALFORMED }),
     }
 }
 
@@ -217,7 +237,7 @@ pub fn react_trusting(session: Session, line: Line, issound: bool) -> Reaction
     react_by(stage, table, line, issound)
 }
 
-// The event that a line asks for; of other lines the answer is not used.
+// The event of a thread that a line asks for; of other lines the answer is not used.
 pub fn line_event(line: Line) -> Event
     ensures { λ r. ⌜ r ≡ line-event line ⌝ }
 {
@@ -231,20 +251,23 @@ pub fn line_event(line: Line) -> Event
             operation,
             thread,
             object,
+            limit,
         } => Event::Begin {
             operation: operation,
             thread: narrow(thread as u32),
             object: narrow(object as u32),
+            limit: limit as u32,
         },
         Line::Step { thread } => Event::Step {
             thread: narrow(thread as u32),
         },
+        Line::Tick => Event::Step { thread: 0 },
         Line::Malformed => Event::Step { thread: 0 },
     }
 }
 
-fn is_event(line: Line) -> bool
-    ensures { λ r. ⌜ r ≡ is-event line ⌝ }
+fn is_thread_event(line: Line) -> bool
+    ensures { λ r. ⌜ r ≡ is-thread-event line ⌝ }
 {
     match line {
         Line::Header {
@@ -256,19 +279,22 @@ fn is_event(line: Line) -> bool
             operation: _,
             thread: _,
             object: _,
+            limit: _,
         } => true,
         Line::Step { thread: _ } => true,
+        Line::Tick => false,
         Line::Malformed => false,
     }
 }
 
-// Whether a line is an event of a running session, which a caller may carry out in place.
-pub fn runs_event(stage: Stage, line: Line) -> bool
-    ensures { λ r. ⌜ r ≡ runs-event stage line ⌝ }
+// Whether a line is an event of a thread in a running session, which a caller may carry out in place. A tick, which touches every object, is left to
+// react_trusting.
+pub fn runs_thread_event(stage: Stage, line: Line) -> bool
+    ensures { λ r. ⌜ r ≡ runs-thread-event stage line ⌝ }
 {
     match stage {
         Stage::Opening => false,
-        Stage::Running => is_event(line),
+        Stage::Running => is_thread_event(line),
         Stage::Over => false,
     }
 }
@@ -284,7 +310,7 @@ fn closing_by(stage: Stage, table: Table) -> Reaction
     ensures { λ r. ⌜ r ≡ closing-by stage table ⌝ }
 {
     match stage {
-        Stage::Opening => stay(Stage::Over, table, Answer::Refused { number: MALFORMED }),
+        Stage::Opening => stay(Stage::Over, table, Answer::Alone { number: MALFORMED }),
         Stage::Running => stay(Stage::Running, table, Answer::Silent),
         Stage::Over => stay(Stage::Over, table, Answer::Silent),
     }

@@ -17,11 +17,12 @@ unfolding narrow-of
 narrow-twice n = narrowed narrow-of (λ k past. rw (lt-ltb 255 k past) refl) n
 
 module _ (table : Table) where
-  begun : (thread operation object : ℕ) → begin table (narrow-of thread) operation (narrow-of object) ≡ begin table thread operation object
-  begun thread operation object =
-      sym (narrow-begin table (narrow-of thread) operation (narrow-of object))
-      ∙ ap (λ (n : ℕ). begin table n (narrow-of operation) (narrow-of (narrow-of object))) (narrow-twice thread)
-      ∙ ap (λ (n : ℕ). begin table (narrow-of thread) (narrow-of operation) n) (narrow-twice object) ∙ narrow-begin table thread operation object
+  begun : (thread operation object limit : ℕ)
+      → begin table (narrow-of thread) operation (narrow-of object) limit ≡ begin table thread operation object limit
+  begun thread operation object limit =
+      sym (narrow-begin table (narrow-of thread) operation (narrow-of object) limit)
+      ∙ ap (λ (n : ℕ). begin table n (narrow-of operation) (narrow-of (narrow-of object)) limit) (narrow-twice thread)
+      ∙ ap (λ (n : ℕ). begin table (narrow-of thread) (narrow-of operation) n limit) (narrow-twice object) ∙ narrow-begin table thread operation object limit
 
 -- what is printed of the thread and of the object
 narrow-phase : (outcome : Outcome) (thread object : ℕ) → after-event outcome (narrow-of thread) object ≡ after-event outcome thread object
@@ -33,11 +34,11 @@ narrow-word outcome thread object =
     (answer-with (reply-returned (outcome .reply)) (phase-of (outcome .table) thread) (reply-woken (outcome .reply)) (at .word)))
     (narrow-object (outcome .table) object)
 
-pub narrow-begun : (table : Table) (thread operation object : ℕ)
-    → begun-by table (narrow-of thread) operation (narrow-of object) ≡ begun-by table thread operation object
-narrow-begun table thread operation object =
-    ap (λ (outcome : Outcome). after-event outcome (narrow-of thread) (narrow-of object)) (begun table thread operation object)
-    ∙ narrow-phase (begin table thread operation object) thread (narrow-of object) ∙ narrow-word (begin table thread operation object) thread object
+pub narrow-begun : (table : Table) (thread operation object limit : ℕ)
+    → begun-by table (narrow-of thread) operation (narrow-of object) limit ≡ begun-by table thread operation object limit
+narrow-begun table thread operation object limit =
+    ap (λ (outcome : Outcome). after-event outcome (narrow-of thread) (narrow-of object)) (begun table thread operation object limit)
+    ∙ narrow-phase (begin table thread operation object limit) thread (narrow-of object) ∙ narrow-word (begin table thread operation object limit) thread object
 
 pub narrow-stepped : (table : Table) (thread : ℕ) → stepped-by table (narrow-of thread) ≡ stepped-by table thread
 narrow-stepped table thread =

@@ -5,7 +5,7 @@ use mathlib.Core.Logic.{_⊎_, inl, inr}
 use mathlib.Core.Bool.{Bool, true, false}
 use mathlib.Core.List.{[]}
 use Rattle.lock_rules.specs.declared.event.Event.{Event}
-use Rattle.lock_rules.specs.declared.event.Event.the-variants.{Begin as BeginEvent, Step as StepEvent}
+use Rattle.lock_rules.specs.declared.event.Event.the-variants.{Begin as BeginEvent, Step as StepEvent, Tick as TickEvent}
 use Rattle.lock_table.specs.{Access.thread-at, WellTyped.WellTyped, Narrow.narrow-of}
 use Rattle.lock_table.specs.Fresh.{sized-request, refused-of, InRange, fresh-of}
 use Rattle.lock_table.proofs.FreshTables.{fresh-made, fresh-either}
@@ -22,9 +22,9 @@ use Rattle.lock_engine.proofs.Refused.{handle-shut}
 use Rattle.lock_schedule.proofs.FreshWellTyped.{fresh-well-typed}
 use Rattle.lock_schedule.proofs.Theorem.{reached-sound, sound-kept, well-typed-kept}
 use Rattle.replay_lines.specs.declared.reading.Line.{Line}
-use Rattle.replay_lines.specs.declared.reading.Line.the-variants.{Header, Begin, Step, Malformed}
+use Rattle.replay_lines.specs.declared.reading.Line.the-variants.{Header, Begin, Step, Tick, Malformed}
 use Rattle.replay_stream.proofs.Numbers.{narrow-begun, narrow-stepped}
-use Rattle.replay_session.specs.Session.{opened-by, open-by, after-event, run-of, react-at-stage, react-of}
+use Rattle.replay_session.specs.Session.{opened-by, open-by, after-event, after-tick, run-of, react-at-stage, react-of}
 use Rattle.replay_session.specs.Trusting.{sound-by, session-sound, run-by, react-by, react-trusting}
 use Rattle.replay_session.specs.declared.session.{Stage.Stage, Session.Session}
 use Rattle.replay_session.specs.declared.session.Stage.the-variants.{Opening, Running, Over}
@@ -37,15 +37,16 @@ event-told table known event = ap (handle-trusting table event) known
 run-known : (table : Table) {issound : Bool} → issound ≡ sound-of table → (line : Line) → run-by table line issound ≡ run-of table line
 unfolding run-by run-of
 run-known table known (Header threads objects reserved) = refl
-run-known table known (Begin operation thread object) =
+run-known table known (Begin operation thread object limit) =
     let number = narrow-of thread in
     let place = narrow-of object in
-    ap (λ (outcome : Outcome). after-event outcome number place) (event-told table known (BeginEvent operation number place))
-    ∙ narrow-begun table thread operation object
+    ap (λ (outcome : Outcome). after-event outcome number place) (event-told table known (BeginEvent operation number place limit))
+    ∙ narrow-begun table thread operation object limit
 run-known table known (Step thread) =
     let number = narrow-of thread in
     ap (λ (outcome : Outcome). after-event outcome number (thread-at table number .object)) (event-told table known (StepEvent number))
     ∙ narrow-stepped table thread
+run-known table known Tick = ap after-tick (event-told table known TickEvent)
 run-known table known Malformed = refl
 
 react-with : (stage : Stage) (table : Table) {issound : Bool} → issound ≡ sound-by stage table → (line : Line) → react-by stage table line issound ≡ react-at-stage stage table line
@@ -65,8 +66,9 @@ refused-same table event unsound = rw unsound (ap (λ (outcome : Outcome). outco
   where
     shut : (event : Event)
         → gate false (table .threadcount) (table .objectcount) event (thread-status (thread-at table (event-thread event) .phase)) ≡ Shut NotSound
-    shut (BeginEvent operation thread object) = refl
+    shut (BeginEvent operation thread object limit) = refl
     shut (StepEvent thread) = refl
+    shut TickEvent = refl
 
 event-same : (table : Table) → WellTyped table → (event : Event) (issound : Bool) → sound-of table ≡ issound → sound-of (handle table event .table) ≡ sound-of table
 event-same table typed event true sound = sound-kept table typed sound event ∙ sym sound
@@ -100,8 +102,9 @@ opens request = at (fresh-either request)
 open-kept : (table : Table) (line : Line) → let session = open-by table line .session in (session-sound session ≡ true) × WellTypedBy (session .stage) (session .table)
 unfolding open-by sound-by
 open-kept table (Header threads objects reserved) = opens (sized-request threads objects reserved)
-open-kept table (Begin operation thread object) = (refl, tt)
+open-kept table (Begin operation thread object limit) = (refl, tt)
 open-kept table (Step thread) = (refl, tt)
+open-kept table Tick = (refl, tt)
 open-kept table Malformed = (refl, tt)
 
 -- an event keeps the table well typed, too
@@ -115,11 +118,13 @@ Kept table session = (session-sound session ≡ sound-of table) × WellTypedBy (
 run-kept : (table : Table) → WellTyped table → (line : Line) → Kept table (run-of table line .session)
 unfolding run-of sound-by
 run-kept table typed (Header threads objects reserved) = (refl, typed)
-run-kept table typed (Begin operation thread object) =
-    let event = BeginEvent operation thread object in
+run-kept table typed (Begin operation thread object limit) =
+    let event = BeginEvent operation thread object limit in
     (event-same table typed event (sound-of table) refl, event-well-typed table typed event (sound-of table) refl)
 run-kept table typed (Step thread) =
     (event-same table typed (StepEvent thread) (sound-of table) refl, event-well-typed table typed (StepEvent thread) (sound-of table) refl)
+run-kept table typed Tick =
+    (event-same table typed TickEvent (sound-of table) refl, event-well-typed table typed TickEvent (sound-of table) refl)
 run-kept table typed Malformed = (refl, typed)
 
 react-kept : (stage : Stage) (table : Table) → WellTypedBy stage table → (line : Line)

@@ -3,11 +3,11 @@ use crate::ending::END_ROOM;
 use crate::ending::take_end;
 use crate::turn::take_line;
 use lock_engine::Turn;
-use lock_engine::event_object;
-use lock_engine::event_thread;
 use lock_engine::turn_with;
 use lock_engine::work_done;
-use lock_perform::stays;
+use lock_engine::work_stays;
+use lock_gate::event_object;
+use lock_gate::event_thread;
 use lock_table::Table;
 use lock_table::object_place;
 use lock_table::thread_place;
@@ -27,7 +27,7 @@ use replay_session::Session;
 use replay_session::Stage;
 use replay_session::line_event;
 use replay_session::react_trusting;
-use replay_session::runs_event;
+use replay_session::runs_thread_event;
 use replay_session::turn_answer;
 use replay_text::Answer;
 use replay_text::LINE_ROOM;
@@ -70,7 +70,7 @@ fn progressed(stage: Stage, table: Table, used: usize, wrote: usize) -> Progress
     }
 }
 
-// A line that runs no event.
+// A line that runs no event of a thread.
 fn react_otherwise(stage: Stage, table: Table, line: Line, issound: bool) -> Reaction
     ensures { λ r. ⌜ r ≡ react-trusting (record { stage = stage; table = table }) line issound ⌝ }
 {
@@ -84,7 +84,7 @@ fn react_otherwise(stage: Stage, table: Table, line: Line, issound: bool) -> Rea
     )
 }
 
-// What is printed of an event.
+// What is printed of an event of a thread.
 fn event_answer(turn: Turn) -> Answer
     ensures { λ r. ⌜ r ≡ turn-answer (turn .reply) (turn .own .phase) (turn .object .word) ⌝ }
 {
@@ -112,7 +112,7 @@ fn take_lines(start: Session, input: &[u8], out: &mut [u8]) -> Progress
         }
         let line = replay_lines::read_line(&rest[..end]);
         rest = &rest[end..];
-        if !runs_event(stage, line) {
+        if !runs_thread_event(stage, line) {
             let reaction = react_otherwise(stage, table, line, issound);
             let session = reaction.session;
             let answer = reaction.answer;
@@ -133,7 +133,7 @@ fn take_lines(start: Session, input: &[u8], out: &mut [u8]) -> Progress
         let objectafter = turn.object;
         let work = turn.work;
         wrote = put_answer(out, wrote, event_answer(turn));
-        if stays(work) {
+        if work_stays(work) {
             table.threads[place] = after;
             table.objects[home] = objectafter;
             continue;

@@ -4,7 +4,7 @@ use mathlib.Core.List.{List, [], _∷_, _++_}
 use Rattle.replay_text.specs.Bytes.{newline, space}
 use Rattle.replay_text.specs.Digits.{digits, decimal}
 use Rattle.replay_text.specs.declared.answer.Answer.{Answer}
-use Rattle.replay_text.specs.declared.answer.Answer.the-variants.{Silent, Refused, Accepted}
+use Rattle.replay_text.specs.declared.answer.Answer.the-variants.{Silent, Alone, Accepted}
 
 -- a number in decimal and the byte behind it
 unfoldable pub field-text : ℕ → ℕ → List ℕ
@@ -14,7 +14,7 @@ field-text number end = decimal number ++ (end ∷ [])
 unfoldable pub word-text : ℕ → List ℕ
 word-text word = digits 16 6 word ++ (newline ∷ [])
 
--- "A refused event prints its number alone"
+-- "A refused event prints its number alone", and so does a tick, refused or not (document 02, L1)
 abbrev pub number-line : ℕ → List ℕ
 number-line number = field-text number newline
 
@@ -26,7 +26,7 @@ answer-line returned phase woken word =
 -- what is printed of one line of the input
 unfoldable pub answer-text : Answer → List ℕ
 answer-text Silent = []
-answer-text (Refused number) = number-line number
+answer-text (Alone number) = number-line number
 answer-text (Accepted returned phase woken word) = answer-line returned phase woken word
 
 -- a field of five digits and the byte behind them

@@ -15,8 +15,8 @@ ghost use Rattle.replay_text.specs.Written.{Wrote, Put};
 pub enum Answer {
     // of a header that opens the schedule, and of what follows the end of the run
     Silent,
-    // of a refused event and of a malformed line: the number alone
-    Refused {
+    // of a refused event, of a malformed line and of a tick: the number alone
+    Alone {
         number: u16,
     },
     Accepted {
@@ -73,7 +73,7 @@ fn put_fields(out: &mut [u8], at: usize, returned: u8, phase: u8, woken: u8, wor
     put_word(out, fourth, word)
 }
 
-// The line of a refused event.
+// The line of a number alone.
 pub fn put_number_line(out: &mut [u8], at: usize, number: u16) -> usize
     ensures { λ r. ⌜ Put (now (out .entry)) (now (out .exit)) at r (number-line number) ⌝ }
 {
@@ -106,7 +106,7 @@ pub fn put_answer(out: &mut [u8], at: usize, answer: Answer) -> usize
 {
     match answer {
         Answer::Silent => at,
-        Answer::Refused { number } => put_number_line(out, at, number),
+        Answer::Alone { number } => put_number_line(out, at, number),
         Answer::Accepted {
             returned,
             phase,

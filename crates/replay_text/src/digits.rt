@@ -1,6 +1,7 @@
 // Numbers as digits: a fixed number of them in any base up to 16, and decimal without a leading zero.
 use crate::bytes::DIGIT_ZERO;
 use crate::bytes::LOWER_A;
+use crate::bytes::put_byte;
 ghost use mathlib.Core.Path.{_≡_};
 ghost use Prim.Native.Nat.{_+_, _≤_, _<_};
 ghost use lib.ListN.{length};
@@ -53,9 +54,13 @@ fn places(number: u16) -> usize
     5
 }
 
+// Most numbers that are printed have one digit.
 pub(crate) fn put_decimal(out: &mut [u8], at: usize, number: u16) -> usize
     requires { ⌜ at + decimal-limit ≤ length (now out) ⌝ }
     ensures { λ r. ⌜ Wrote (now (out .entry)) (now (out .exit)) at r (decimal number) ⌝ }
 {
+    if (number as u32) < DECIMAL {
+        return put_byte(out, at, digit_byte(number as u32));
+    }
     put_digits(out, at, DECIMAL, places(number), number as u32)
 }

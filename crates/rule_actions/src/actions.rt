@@ -86,8 +86,8 @@ pub fn finish_word(sight: Sight, word: WordChange) -> Action
     })
 }
 
-pub fn finish_depth(sight: Sight, depth: Depth) -> Action
-    ensures { λ r. ⌜ r ≡ finish-depth sight depth ⌝ }
+pub fn finish_depth(sight: Sight, depth: Depth, woken: u8) -> Action
+    ensures { λ r. ⌜ r ≡ finish-depth sight depth woken ⌝ }
 {
     Action::Do(Effect {
         work: ChainWork::Stay,
@@ -96,7 +96,7 @@ pub fn finish_depth(sight: Sight, depth: Depth) -> Action
         flag: sight.flag,
         holder: sight.holder,
         depth: depth,
-        answer: Answer::Finished(0),
+        answer: Answer::Finished(woken),
         commits: true,
     })
 }

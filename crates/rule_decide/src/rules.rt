@@ -24,7 +24,14 @@ use rule_monitor::wait_give_up;
 use rule_monitor::wait_inflate;
 use rule_monitor::wait_resume;
 ghost use mathlib.Core.Path.{_≡_};
-ghost use Rattle.lock_rules.specs.Rules.{decide};
+ghost use Rattle.lock_rules.specs.Rules.{owner-only, owner-seen, decide};
+
+// What the object's owner alone may do, by the word that is seen.
+fn by_owner(thread: u8, sight: Sight, action: Action) -> Action
+    ensures { λ r. ⌜ r ≡ owner-only thread sight (owner-seen sight) action ⌝ }
+{
+    owner_only(thread, sight, owner_seen(sight), action)
+}
 
 pub fn decide(thread: u8, sight: Sight, doing: Doing) -> Action
     ensures { λ r. ⌜ r ≡ decide thread sight doing ⌝ }
@@ -37,33 +44,27 @@ pub fn decide(thread: u8, sight: Sight, doing: Doing) -> Action
         Doing::EnterGoIn => go_in(thread, sight, OnwardStep::ToCheck),
         Doing::EnterCheck => holder_only(thread, sight, enter_check(thread, sight, word)),
         Doing::EnterTry => holder_only(thread, sight, enter_try(thread, sight, word)),
-        Doing::ExitLook => owner_only(thread, sight, owner_seen(sight), exit_owned(sight, word)),
+        Doing::ExitLook => by_owner(thread, sight, exit_owned(sight, word)),
         Doing::ExitStore(count) => exit_store(sight, count),
         Doing::ExitGoIn => go_in(thread, sight, OnwardStep::ToTell),
         Doing::ExitTest => exit_test(sight),
         Doing::ExitTell => holder_only(thread, sight, exit_tell(sight)),
         Doing::ExitLeave => holder_only(thread, sight, exit_leave(sight)),
-        Doing::WaitLook => owner_only(thread, sight, owner_seen(sight), wait_owned(sight, word)),
-        Doing::WaitCancel => cancel(sight, Doing::WaitLook, word),
-        Doing::WaitGoIn => go_in(thread, sight, OnwardStep::ToInflate),
-        Doing::WaitInflate => holder_only(thread, sight, wait_inflate(thread, sight, word)),
-        Doing::WaitGiveUp => holder_only(thread, sight, wait_give_up(sight, word)),
+        Doing::WaitLook(limit) => by_owner(thread, sight, wait_owned(sight, limit, word)),
+        Doing::WaitCancel(limit) => cancel(sight, Doing::WaitLook(limit), word),
+        Doing::WaitGoIn(limit) => go_in(thread, sight, OnwardStep::ToInflate(limit)),
+        Doing::WaitInflate(limit) => holder_only(
+            thread,
+            sight,
+            wait_inflate(thread, sight, limit, word),
+        ),
+        Doing::WaitGiveUp(limit) => holder_only(thread, sight, wait_give_up(sight, limit, word)),
         Doing::WaitResume(suspension) => holder_only(
             thread,
             sight,
             wait_resume(sight, suspension, word),
         ),
-        Doing::NotifyLook => owner_only(
-            thread,
-            sight,
-            owner_seen(sight),
-            notify_owned(sight, word),
-        ),
-        Doing::NotifyAllLook => owner_only(
-            thread,
-            sight,
-            owner_seen(sight),
-            notify_all_owned(sight, word),
-        ),
+        Doing::NotifyLook => by_owner(thread, sight, notify_owned(sight, word)),
+        Doing::NotifyAllLook => by_owner(thread, sight, notify_all_owned(sight, word)),
     }
 }

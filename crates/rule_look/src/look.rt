@@ -4,6 +4,7 @@ use lock_rules::Action;
 use lock_rules::Answer;
 use lock_rules::ChainWork;
 use lock_rules::Doing;
+use lock_rules::Limit;
 use lock_rules::Sight;
 use lock_rules::Taken;
 use lock_rules::ThreadState;
@@ -93,7 +94,7 @@ pub fn exit_owned(sight: Sight, word: WordSeen) -> Action
         WordSeen::Anonymous => not_owner(sight),
         WordSeen::Fat => {
             if 1 < sight.depth {
-                return finish_depth(sight, sight.depth - 1);
+                return finish_depth(sight, sight.depth - 1, 0);
             }
             let_go(sight, deflation(sight), 0, Doing::ExitLeave)
         }
@@ -108,15 +109,15 @@ pub fn exit_owned(sight: Sight, word: WordSeen) -> Action
 }
 
 // 1 look, wait, by the owner.
-pub fn wait_owned(sight: Sight, word: WordSeen) -> Action
-    ensures { λ r. ⌜ r ≡ wait-owned sight word ⌝ }
+pub fn wait_owned(sight: Sight, limit: Limit, word: WordSeen) -> Action
+    ensures { λ r. ⌜ r ≡ wait-owned sight limit word ⌝ }
 {
     match word {
         WordSeen::Free => not_owner(sight),
         WordSeen::Anonymous => not_owner(sight),
-        WordSeen::Fat => go_on(sight, Doing::WaitGiveUp),
-        WordSeen::Flat(_, _) => go_on(sight, Doing::WaitGoIn),
-        WordSeen::Reserved(_, _) => go_on(sight, Doing::WaitCancel),
+        WordSeen::Fat => go_on(sight, Doing::WaitGiveUp(limit)),
+        WordSeen::Flat(_, _) => go_on(sight, Doing::WaitGoIn(limit)),
+        WordSeen::Reserved(_, _) => go_on(sight, Doing::WaitCancel(limit)),
     }
 }
 

@@ -4,6 +4,7 @@ use lock_rules::Action;
 use lock_rules::Answer;
 use lock_rules::ChainWork;
 use lock_rules::Doing;
+use lock_rules::Limit;
 use lock_rules::OnwardStep;
 use lock_rules::Sight;
 use lock_rules::Suspension;
@@ -19,6 +20,7 @@ use rule_actions::inflate;
 use rule_actions::keep_object;
 use rule_actions::raise_flag;
 ghost use mathlib.Core.Path.{_≡_};
+ghost use Rattle.lock_rules.specs.Limits.{no-ticks, run-out};
 ghost use Rattle.lock_rules.specs.Rules.{onward, go-in-again, go-in, holder-only, enter-check, enter-try, exit-test, exit-tell, exit-leave, wait-inflate, wait-give-up, wait-resume};
 
 fn onward(carried: OnwardStep) -> Doing
@@ -27,7 +29,7 @@ fn onward(carried: OnwardStep) -> Doing
     match carried {
         OnwardStep::ToCheck => Doing::EnterCheck,
         OnwardStep::ToTell => Doing::ExitTell,
-        OnwardStep::ToInflate => Doing::WaitInflate,
+        OnwardStep::ToInflate(limit) => Doing::WaitInflate(limit),
         OnwardStep::ToResume(suspension) => Doing::WaitResume(suspension),
     }
 }
@@ -42,7 +44,7 @@ fn go_in_again(sight: Sight, carried: OnwardStep) -> Action
                 return Action::Unruled;
             }
             if sight.depth < DEPTH_LIMIT {
-                return finish_depth(sight, sight.depth + 1);
+                return finish_depth(sight, sight.depth + 1, 0);
             }
             keep_object(
                 sight,
@@ -53,7 +55,7 @@ fn go_in_again(sight: Sight, carried: OnwardStep) -> Action
             )
         }
         OnwardStep::ToTell => Action::Unruled,
-        OnwardStep::ToInflate => Action::Unruled,
+        OnwardStep::ToInflate(_) => Action::Unruled,
         OnwardStep::ToResume(_) => Action::Unruled,
     }
 }
@@ -96,7 +98,7 @@ pub fn enter_check(thread: u8, sight: Sight, word: WordSeen) -> Action
         WordSeen::Anonymous => Action::Unruled,
         WordSeen::Fat => {
             if sight.depth == 0 {
-                return finish_depth(sight, 1);
+                return finish_depth(sight, 1, 0);
             }
             Action::Unruled
         }
@@ -192,8 +194,8 @@ pub fn exit_leave(sight: Sight) -> Action
 }
 
 // 12 inflate.
-pub fn wait_inflate(thread: u8, sight: Sight, word: WordSeen) -> Action
-    ensures { λ r. ⌜ r ≡ wait-inflate thread sight word ⌝ }
+pub fn wait_inflate(thread: u8, sight: Sight, limit: Limit, word: WordSeen) -> Action
+    ensures { λ r. ⌜ r ≡ wait-inflate thread sight limit word ⌝ }
 {
     match word {
         WordSeen::Free => Action::Unruled,
@@ -204,7 +206,7 @@ pub fn wait_inflate(thread: u8, sight: Sight, word: WordSeen) -> Action
                 return inflate(
                     sight,
                     (count as Depth) + 1,
-                    ThreadState::Running(Doing::WaitGiveUp),
+                    ThreadState::Running(Doing::WaitGiveUp(limit)),
                     Answer::GoneOn,
                     false,
                 );
@@ -216,8 +218,8 @@ pub fn wait_inflate(thread: u8, sight: Sight, word: WordSeen) -> Action
 }
 
 // 13 wait.
-pub fn wait_give_up(sight: Sight, word: WordSeen) -> Action
-    ensures { λ r. ⌜ r ≡ wait-give-up sight word ⌝ }
+pub fn wait_give_up(sight: Sight, limit: Limit, word: WordSeen) -> Action
+    ensures { λ r. ⌜ r ≡ wait-give-up sight limit word ⌝ }
 {
     match word {
         WordSeen::Free => Action::Unruled,
@@ -226,7 +228,10 @@ pub fn wait_give_up(sight: Sight, word: WordSeen) -> Action
             if sight.depth == 0 {
                 return Action::Unruled;
             }
-            let suspension = Suspension { depth: sight.depth };
+            let suspension = Suspension {
+                depth: sight.depth,
+                limit: limit,
+            };
             keep_object(
                 sight,
                 ChainWork::JoinAndHand(Chain::Waiting),
@@ -240,6 +245,26 @@ pub fn wait_give_up(sight: Sight, word: WordSeen) -> Action
     }
 }
 
+// Whether the ticks of a limit ran out.
+fn no_ticks(limit: Limit) -> bool
+    ensures { λ r. ⌜ r ≡ no-ticks limit ⌝ }
+{
+    match limit {
+        Limit::Unlimited => false,
+        Limit::Ticks(left) => left == 0,
+    }
+}
+
+// The woken number of a wait that resumes: 1 if it ran out, 0 if it was notified.
+fn run_out(limit: Limit) -> u8
+    ensures { λ r. ⌜ r ≡ run-out limit ⌝ }
+{
+    if no_ticks(limit) {
+        return 1;
+    }
+    0
+}
+
 // 15 resume.
 pub fn wait_resume(sight: Sight, suspension: Suspension, word: WordSeen) -> Action
     ensures { λ r. ⌜ r ≡ wait-resume sight suspension word ⌝ }
@@ -249,7 +274,8 @@ pub fn wait_resume(sight: Sight, suspension: Suspension, word: WordSeen) -> Acti
         WordSeen::Anonymous => Action::Unruled,
         WordSeen::Fat => {
             if sight.depth == 0 {
-                return finish_depth(sight, suspension.depth);
+                let limit = suspension.limit;
+                return finish_depth(sight, suspension.depth, run_out(limit));
             }
             Action::Unruled
         }

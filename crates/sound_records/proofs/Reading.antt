@@ -8,7 +8,7 @@ use native.Mathlib.Omega.{arith}
 use lib.Dec.{eqb}
 use borrow.Author.Tests.{le-leb}
 use Rattle.laws.specs.Choice.{pick, both, implies}
-use Rattle.lock_word.specs.{Layout.count-limit, Depth.depth-limit}
+use Rattle.lock_word.specs.{Layout.count-limit, Depth.depth-limit, Ticks.tick-limit}
 use Rattle.lock_word.specs.Read.{read-word, read-flat}
 use Rattle.lock_word.specs.declared.reading.LockWord.the-variants.{Free, Flat, Anonymous, Reserved, Fat}
 use Rattle.lock_word.specs.declared.reading.Decoded.{Decoded}
@@ -18,14 +18,14 @@ use Rattle.lock_table.specs.Phase.{phase-number, carried-number}
 use Rattle.lock_table.specs.Record.{no-thread, no-monitor, no-object, with-activity, with-next, with-word, with-flag, with-monitor}
 use Rattle.lock_table.specs.Parked.{chain-named, thread-chain}
 use Rattle.lock_table.specs.declared.operation.Operation.{Operation}
-use Rattle.lock_table.specs.declared.operation.Operation.the-variants.{Idle, Enter, Exit, Wait, Notify, NotifyAll}
+use Rattle.lock_table.specs.declared.operation.Operation.the-variants.{Idle, Enter, Exit, Wait, Notify, NotifyAll, TimedWait}
 use Rattle.lock_table.specs.declared.phase.Phase.{Phase}
 use Rattle.lock_table.specs.declared.phase.Phase.the-variants.{Idle as idle-phase, Look, Store, Cancel, GoIn, Queued, Check, Try, Contending, Test}
 use Rattle.lock_table.specs.declared.phase.Phase.the-variants.{Tell, Leave, Inflate, GiveUp, Waiting, Resume}
 use Rattle.lock_table.specs.declared.record.{ThreadRecord.ThreadRecord, Activity.Activity, Monitor.Monitor, ObjectRecord.ObjectRecord}
 use Rattle.sound_records.specs.Records.{word-fits, uses-phase, carries-phase, operation-fits, kept-count-fits, reserved-for, kept-fits}
 use Rattle.sound_records.specs.Records.{saves-depth, saved-fits, unheld-fits, names-chain, unused-fits, used-object-fits, used-thread-fits}
-use Rattle.sound_records.specs.Records.{empty-thread, empty-monitor, empty-object}
+use Rattle.sound_records.specs.Records.{ticks-allowed, ticks-fit, empty-thread, empty-monitor, empty-object}
 use Rattle.laws.proofs.Facts.{Reads, reads-map, reads-never, reads-always, reads-not, reads-eqb, reads-leb, reads-both, reads-within, reads-either}
 use Rattle.laws.proofs.Facts.{reads-unless, reads-implies}
 
@@ -54,6 +54,7 @@ KeptCountFits Exit count = Within 1 count-limit count
 KeptCountFits Wait count = ⊥
 KeptCountFits Notify count = ⊥
 KeptCountFits NotifyAll count = ⊥
+KeptCountFits TimedWait count = ⊥
 
 abbrev pub ReservedFor : ℕ → Operation → Decoded → Type 0
 ReservedFor n operation Invalid = ⊥
@@ -65,6 +66,18 @@ ReservedFor n operation (Valid (Fat monitor)) = ⊥
 
 abbrev pub SavesDepth : ℕ → ℕ → Type 0
 SavesDepth phase carried = Within 14 15 phase ⊎ (carried ≡ 15)
+
+abbrev pub Resumes : ℕ → ℕ → Type 0
+Resumes phase carried = (phase ≡ 15) ⊎ (carried ≡ 15)
+
+abbrev pub TicksFit : Operation → ℕ → ℕ → ℕ → Type 0
+TicksFit Idle phase carried ticks = ticks ≡ 0
+TicksFit Enter phase carried ticks = ticks ≡ 0
+TicksFit Exit phase carried ticks = ticks ≡ 0
+TicksFit Wait phase carried ticks = ticks ≡ 0
+TicksFit Notify phase carried ticks = ticks ≡ 0
+TicksFit NotifyAll phase carried ticks = ticks ≡ 0
+TicksFit TimedWait phase carried ticks = Within 1 tick-limit ticks ⊎ ((ticks ≡ 0) × Resumes phase carried)
 
 abbrev pub UnheldFits : Monitor → Type 0
 UnheldFits monitor = monitor .holder ≡ 0 → (monitor .depth ≡ 0) × (monitor .entry ≡ 0)
@@ -86,6 +99,7 @@ pub record ThreadFits (objects n : ℕ) (thread : ThreadRecord) : Type 0 where
       → OperationFits objects (phase-number (thread .phase)) (carried-number (thread .phase)) thread
   pub kept : phase-number (thread .phase) ≡ 2 → ReservedFor n (thread .operation) (read-word (thread .kept))
   pub saved : SavesDepth (phase-number (thread .phase)) (carried-number (thread .phase)) → Within 1 depth-limit (thread .saved)
+  pub ticks : TicksFit (thread .operation) (phase-number (thread .phase)) (carried-number (thread .phase)) (thread .ticks)
   pub unused : UnusedFits (phase-number (thread .phase)) (carried-number (thread .phase)) thread
 
 -- a phase names one of three chains, or none; phase 0 names none
@@ -126,6 +140,7 @@ reads-kept-count Exit count = reads-within 1 63 count
 reads-kept-count Wait count = reads-never
 reads-kept-count Notify count = reads-never
 reads-kept-count NotifyAll count = reads-never
+reads-kept-count TimedWait count = reads-never
 
 reads-reserved : (n : ℕ) (operation : Operation) (decoded : Decoded) → Reads (reserved-for n operation decoded) (ReservedFor n operation decoded)
 unfolding reserved-for
@@ -150,6 +165,23 @@ reads-saved : (phase carried : ℕ) (thread : ThreadRecord)
 unfolding saved-fits
 reads-saved phase carried thread = reads-implies (reads-saves phase carried) (reads-within 1 depth-limit (thread .saved))
 
+reads-ticks-allowed : (operation : Operation) (phase carried ticks : ℕ)
+    → Reads (ticks-allowed operation phase carried ticks) (TicksFit operation phase carried ticks)
+reads-ticks-allowed Idle phase carried ticks = reads-eqb ticks 0
+reads-ticks-allowed Enter phase carried ticks = reads-eqb ticks 0
+reads-ticks-allowed Exit phase carried ticks = reads-eqb ticks 0
+reads-ticks-allowed Wait phase carried ticks = reads-eqb ticks 0
+reads-ticks-allowed Notify phase carried ticks = reads-eqb ticks 0
+reads-ticks-allowed NotifyAll phase carried ticks = reads-eqb ticks 0
+reads-ticks-allowed TimedWait phase carried ticks =
+    reads-either (reads-within 1 tick-limit ticks)
+    (reads-both (reads-eqb ticks 0) (reads-either (reads-eqb phase 15) (reads-eqb carried 15)))
+
+reads-ticks : (phase carried : ℕ) (thread : ThreadRecord)
+    → Reads (ticks-fit phase carried thread) (TicksFit (thread .operation) phase carried (thread .ticks))
+unfolding ticks-fit
+reads-ticks phase carried thread = reads-ticks-allowed (thread .operation) phase carried (thread .ticks)
+
 reads-unheld : (monitor : Monitor) → Reads (unheld-fits monitor) (UnheldFits monitor)
 unfolding unheld-fits
 reads-unheld monitor = reads-implies (reads-eqb (monitor .holder) 0) (reads-both (reads-eqb (monitor .depth) 0) (reads-eqb (monitor .entry) 0))
@@ -166,6 +198,7 @@ operation-none Exit e = absurd (omega (arith, e))
 operation-none Wait e = absurd (omega (arith, e))
 operation-none Notify e = absurd (omega (arith, e))
 operation-none NotifyAll e = absurd (omega (arith, e))
+operation-none TimedWait e = absurd (omega (arith, e))
 
 reads-no-operation : (operation : Operation) → Reads (eqb (operation-number operation) 0) (operation ≡ Idle)
 unfolding operation-number
@@ -201,11 +234,12 @@ reads-empty-thread thread =
     reads-map
     (reads-both (reads-eqb (thread .kept) 0)
     (reads-both (reads-eqb (thread .saved) 0)
+    (reads-both (reads-eqb (thread .ticks) 0)
     (reads-both (reads-eqb (thread .object) 0)
-    (reads-both (reads-eqb (thread .next) 0) (reads-both (reads-no-operation (thread .operation)) (reads-no-phase (thread .phase)))))))
-    (λ (kept, (saved, (object, (next, (operation, phase))))).
-    λ j. record { kept = kept j; saved = saved j; object = object j; next = next j; operation = operation j; phase = phase j })
-    (λ e. rw e (refl, (refl, (refl, (refl, (refl, refl))))))
+    (reads-both (reads-eqb (thread .next) 0) (reads-both (reads-no-operation (thread .operation)) (reads-no-phase (thread .phase))))))))
+    (λ (kept, (saved, (ticks, (object, (next, (operation, phase)))))).
+    λ j. record { kept = kept j; saved = saved j; ticks = ticks j; object = object j; next = next j; operation = operation j; phase = phase j })
+    (λ e. rw e (refl, (refl, (refl, (refl, (refl, (refl, refl)))))))
 
 reads-empty-monitor : (monitor : Monitor) → Reads (empty-monitor monitor) (monitor ≡ no-monitor)
 unfolding empty-monitor
@@ -252,9 +286,11 @@ reads-thread objects n thread =
     let carried = carried-number (thread .phase) in
     reads-map
     (reads-both (reads-operation objects phase carried thread)
-    (reads-both (reads-kept n phase thread) (reads-both (reads-saved phase carried thread) (reads-unused phase carried thread))))
-    (λ (operation, (kept, (saved, unused))). record { operation = operation; kept = kept; saved = saved; unused = unused })
-    (λ fits. (fits .operation, (fits .kept, (fits .saved, fits .unused))))
+    (reads-both (reads-kept n phase thread)
+    (reads-both (reads-saved phase carried thread) (reads-both (reads-ticks phase carried thread) (reads-unused phase carried thread)))))
+    (λ (operation, (kept, (saved, (ticks, unused)))).
+    record { operation = operation; kept = kept; saved = saved; ticks = ticks; unused = unused })
+    (λ fits. (fits .operation, (fits .kept, (fits .saved, (fits .ticks, fits .unused)))))
 
 -- What is written into a record that fits leaves what stands beside it, of which the clauses above ask nothing yet. So a thread's record fits where the
 -- clauses that go by its phase pass,
@@ -263,7 +299,8 @@ activity-fits? objects n thread =
     let phase = phase-number (thread .phase) in
     let carried = carried-number (thread .phase) in
     both (operation-fits objects phase carried thread)
-    (both (kept-fits n phase thread) (both (saved-fits phase carried thread) (unused-fits phase carried thread)))
+    (both (kept-fits n phase thread)
+    (both (saved-fits phase carried thread) (both (ticks-fit phase carried thread) (unused-fits phase carried thread))))
 
 pub written-thread-fits : (objects n : ℕ) (given : ThreadRecord) (next : ℕ) (activity : Activity) → ThreadFits objects n given
     → let thread = with-activity (with-next given next) activity in activity-fits? objects n thread ≡ true → ThreadFits objects n thread
@@ -286,5 +323,5 @@ unfolding word-fits read-word read-flat
 no-object-fits threads o = word-alone-fits threads o 0 refl
 
 pub no-thread-fits : (objects n : ℕ) → ThreadFits objects n no-thread
-unfolding operation-fits kept-fits saves-depth saved-fits unused-fits chain-named phase-number carried-number operation-number
+unfolding operation-fits kept-fits saves-depth saved-fits ticks-fit unused-fits chain-named phase-number carried-number operation-number
 no-thread-fits objects n = reads-thread objects n no-thread .read refl

@@ -1,4 +1,4 @@
-// What soundness asks of one record, a thread's or an object's (document 01, "Lock words", the sentence "Sound means").
+// What soundness asks of one record, a thread's or an object's (document 01, "Lock words", the sentence "Sound means"; ticks: document 02, L1).
 mod choice;
 mod object;
 mod thread;

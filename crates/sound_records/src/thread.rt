@@ -10,16 +10,31 @@ use lock_word::COUNT_LIMIT;
 use lock_word::DEPTH_LIMIT;
 use lock_word::Decoded;
 use lock_word::LockWord;
+use lock_word::TICK_LIMIT;
 ghost use mathlib.Core.Path.{_≡_};
 ghost use Rattle.lock_table.specs.Parked.{chain-named, thread-chain};
 ghost use Rattle.sound_records.specs.Records.{uses-phase, carries-phase, operation-fits, kept-count-fits, reserved-for, kept-fits, empty-thread};
 ghost use Rattle.sound_records.specs.Records.{saves-depth, saved-fits, unused-fits, used-thread-fits, names-chain};
+ghost use Rattle.sound_records.specs.Records.{wait-uses, wait-carries, resumes, ticks-fit};
 ghost use Rattle.sound_records.specs.OnePass.{thread-passes};
 
 // The largest counts of a kept word: storing it adds one for enter and takes one off for exit.
 const ENTER_COUNT_LIMIT: u8 = COUNT_LIMIT - 1;
 
 const EXIT_COUNT_LIMIT: u8 = COUNT_LIMIT;
+
+// The phases of a wait, timed or not: those that it uses, and those that it can carry.
+fn wait_uses(phase: u8) -> bool
+    ensures { λ r. ⌜ r ≡ wait-uses phase ⌝ }
+{
+    (phase == 1) | (within(3, 5, phase) | within(12, 15, phase))
+}
+
+fn wait_carries(carried: u8) -> bool
+    ensures { λ r. ⌜ r ≡ wait-carries carried ⌝ }
+{
+    (carried == 12) | (carried == 15)
+}
 
 // The phases that each operation uses.
 fn uses_phase(operation: Operation, phase: u8) -> bool
@@ -29,9 +44,10 @@ fn uses_phase(operation: Operation, phase: u8) -> bool
         Operation::Idle => false,
         Operation::Enter => within(1, 8, phase),
         Operation::Exit => within(1, 2, phase) | (within(4, 5, phase) | within(9, 11, phase)),
-        Operation::Wait => (phase == 1) | (within(3, 5, phase) | within(12, 15, phase)),
+        Operation::Wait => wait_uses(phase),
         Operation::Notify => phase == 1,
         Operation::NotifyAll => phase == 1,
+        Operation::TimedWait => wait_uses(phase),
     }
 }
 
@@ -43,9 +59,10 @@ fn carries_phase(operation: Operation, carried: u8) -> bool
         Operation::Idle => false,
         Operation::Enter => carried == 6,
         Operation::Exit => carried == 10,
-        Operation::Wait => (carried == 12) | (carried == 15),
+        Operation::Wait => wait_carries(carried),
         Operation::Notify => false,
         Operation::NotifyAll => false,
+        Operation::TimedWait => wait_carries(carried),
     }
 }
 
@@ -70,6 +87,7 @@ fn kept_count_fits(operation: Operation, count: u8) -> bool
         Operation::Wait => false,
         Operation::Notify => false,
         Operation::NotifyAll => false,
+        Operation::TimedWait => false,
     }
 }
 
@@ -114,6 +132,31 @@ fn saved_fits(phase: u8, carried: u8, thread: ThreadRecord) -> bool
         saves_depth(phase, carried),
         (1 <= thread.saved) & (thread.saved <= DEPTH_LIMIT),
     )
+}
+
+// The phases that a timed wait comes to when it has run out.
+fn resumes(phase: u8, carried: u8) -> bool
+    ensures { λ r. ⌜ r ≡ resumes phase carried ⌝ }
+{
+    (phase == 15) | (carried == 15)
+}
+
+// A timed wait has ticks left, or has run out; no other operation has ticks.
+fn ticks_fit(phase: u8, carried: u8, thread: ThreadRecord) -> bool
+    ensures { λ r. ⌜ r ≡ ticks-fit phase carried thread ⌝ }
+{
+    let operation = thread.operation;
+    let ticks = thread.ticks;
+    match operation {
+        Operation::Idle => ticks == 0,
+        Operation::Enter => ticks == 0,
+        Operation::Exit => ticks == 0,
+        Operation::Wait => ticks == 0,
+        Operation::Notify => ticks == 0,
+        Operation::NotifyAll => ticks == 0,
+        Operation::TimedWait => ((1 <= ticks) & (ticks <= TICK_LIMIT))
+            | ((ticks == 0) & resumes(phase, carried)),
+    }
 }
 
 // The chain that a parked thread's phase names: 1 entry, 2 contention, 3 waiting; 0 where a phase names none.
@@ -169,8 +212,9 @@ fn used_thread_fits(objects: u8, number: u8, phase: u8, carried: u8, thread: Thr
     let operation = operation_fits(objects, phase, carried, thread);
     let kept = kept_fits(number, phase, thread);
     let saved = saved_fits(phase, carried, thread);
+    let ticks = ticks_fit(phase, carried, thread);
     let unused = unused_fits(phase, carried, thread);
-    operation & (kept & (saved & unused))
+    operation & (kept & (saved & (ticks & unused)))
 }
 
 fn empty_thread(thread: ThreadRecord) -> bool
@@ -180,7 +224,8 @@ fn empty_thread(thread: ThreadRecord) -> bool
     let phase = thread.phase;
     let idle = (operation_number(operation) == 0) & (phase_number(phase) == 0);
     (thread.kept == 0)
-        & ((thread.saved == 0) & ((thread.object == 0) & ((thread.next == 0) & idle)))
+        & ((thread.saved == 0)
+            & ((thread.ticks == 0) & ((thread.object == 0) & ((thread.next == 0) & idle))))
 }
 
 // An empty record passes at once, and most are. Any other is one of a thread in use, which was met in a walk if it is parked.

@@ -13,7 +13,7 @@ use Rattle.laws.proofs.Facts.{reads-either, reads-eqb}
 use Rattle.lock_table.specs.Operation.{operation-number, operation-from}
 use Rattle.lock_table.specs.Phase.{phase-number, carried-number, onward-number}
 use Rattle.lock_table.specs.declared.operation.Operation.{Operation}
-use Rattle.lock_table.specs.declared.operation.Operation.the-variants.{Idle as no-operation, Enter, Exit, Wait, Notify, NotifyAll}
+use Rattle.lock_table.specs.declared.operation.Operation.the-variants.{Idle as no-operation, Enter, Exit, Wait, Notify, NotifyAll, TimedWait}
 use Rattle.lock_table.specs.declared.phase.Onward.the-variants.{ToCheck, ToTell, ToInflate, ToResume}
 use Rattle.lock_table.specs.declared.phase.Phase.{Phase}
 use Rattle.lock_table.specs.declared.phase.Phase.the-variants.{Idle, Look, Store, Cancel, GoIn, Queued, Check, Try, Contending, Test, Tell, Leave}
@@ -24,7 +24,7 @@ use Rattle.table_bytes.specs.ThreadBytes.{thread-layout, onward-from, la
 use Rattle.table_bytes.proofs.Rows.{numbers}
 
 -- operations and phases, each read from its own number, which is a known one
-by-operation : (operation : Operation) → (operation-from (operation-number operation) ≡ operation) × (leb (operation-number operation) 5 ≡ true)
+by-operation : (operation : Operation) → (operation-from (operation-number operation) ≡ operation) × (leb (operation-number operation) 6 ≡ true)
 unfolding operation-from operation-number
 by-operation no-operation = (refl, refl)
 by-operation Enter = (refl, refl)
@@ -32,6 +32,7 @@ by-operation Exit = (refl, refl)
 by-operation Wait = (refl, refl)
 by-operation Notify = (refl, refl)
 by-operation NotifyAll = (refl, refl)
+by-operation TimedWait = (refl, refl)
 
 -- a fact of the numbers of each phase, and of the phase it carries
 abbrev ByPhase : Phase → Type 0
@@ -65,12 +66,12 @@ by-phase Resume = (refl, (refl, refl))
 abbrev operation-right : ℕ → Bool
 operation-right operation = eqb (operation-number (operation-from operation)) operation
 
-operation-test : all-below 6 operation-right ≡ true
+operation-test : all-below 7 operation-right ≡ true
 unfolding all-up-to operation-number operation-from
 operation-test = refl
 
-operation-same : (operation : ℕ) → operation ≤ 5 → operation-number (operation-from operation) ≡ operation
-operation-same operation few = eqb-true _ operation (all-below-at 6 operation-right operation-test operation (omega (arith, few)))
+operation-same : (operation : ℕ) → operation ≤ 6 → operation-number (operation-from operation) ≡ operation
+operation-same operation few = eqb-true _ operation (all-below-at 7 operation-right operation-test operation (omega (arith, few)))
 
 -- a carried phase that there is, is one of the phases
 carried-small : (phase carried : ℕ) → carried-known phase carried ≡ true → carried < 16
@@ -108,6 +109,6 @@ thread-read-known thread = both-of (by-operation (thread .operation) .1) (both-o
 -- known numbers are those of the record that they say
 pub thread-same : (read : Numbers thread-layout) → thread-known read ≡ true → numbers thread-layout (thread-of read) ≡ read
 thread-same (operation, (object, (phase, (carried, rest)))) known =
-    let later = both-second (leb operation 5) _ known in
+    let later = both-second (leb operation 6) _ known in
     let phases = phase-same phase carried (leb-true phase 15 (both-first _ _ later)) (both-second (leb phase 15) _ later) in
-    rw (operation-same operation (leb-true operation 5 (both-first _ _ known)), phases .0, phases .1) refl
+    rw (operation-same operation (leb-true operation 6 (both-first _ _ known)), phases .0, phases .1) refl

@@ -17,7 +17,7 @@ use Rattle.table_bytes.specs.Rows.{Field, field, Numbers}
 
 -- how often this layout has changed; whoever changes a byte of a thread's record adds one
 abbrev pub thread-revision : ℕ
-thread-revision = 0
+thread-revision = 1
 
 abbrev pub thread-layout : List (Field ThreadRecord)
 thread-layout =
@@ -28,6 +28,7 @@ thread-layout =
     ∷ field (λ thread. thread .kept) 4
     ∷ field (λ thread. thread .saved) 2
     ∷ field (λ thread. thread .next) 1
+    ∷ field (λ thread. thread .ticks) 2
     ∷ []
 
 -- the phase that a queued thread carries, by its number; a number of none of them is not met where the bytes are a table
@@ -54,9 +55,10 @@ phase-from phase carried =
 
 -- the record that the numbers of its fields say, in the order of its layout
 abbrev pub thread-of : Numbers thread-layout → ThreadRecord
-thread-of (operation, (object, (phase, (carried, (kept, (saved, (next, end))))))) = record {
+thread-of (operation, (object, (phase, (carried, (kept, (saved, (next, (ticks, end)))))))) = record {
   kept = kept;
   saved = saved;
+  ticks = ticks;
   object = object;
   next = next;
   operation = operation-from operation;
@@ -68,6 +70,6 @@ unfoldable pub carried-known : ℕ → ℕ → Bool
 carried-known phase carried =
     pick (eqb phase 5) (either (eqb carried 6) (either (eqb carried 10) (either (eqb carried 12) (eqb carried 15)))) (eqb carried 0)
 
--- the numbers are those of a record: operation 0 to 5, phase 0 to 15
+-- the numbers are those of a record: operation 0 to 6, phase 0 to 15
 abbrev pub thread-known : Numbers thread-layout → Bool
-thread-known (operation, (object, (phase, (carried, rest)))) = both (leb operation 5) (both (leb phase 15) (carried-known phase carried))
+thread-known (operation, (object, (phase, (carried, rest)))) = both (leb operation 6) (both (leb phase 15) (carried-known phase carried))

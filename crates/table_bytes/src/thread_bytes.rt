@@ -19,7 +19,7 @@ ghost use Rattle.table_bytes.specs.Layout.{thread-size, thread-bytes};
 ghost use Rattle.table_bytes.specs.Reading.{byte-at};
 
 // How often this layout has changed.
-pub(crate) const THREAD_REVISION: u32 = 0;
+pub(crate) const THREAD_REVISION: u32 = 1;
 
 // Offsets: each field begins where the one before it ends.
 const OPERATION_AT: usize = 0;
@@ -36,9 +36,11 @@ const SAVED_AT: usize = KEPT_AT + 4;
 
 const NEXT_AT: usize = SAVED_AT + 2;
 
-pub(crate) const THREAD_SIZE: usize = NEXT_AT + 1;
+const TICKS_AT: usize = NEXT_AT + 1;
 
-const LAST_OPERATION: u8 = 5;
+pub(crate) const THREAD_SIZE: usize = TICKS_AT + 2;
+
+const LAST_OPERATION: u8 = 6;
 
 const LAST_PHASE: u8 = 15;
 
@@ -128,6 +130,7 @@ pub(crate) fn thread_of(stored: &[u8]) -> ThreadRecord
             stored[KEPT_AT + 3],
         ),
         saved: half_of(stored[SAVED_AT], stored[SAVED_AT + 1]),
+        ticks: half_of(stored[TICKS_AT], stored[TICKS_AT + 1]),
         object: stored[OBJECT_AT],
         next: stored[NEXT_AT],
         operation: operation_from(stored[OPERATION_AT]),
@@ -162,6 +165,7 @@ pub(crate) fn thread_bytes(thread: ThreadRecord) -> [u8; THREAD_SIZE]
     let phase = thread.phase;
     let kept = word_bytes(thread.kept);
     let saved = half_bytes(thread.saved);
+    let ticks = half_bytes(thread.ticks);
     [
         operation_number(operation),
         thread.object,
@@ -174,5 +178,7 @@ pub(crate) fn thread_bytes(thread: ThreadRecord) -> [u8; THREAD_SIZE]
         saved[0],
         saved[1],
         thread.next,
+        ticks[0],
+        ticks[1],
     ]
 }

@@ -20,7 +20,7 @@ use Rattle.table_bytes.specs.Reading.{is-table, table-of}
 use Rattle.table_bytes.specs.ObjectBytes.{flag-byte}
 use Rattle.table_questions.specs.declared.asking.ThreadQuestion.{ThreadQuestion}
 use Rattle.table_questions.specs.declared.asking.ThreadQuestion.the-variants.{OperationOf, ObjectOf, PhaseOf, OnwardOf, KeptOf, SavedOf}
-use Rattle.table_questions.specs.declared.asking.ThreadQuestion.the-variants.{NextOf, BlockerOf}
+use Rattle.table_questions.specs.declared.asking.ThreadQuestion.the-variants.{TicksOf, NextOf, BlockerOf}
 use Rattle.table_questions.specs.declared.asking.ObjectQuestion.{ObjectQuestion}
 use Rattle.table_questions.specs.declared.asking.ObjectQuestion.the-variants.{WordOf, OwnerOf, DepthOf, FlagOf, HolderOf, MonitorDepthOf}
 use Rattle.table_questions.specs.declared.asking.ObjectQuestion.the-variants.{EntryOf, ContentionOf, WaitingOf}
@@ -60,6 +60,7 @@ thread-value PhaseOf number thread owner holder = phase-number (thread .phase)
 thread-value OnwardOf number thread owner holder = carried-number (thread .phase)
 thread-value KeptOf number thread owner holder = thread .kept
 thread-value SavedOf number thread owner holder = thread .saved
+thread-value TicksOf number thread owner holder = thread .ticks
 thread-value NextOf number thread owner holder = thread .next
 thread-value BlockerOf number thread owner holder = blocker-of (phase-number (thread .phase)) number owner holder
 

@@ -31,6 +31,8 @@ pub enum ThreadQuestion {
     OnwardOf,
     KeptOf,
     SavedOf,
+    // the ticks that a timed wait has left
+    TicksOf,
     NextOf,
     BlockerOf,
 }
@@ -126,6 +128,7 @@ fn thread_value(
         ThreadQuestion::OnwardOf => carried_number(phase) as u32,
         ThreadQuestion::KeptOf => thread.kept,
         ThreadQuestion::SavedOf => thread.saved as u32,
+        ThreadQuestion::TicksOf => thread.ticks as u32,
         ThreadQuestion::NextOf => thread.next as u32,
         ThreadQuestion::BlockerOf => blocker(phase_number(phase), number, owner, holder),
     }

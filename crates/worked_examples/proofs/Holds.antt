@@ -3,15 +3,21 @@ use mathlib.Core.Path.{refl}
 use Rattle.lock_word.specs.Read.{read-word, read-flat, read-reserved, fat-of}
 use Rattle.lock_word.specs.Meaning.{owned-by}
 use Rattle.laws.specs.Sequence.{tabulate}
-use Rattle.lock_table.specs.{Access.object-at, Fresh.first-word, Fresh.fresh-of, Fresh.fresh-object, Operation.operation-number, Phase.phase-number, Parked.chain-named}
+use Rattle.lock_table.specs.Access.{thread-at, set-thread, object-at, set-object}
+use Rattle.lock_table.specs.Chain.{hang, moved-phase}
+use Rattle.lock_clock.specs.Waiters.{runs-out, waiter-after, last-behind, passed, part-waiters}
+use Rattle.lock_clock.specs.Tick.{hand-if-free, tick-object}
+use Rattle.event_bytes.specs.Encoding.{event-from, limit-from}
+use Rattle.lock_rules.specs.Limits.{one-less, no-ticks, run-out}
+use Rattle.lock_table.specs.{Fresh.first-word, Fresh.fresh-of, Fresh.fresh-object, Operation.operation-number, Phase.phase-number, Parked.chain-named}
 use Rattle.lock_perform.specs.Moving.{thread-set}
-use Rattle.sound_records.specs.Records.{names-chain, unused-fits, saves-depth}
+use Rattle.sound_records.specs.Records.{names-chain, unused-fits, saves-depth, ticks-fit}
 use Rattle.lock_rules.specs.Rules.{exit-tell}
 use Rattle.replay_lines.specs.Number.{is-digit, read-digits, read-number, read-field}
-use Rattle.replay_lines.specs.Grammar.{end-line, read-step, read-line}
+use Rattle.replay_lines.specs.Grammar.{end-line, read-step, read-begin-limit, read-begin-object, read-begin, operation-of, read-line}
 use Rattle.replay_text.specs.Digits.{digit-byte, digits}
 use Rattle.replay_text.specs.Text.{word-text}
-use Rattle.worked_examples.specs.{Words.WordExamples, Records.RecordExamples, Rules.RuleExamples, Lines.LineExamples}
+use Rattle.worked_examples.specs.{Words.WordExamples, Records.RecordExamples, Rules.RuleExamples, Ticks.TickExamples, Lines.LineExamples}
 
 pub word-examples : WordExamples
 unfolding read-word read-flat read-reserved fat-of owned-by
@@ -52,6 +58,32 @@ pub rule-examples : RuleExamples
 unfolding exit-tell
 rule-examples = record { deflated = refl; inflated = refl; told = refl }
 
+pub tick-examples : TickExamples
+unfolding thread-at set-thread object-at set-object hang moved-phase runs-out waiter-after last-behind passed part-waiters hand-if-free tick-object ticks-fit event-from limit-from one-less no-ticks run-out
+tick-examples =
+    record {
+      handed = refl;
+      queued = refl;
+      stays = refl;
+      behind = refl;
+      lost = refl;
+      still-held = refl;
+      still-first = refl;
+      in-order = refl;
+      kept-ticks = refl;
+      out-resuming = refl;
+      out-waiting = refl;
+      ran-out = refl;
+      notified = refl;
+      unlimited = refl;
+      too-long = refl;
+      longest = refl;
+      busy = refl;
+      untimed = refl;
+      timed-bytes = refl;
+      tick-bytes = refl;
+    }
+
 pub line-examples : LineExamples
-unfolding is-digit read-digits read-number read-field end-line read-step read-line digit-byte digits word-text
-line-examples = record { step = refl; unended = refl; leading-zero = refl; tab = refl; word = refl }
+unfolding is-digit read-digits read-number read-field end-line read-step read-begin-limit read-begin-object read-begin operation-of read-line digit-byte digits word-text
+line-examples = record { step = refl; unended = refl; leading-zero = refl; tab = refl; timed = refl; tick = refl; tick-spaced = refl; word = refl }

@@ -2,4 +2,5 @@
 pub mod Words
 pub mod Records
 pub mod Rules
+pub mod Ticks
 pub mod Lines

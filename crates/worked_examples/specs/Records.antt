@@ -22,7 +22,7 @@ use Rattle.table_bytes.specs.Reading.{table-of}
 
 -- an enter at object 1 with this kept word and in this phase
 abbrev pub entering : ℕ → Phase → ThreadRecord
-entering kept phase = with-activity no-thread (record { kept = kept; saved = 0; object = 1; operation = Enter; phase = phase })
+entering kept phase = with-activity no-thread (record { kept = kept; saved = 0; ticks = 0; object = 1; operation = Enter; phase = phase })
 
 -- the word of the one object of a fresh table
 abbrev pub fresh-word : Bool → ℕ

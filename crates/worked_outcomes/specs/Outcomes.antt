@@ -5,13 +5,13 @@ use mathlib.Core.Bool.{true, false}
 use Rattle.lock_rules.specs.declared.event.Refusal.{Refusal}
 use Rattle.lock_engine.specs.Outcome.{reply-returned, reply-woken}
 use Rattle.lock_engine.specs.declared.outcome.Outcome.{Outcome}
-use Rattle.lock_engine.specs.declared.outcome.Reply.the-variants.{Begun, Refused}
+use Rattle.lock_engine.specs.declared.outcome.Reply.the-variants.{Accepted, Refused}
 use Rattle.lock_engine_c.specs.Calls.{reply-changes}
 use Rattle.replay_session.specs.Session.{phase-of, word-of, answer-with, after-event}
 
 pub record OutcomeExamples : Type 0 where
-  -- a begin that was not refused is stored, a refused event is not
-  pub stored : reply-changes Begun ≡ true
+  -- a begin or a tick that was not refused is stored, a refused event is not
+  pub stored : reply-changes Accepted ≡ true
   pub kept : (refusal : Refusal) → reply-changes (Refused refusal) ≡ false
   -- the phase is that of the thread, the word that of the object
   pub printed : (outcome : Outcome) (thread object : ℕ)

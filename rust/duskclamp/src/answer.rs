@@ -15,19 +15,22 @@ pub enum Operation {
     Notify = 4,
     /// Wake all threads that wait.
     NotifyAll = 5,
+    /// Wait, and give up waiting after a number of ticks.
+    TimedWait = 6,
 }
 
 impl Operation {
     /// All operations, in the order of their numbers.
-    pub const ALL: [Operation; 5] = [
+    pub const ALL: [Operation; 6] = [
         Operation::Enter,
         Operation::Exit,
         Operation::Wait,
         Operation::Notify,
         Operation::NotifyAll,
+        Operation::TimedWait,
     ];
 
-    /// The operation's number, 1 to 5.
+    /// The operation's number, 1 to 6.
     pub fn number(self) -> u8 {
         self as u8
     }
@@ -37,7 +40,7 @@ impl Operation {
     /// ```
     /// use duskclamp::Operation;
     /// assert_eq!(Operation::from_number(3), Some(Operation::Wait));
-    /// assert_eq!(Operation::from_number(6), None);
+    /// assert_eq!(Operation::from_number(7), None);
     /// ```
     pub fn from_number(number: u32) -> Option<Operation> {
         Operation::ALL
@@ -53,6 +56,7 @@ impl Operation {
             Operation::Wait => "wait",
             Operation::Notify => "notify",
             Operation::NotifyAll => "notify all",
+            Operation::TimedWait => "timed wait",
         }
     }
 }
@@ -70,10 +74,10 @@ pub enum Answer {
     GoneOn,
     /// 1: the operation is finished, and the thread idle.
     Finished {
-        /// How many threads a notify woke; 0 for any other operation.
+        /// How many threads a notify woke, or, of a timed wait, 1 if it ran out; else 0.
         woken: u8,
     },
-    /// 2: the thread is parked until another's step lets it go on.
+    /// 2: the thread is parked until another's step or a tick lets it go on.
     Parked,
 }
 
@@ -108,11 +112,13 @@ pub enum Refusal {
     NoRule = 20,
     /// A fresh table of sizes that no table has.
     SizeOutOfRange = 22,
+    /// A begin of a timed wait whose limit is not 1 to 65,535.
+    LimitOutOfRange = 23,
 }
 
 impl Refusal {
     /// All refusals, in the order of their numbers.
-    pub const ALL: [Refusal; 11] = [
+    pub const ALL: [Refusal; 12] = [
         Refusal::NotSound,
         Refusal::NoSuchThread,
         Refusal::NoSuchObject,
@@ -124,6 +130,7 @@ impl Refusal {
         Refusal::TooDeep,
         Refusal::NoRule,
         Refusal::SizeOutOfRange,
+        Refusal::LimitOutOfRange,
     ];
 
     /// The number that the library returned.
@@ -145,6 +152,7 @@ impl Refusal {
             Refusal::TooDeep => "too deep",
             Refusal::NoRule => "no rule for the step",
             Refusal::SizeOutOfRange => "size out of range",
+            Refusal::LimitOutOfRange => "limit out of range",
         }
     }
 

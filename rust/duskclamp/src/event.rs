@@ -7,6 +7,7 @@ use core::slice;
 
 const BEGIN: u8 = 0;
 const STEP: u8 = 1;
+const TICK: u8 = 2;
 
 /// An event of a run.
 ///
@@ -18,45 +19,51 @@ pub struct Event {
 }
 
 impl Event {
-    /// The thread begins the operation on the object.
+    /// The thread begins the operation on the object; [`Event::timed_wait`] is for a timed wait.
     pub fn begin(thread: u32, operation: Operation, object: u32) -> Event {
         Event::begin_number(thread, operation.number().into(), object)
     }
 
     /// The same with the operation's number, whatever it is.
     pub fn begin_number(thread: u32, operation: u32, object: u32) -> Event {
-        Event::of(BEGIN, thread, operation, object)
+        Event::of(BEGIN, thread, operation, object, 0)
+    }
+
+    /// The thread begins a wait on the object that runs out after so many ticks.
+    pub fn timed_wait(thread: u32, object: u32, limit: u32) -> Event {
+        let operation = Operation::TimedWait.number().into();
+        Event::of(BEGIN, thread, operation, object, limit)
     }
 
     /// The thread takes one step of its operation.
     pub fn step(thread: u32) -> Event {
-        Event::of(STEP, thread, 0, 0)
+        Event::of(STEP, thread, 0, 0, 0)
     }
 
-    /// The event's eight bytes: kind, thread, operation, object, and four that are reserved and 0.
+    /// One tick of the clock.
+    pub fn tick() -> Event {
+        Event::of(TICK, 0, 0, 0, 0)
+    }
+
+    /// The event's eight bytes: kind, thread, operation, object, and four of a timed wait's limit, the lowest first.
     ///
     /// ```
     /// use duskclamp::{Event, Operation};
     /// assert_eq!(Event::begin(3, Operation::Wait, 7).bytes(), [0, 3, 3, 7, 0, 0, 0, 0]);
+    /// assert_eq!(Event::timed_wait(3, 7, 513).bytes(), [0, 3, 6, 7, 1, 2, 0, 0]);
     /// assert_eq!(Event::step(300).bytes(), [1, 255, 0, 0, 0, 0, 0, 0]);
+    /// assert_eq!(Event::tick().bytes(), [2, 0, 0, 0, 0, 0, 0, 0]);
     /// ```
     pub fn bytes(self) -> [u8; EVENT_SIZE] {
         self.bytes
     }
 
-    fn of(kind: u8, thread: u32, operation: u32, object: u32) -> Event {
+    fn of(kind: u8, thread: u32, operation: u32, object: u32, limit: u32) -> Event {
         let narrow = |number: u32| u8::try_from(number).unwrap_or(u8::MAX);
+        let [thread, operation, object] = [thread, operation, object].map(narrow);
+        let [low, second, third, high] = limit.to_le_bytes();
         Event {
-            bytes: [
-                kind,
-                narrow(thread),
-                narrow(operation),
-                narrow(object),
-                0,
-                0,
-                0,
-                0,
-            ],
+            bytes: [kind, thread, operation, object, low, second, third, high],
         }
     }
 }
@@ -69,7 +76,7 @@ pub struct Packed {
 }
 
 impl Packed {
-    /// What the event answered. A begin that is not refused has gone on.
+    /// What the event answered. A begin or a tick that is not refused has gone on.
     pub fn outcome(self) -> Outcome {
         answer::outcome(self.number as u32)
     }

@@ -1,7 +1,7 @@
 //! Lock words, monitors and single steps of a runtime, by a proved engine.
 //!
 //! A [`Table`] has up to 32 threads and 64 objects, both numbered from 1. A thread begins an operation on an object and takes it step by step;
-//! whoever runs the threads chooses whose step is next.
+//! whoever runs the threads chooses whose step is next, and when the clock ticks for the waits that have a limit.
 //!
 //! ```
 //! use duskclamp::{Answer, Blocker, Operation, Phase, Table, Words};
@@ -20,7 +20,7 @@
 //! ```
 //!
 //! What the calls answer is proved of the library that this crate links; the declarations in [`raw`] are not checked against its source. The crate needs
-//! `core` alone. A call takes up to 6.1 KB of stack.
+//! `core` alone. A call takes up to 12.1 KB of stack.
 
 #![no_std]
 #![deny(missing_docs)]
@@ -42,7 +42,7 @@ pub use record::{Blocker, Chain, Object, Thread};
 use core::fmt;
 
 /// How many bytes a table has.
-pub const TABLE_SIZE: usize = 1058;
+pub const TABLE_SIZE: usize = 1122;
 
 /// The most threads of a table.
 pub const MAX_THREADS: u32 = 32;
@@ -50,13 +50,16 @@ pub const MAX_THREADS: u32 = 32;
 /// The most objects of a table.
 pub const MAX_OBJECTS: u32 = 64;
 
+/// The longest limit of a timed wait, in ticks; the shortest is 1.
+pub const MAX_TICKS: u32 = 65_535;
+
 /// The version of a table's bytes, which rises whenever they change.
-pub const LAYOUT_VERSION: u32 = 1;
+pub const LAYOUT_VERSION: u32 = 2;
 
 /// The version of the library that is linked: major, minor and patch number.
 ///
 /// ```
-/// assert_eq!(duskclamp::version(), (0, 3, 0));
+/// assert_eq!(duskclamp::version(), (0, 4, 0));
 /// ```
 pub fn version() -> (u8, u8, u8) {
     let [patch, minor, major, _] = raw::version().to_le_bytes();
@@ -120,7 +123,8 @@ impl Table {
         &self.bytes
     }
 
-    /// The thread begins the operation on the object.
+    /// The thread begins the operation on the object. A timed wait has a limit too and is begun by [`Table::timed_wait`]; here it is refused with
+    /// `LimitOutOfRange`.
     pub fn begin(&mut self, thread: u32, operation: Operation, object: u32) -> Result<(), Refusal> {
         self.begin_number(thread, operation.number().into(), object)
     }
@@ -130,7 +134,7 @@ impl Table {
     /// ```
     /// use duskclamp::{Refusal, Table, Words};
     /// let mut table = Table::fresh(1, 1, Words::Free)?;
-    /// assert_eq!(table.begin_number(1, 6, 1), Err(Refusal::NoSuchOperation));
+    /// assert_eq!(table.begin_number(1, 7, 1), Err(Refusal::NoSuchOperation));
     /// # Ok::<(), Refusal>(())
     /// ```
     pub fn begin_number(
@@ -140,6 +144,52 @@ impl Table {
         object: u32,
     ) -> Result<(), Refusal> {
         match raw::begin(&mut self.bytes, thread, operation, object) as u8 {
+            0 => Ok(()),
+            number => Err(answer::refusal(number)),
+        }
+    }
+
+    /// The thread begins a wait on the object that runs out after so many ticks, 1 to [`MAX_TICKS`].
+    ///
+    /// ```
+    /// use duskclamp::{Refusal, Table, Words, MAX_TICKS};
+    /// let mut table = Table::fresh(1, 1, Words::Free)?;
+    /// assert_eq!(table.timed_wait(1, 1, MAX_TICKS + 1), Err(Refusal::LimitOutOfRange));
+    /// table.timed_wait(1, 1, MAX_TICKS)?;
+    /// assert_eq!(table.ticks(1), Ok(MAX_TICKS));
+    /// # Ok::<(), Refusal>(())
+    /// ```
+    pub fn timed_wait(&mut self, thread: u32, object: u32, limit: u32) -> Result<(), Refusal> {
+        match raw::timed_wait(&mut self.bytes, thread, object, limit) as u8 {
+            0 => Ok(()),
+            number => Err(answer::refusal(number)),
+        }
+    }
+
+    /// One tick of the clock: each timed wait in a waiting chain loses one of its ticks. Those at zero run out: they move to the entry chain, and a
+    /// monitor that nobody holds is handed to the first. A wait that ran out finishes with the woken number 1, one that was notified with 0.
+    ///
+    /// ```
+    /// use duskclamp::{Answer, Operation, Phase, Refusal, Table, Words};
+    /// let mut table = Table::fresh(1, 1, Words::Free)?;
+    /// table.begin(1, Operation::Enter, 1)?;
+    /// table.step(1).result?;
+    /// table.timed_wait(1, 1, 2)?;
+    /// while table.step(1).result? == Answer::GoneOn {}
+    /// assert_eq!(table.phase(1), Ok(Phase::Waiting));
+    ///
+    /// // Nobody notifies it; with the second tick it runs out, and has the monitor, since nobody else does.
+    /// table.tick()?;
+    /// assert_eq!(table.ticks(1), Ok(1));
+    /// assert_eq!(table.step(1).result, Err(Refusal::ThreadParked));
+    /// table.tick()?;
+    /// assert_eq!(table.phase(1), Ok(Phase::Resume));
+    /// assert_eq!(table.step(1).result, Ok(Answer::Finished { woken: 1 }));
+    /// assert_eq!(table.owner(1), Ok(1));
+    /// # Ok::<(), Refusal>(())
+    /// ```
+    pub fn tick(&mut self) -> Result<(), Refusal> {
+        match raw::tick(&mut self.bytes) as u8 {
             0 => Ok(()),
             number => Err(answer::refusal(number)),
         }
@@ -158,9 +208,9 @@ impl Table {
         answer::outcome(raw::step(&mut self.bytes, thread))
     }
 
-    /// Runs the events one behind the other, as calls of `begin` and `step` would, and keeps the answer of each; a refused event does not end the run.
-    /// As many are run as there is room for answers, and that number is given back. The table is read, tested for soundness and written once, so a run
-    /// is faster than its calls.
+    /// Runs the events one behind the other, as calls of `begin`, `timed_wait`, `step` and `tick` would, and keeps the answer of each; a refused event
+    /// does not end the run. As many are run as there is room for answers, and that number is given back. The table is read, tested for soundness and
+    /// written once, so a run is faster than its calls.
     ///
     /// ```
     /// use duskclamp::{Answer, Event, Operation, Packed, Refusal, Table, Words};
@@ -179,6 +229,22 @@ impl Table {
     /// // There is room for one answer: one event is run.
     /// assert_eq!(table.run(&events, &mut answers[..1]), 1);
     /// # Ok::<(), Refusal>(())
+    /// ```
+    ///
+    /// A wait that runs out, in one call: four steps take it into the waiting chain, and a tick out of it.
+    ///
+    /// ```
+    /// use duskclamp::{Answer, Event, Operation, Packed, Table, Words};
+    /// let mut table = Table::fresh(1, 1, Words::Free)?;
+    /// let mut events = vec![Event::begin(1, Operation::Enter, 1), Event::step(1)];
+    /// events.push(Event::timed_wait(1, 1, 1));
+    /// events.extend([Event::step(1); 4]);
+    /// events.extend([Event::tick(), Event::step(1)]);
+    /// let mut answers = [Packed::default(); 9];
+    /// assert_eq!(table.run(&events, &mut answers), 9);
+    /// assert_eq!(answers[7].outcome().result, Ok(Answer::GoneOn));
+    /// assert_eq!(answers[8].outcome().result, Ok(Answer::Finished { woken: 1 }));
+    /// # Ok::<(), duskclamp::Refusal>(())
     /// ```
     pub fn run(&mut self, events: &[Event], answers: &mut [Packed]) -> usize {
         raw::run(
@@ -216,6 +282,11 @@ impl Table {
         Ok(Phase::from_numbers(number, onward))
     }
 
+    /// The ticks that the thread's timed wait has left, 0 when it ran out; 0 for any other operation.
+    pub fn ticks(&self, thread: u32) -> Result<u32, Refusal> {
+        answer::value(raw::ticks(&self.bytes, thread))
+    }
+
     /// Who keeps the thread, where it is parked for entry, in phase 5 or 8.
     pub fn blocker(&self, thread: u32) -> Result<Option<Blocker>, Refusal> {
         answer::value(raw::blocker(&self.bytes, thread)).map(Blocker::from_value)
@@ -243,6 +314,7 @@ impl Table {
             kept: answer::value(raw::kept(bytes, number))?,
             saved_depth: answer::value(raw::saved_depth(bytes, number))?,
             next: answer::value(raw::next(bytes, number))?,
+            ticks: self.ticks(number)?,
         })
     }
 
@@ -396,7 +468,10 @@ mod tests {
             let mut bytes = vec![0xa5; length];
             assert_eq!(raw::fresh(&mut bytes, 1, 1, 0), 11);
             assert_eq!(raw::begin(&mut bytes, 1, 1, 1), 11);
+            assert_eq!(raw::timed_wait(&mut bytes, 1, 1, 1), 11);
             assert_eq!(raw::step(&mut bytes, 1), 11);
+            assert_eq!(raw::tick(&mut bytes), 11);
+            assert_eq!(raw::ticks(&bytes, 1), 11);
             assert_eq!(raw::phase(&bytes, 1), 11);
             assert_eq!(raw::thread_count(&bytes), 11);
             assert_eq!(bytes, vec![0xa5; length]);
@@ -414,6 +489,63 @@ mod tests {
             Table::fresh(257, 1, Words::Free),
             Err(Refusal::SizeOutOfRange)
         );
+    }
+
+    #[test]
+    fn limits_come_last_and_are_not_cut_off() {
+        let mut table = Table::fresh(2, 1, Words::Free).unwrap();
+        table.begin(2, Operation::Enter, 1).unwrap();
+        for limit in [0, 65_536, 65_537, u32::MAX] {
+            let refused = [(3, 1), (1, 2), (2, 1), (1, 1)]
+                .map(|(thread, object)| table.timed_wait(thread, object, limit));
+            let expected = [
+                Refusal::NoSuchThread,
+                Refusal::NoSuchObject,
+                Refusal::NotIdle,
+                Refusal::LimitOutOfRange,
+            ];
+            assert_eq!(refused, expected.map(Err));
+        }
+        let refused = table.begin(1, Operation::TimedWait, 1);
+        assert_eq!(refused, Err(Refusal::LimitOutOfRange));
+        assert_eq!(table.timed_wait(1, 1, 1), Ok(()));
+        let thread = table.thread(1).unwrap();
+        assert_eq!(
+            (thread.operation, thread.ticks),
+            (Some(Operation::TimedWait), 1)
+        );
+        assert_eq!(table.ticks(2), Ok(0));
+    }
+
+    /// The thread owns object 1 and waits there with this limit.
+    fn wait_timed(table: &mut Table, thread: u32, limit: u32) {
+        table.begin(thread, Operation::Enter, 1).unwrap();
+        while table.step(thread).result.unwrap() == Answer::GoneOn {}
+        table.timed_wait(thread, 1, limit).unwrap();
+        while table.step(thread).result.unwrap() == Answer::GoneOn {}
+    }
+
+    #[test]
+    fn one_runs_out_and_another_is_notified() {
+        let mut table = Table::fresh(3, 1, Words::Reserved).unwrap();
+        wait_timed(&mut table, 1, 1);
+        wait_timed(&mut table, 2, 3);
+        table.begin(3, Operation::Enter, 1).unwrap();
+        while table.step(3).result.unwrap() == Answer::GoneOn {}
+        table.tick().unwrap();
+        assert!(table.chain(1, Chain::Entry).unwrap().eq([1]));
+        assert!(table.chain(1, Chain::Waiting).unwrap().eq([2]));
+        table.begin(3, Operation::NotifyAll, 1).unwrap();
+        assert_eq!(table.step(3).result, Ok(Answer::Finished { woken: 1 }));
+        table.tick().unwrap();
+        assert_eq!([1, 2].map(|thread| table.ticks(thread)), [Ok(0), Ok(2)]);
+        for (thread, next, woken) in [(3, 1, 1), (1, 2, 0)] {
+            table.begin(thread, Operation::Exit, 1).unwrap();
+            while table.step(thread).result.unwrap() == Answer::GoneOn {}
+            let resumed = table.step(next);
+            assert_eq!(resumed.result, Ok(Answer::Finished { woken }));
+            assert!(resumed.commits);
+        }
     }
 
     #[test]

@@ -42,7 +42,7 @@ pub enum Phase {
     Inflate,
     /// 13: holder, about to save its depth and wait.
     GiveUp,
-    /// 14: parked in the waiting chain.
+    /// 14: parked in the waiting chain, until notified or, of a timed wait, until it runs out.
     Waiting,
     /// 15: holder, about to take its saved depth back.
     Resume,
@@ -57,7 +57,7 @@ pub enum Onward {
     Tell,
     /// 12, of a wait that is to begin.
     Inflate,
-    /// 15, of a wait that was woken.
+    /// 15, of a wait that was notified or ran out.
     Resume,
 }
 
@@ -106,7 +106,7 @@ impl Phase {
         }
     }
 
-    /// Whether a thread in this phase is parked: its steps are refused with `ThreadParked` until another's step lets it go on.
+    /// Whether a thread in this phase is parked: its steps are refused with `ThreadParked` until another's step or a tick lets it go on.
     pub fn is_parked(self) -> bool {
         matches!(self, Phase::Queued(_) | Phase::Contending | Phase::Waiting)
     }

@@ -1,7 +1,7 @@
 //! The calls of `include/duskclamp.h` on borrowed bytes, with their packed answers. Any bytes and any numbers are answered.
 //!
-//! An event's answer has the returned number in bits 0 to 7, the woken number in bits 8 to 15, and in bit 16 whether the step commits. A question's
-//! answer has the returned number in bits 0 to 7 and, where that is 0, the value above.
+//! An event's answer has the returned number in bits 0 to 7; in bits 8 to 15, with 1, how many threads a notify woke, or, of a timed wait, 1 if it ran
+//! out, else 0; and in bit 16 whether the step commits. A question's answer has the returned number in bits 0 to 7 and, where that is 0, the value above.
 
 mod declared {
     extern "C" {
@@ -22,7 +22,15 @@ mod declared {
             operation: u32,
             object: u32,
         ) -> u32;
+        pub fn duskclamp_timed_wait(
+            bytes: *mut u8,
+            length: usize,
+            thread: u32,
+            object: u32,
+            limit: u32,
+        ) -> u32;
         pub fn duskclamp_step(bytes: *mut u8, length: usize, thread: u32) -> u32;
+        pub fn duskclamp_tick(bytes: *mut u8, length: usize) -> u32;
         pub fn duskclamp_run(
             bytes: *mut u8,
             length: usize,
@@ -40,6 +48,7 @@ mod declared {
         pub fn duskclamp_kept(bytes: *const u8, length: usize, thread: u32) -> u64;
         pub fn duskclamp_saved_depth(bytes: *const u8, length: usize, thread: u32) -> u64;
         pub fn duskclamp_next(bytes: *const u8, length: usize, thread: u32) -> u64;
+        pub fn duskclamp_ticks(bytes: *const u8, length: usize, thread: u32) -> u64;
         pub fn duskclamp_blocker(bytes: *const u8, length: usize, thread: u32) -> u64;
         pub fn duskclamp_word(bytes: *const u8, length: usize, object: u32) -> u64;
         pub fn duskclamp_owner(bytes: *const u8, length: usize, object: u32) -> u64;
@@ -78,9 +87,16 @@ pub fn fresh(bytes: &mut [u8], threads: u32, objects: u32, reserved: u32) -> u32
     }
 }
 
-/// The thread begins the operation on the object.
+/// The thread begins the operation on the object. A timed wait is refused with 23 for want of a limit: [`timed_wait`] takes one.
 pub fn begin(bytes: &mut [u8], thread: u32, operation: u32, object: u32) -> u32 {
     unsafe { declared::duskclamp_begin(bytes.as_mut_ptr(), bytes.len(), thread, operation, object) }
+}
+
+/// The thread begins a wait on the object that runs out after so many ticks.
+pub fn timed_wait(bytes: &mut [u8], thread: u32, object: u32, limit: u32) -> u32 {
+    unsafe {
+        declared::duskclamp_timed_wait(bytes.as_mut_ptr(), bytes.len(), thread, object, limit)
+    }
 }
 
 /// The thread takes a step.
@@ -88,7 +104,12 @@ pub fn step(bytes: &mut [u8], thread: u32) -> u32 {
     unsafe { declared::duskclamp_step(bytes.as_mut_ptr(), bytes.len(), thread) }
 }
 
-/// How many bytes an event of [`run`] has: kind (0 begin, 1 step), thread, operation, object, and four that are reserved and 0.
+/// One tick of the clock.
+pub fn tick(bytes: &mut [u8]) -> u32 {
+    unsafe { declared::duskclamp_tick(bytes.as_mut_ptr(), bytes.len()) }
+}
+
+/// How many bytes an event of [`run`] has: kind (0 begin, 1 step, 2 tick), thread, operation, object, and four of a timed wait's limit, the lowest first.
 pub const EVENT_SIZE: usize = 8;
 
 /// Runs as many events as there are whole ones and as there is room for answers, and gives back how many those were.
@@ -148,6 +169,11 @@ pub fn saved_depth(bytes: &[u8], thread: u32) -> u64 {
 /// The thread behind this one in its chain, 0 for none.
 pub fn next(bytes: &[u8], thread: u32) -> u64 {
     unsafe { declared::duskclamp_next(bytes.as_ptr(), bytes.len(), thread) }
+}
+
+/// The ticks that a timed wait has left, 0 when it ran out; 0 for any other operation.
+pub fn ticks(bytes: &[u8], thread: u32) -> u64 {
+    unsafe { declared::duskclamp_ticks(bytes.as_ptr(), bytes.len(), thread) }
 }
 
 /// Who keeps a thread parked for entry: a thread in bits 0 to 15 of the value, and in bit 16 whether it is the monitor's holder and not the owner.

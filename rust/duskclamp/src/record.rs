@@ -20,6 +20,8 @@ pub struct Thread {
     pub saved_depth: u32,
     /// The thread behind this one in its chain, 0 for none.
     pub next: u32,
+    /// The ticks that a timed wait has left, 0 when it ran out; 0 for any other operation.
+    pub ticks: u32,
 }
 
 /// An object's record, and who owns it.

@@ -50,8 +50,8 @@ fn check_refusal(
         return Ok(());
     }
     let mut expected = before;
-    if matches!(returned, Returned::NotOwner | Returned::TooDeep) {
-        let (Event::Begin { thread, .. } | Event::Step { thread }) = event;
+    let ended = matches!(returned, Returned::NotOwner | Returned::TooDeep);
+    if let (true, Event::Step { thread }) = (ended, event) {
         *expected.thread_mut(thread as u8) = ThreadRecord::default();
     }
     if expected != *after {

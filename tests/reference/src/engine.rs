@@ -1,9 +1,9 @@
-//! The lock engine: begin and single step, refusals in document 01's order and the phases in the order of its steps.
+//! The lock engine: begin, single step and tick, refusals in document 01's order and the phases in the order of its steps.
 
 use crate::outcome::{Outcome, Returned};
 use crate::sound::is_sound;
-use crate::table::MAX_DEPTH;
 use crate::table::{Chain, Monitor, ObjectRecord, Onward, Operation, Phase, Table, ThreadRecord};
+use crate::table::{MAX_DEPTH, MAX_LIMIT};
 use crate::word::{LockWord, MAX_COUNT};
 
 /// What the interpreter asks for. The numbers are as given and may be out of range.
@@ -13,10 +13,14 @@ pub enum Event {
         thread: u16,
         operation: u8,
         object: u16,
+        /// Of a timed wait, in ticks. No other operation looks at it.
+        limit: u32,
     },
     Step {
         thread: u16,
     },
+    /// One tick of the clock.
+    Tick,
 }
 
 pub fn apply(table: &mut Table, event: Event) -> Outcome {
@@ -25,8 +29,10 @@ pub fn apply(table: &mut Table, event: Event) -> Outcome {
             thread,
             operation,
             object,
-        } => begin(table, thread, operation, object),
+            limit,
+        } => begin(table, thread, operation, object, limit),
         Event::Step { thread } => step(table, thread),
+        Event::Tick => tick(table),
     }
 }
 
@@ -35,7 +41,7 @@ fn is_worked_on(table: &Table) -> bool {
     cfg!(feature = "untested") || is_sound(table)
 }
 
-pub fn begin(table: &mut Table, thread: u16, operation: u8, object: u16) -> Outcome {
+pub fn begin(table: &mut Table, thread: u16, operation: u8, object: u16, limit: u32) -> Outcome {
     if !is_worked_on(table) {
         return Outcome::of(Returned::NotSound);
     }
@@ -52,10 +58,24 @@ pub fn begin(table: &mut Table, thread: u16, operation: u8, object: u16) -> Outc
     if record.phase != Phase::Idle {
         return Outcome::of(Returned::ThreadBusy);
     }
+    let Some(ticks) = ticks_of(operation, limit) else {
+        return Outcome::of(Returned::LimitOutOfRange);
+    };
     record.operation = Some(operation);
     record.object = object;
     record.phase = Phase::Look;
+    record.ticks = ticks;
     Outcome::of(Returned::GoneOn)
+}
+
+/// The ticks that an operation begins with; nothing where a timed wait has a limit that there is not.
+fn ticks_of(operation: Operation, limit: u32) -> Option<u16> {
+    match operation {
+        Operation::TimedWait => (1..=u32::from(MAX_LIMIT))
+            .contains(&limit)
+            .then_some(limit as u16),
+        _ => Some(0),
+    }
 }
 
 pub fn step(table: &mut Table, thread: u16) -> Outcome {
@@ -80,6 +100,38 @@ pub fn step(table: &mut Table, thread: u16) -> Outcome {
         object: record.object,
     };
     turn.run(record.phase)
+}
+
+/// Every timed thread that waits loses one; those at zero queue up for 15, and a monitor that nobody holds is then handed.
+pub fn tick(table: &mut Table) -> Outcome {
+    if !is_worked_on(table) {
+        return Outcome::of(Returned::NotSound);
+    }
+    for object in 1..=table.objects {
+        tick_waiting(table, object);
+        if table.object(object).monitor.holder == 0 {
+            table.hand(object);
+        }
+    }
+    Outcome::of(Returned::GoneOn)
+}
+
+/// Each waiting thread is taken out in turn and joins again behind the others, so that those that stay keep their order.
+fn tick_waiting(table: &mut Table, object: u8) {
+    for _ in 0..table.chain(object, Chain::Waiting).count() {
+        let Some(thread) = table.take_first(object, Chain::Waiting) else {
+            return;
+        };
+        let record = table.thread_mut(thread);
+        if record.operation == Some(Operation::TimedWait) {
+            record.ticks -= 1;
+        }
+        if record.has_run_out() {
+            table.queue(object, thread, Onward::Resume);
+        } else {
+            table.join(object, Chain::Waiting, thread);
+        }
+    }
 }
 
 /// One step of one thread: its number, and the operation and object it is at.
@@ -137,7 +189,7 @@ impl Turn<'_> {
         }
         match self.operation {
             Operation::Exit => self.look_exit(),
-            Operation::Wait => match self.word() {
+            Operation::Wait | Operation::TimedWait => match self.word() {
                 LockWord::Fat { .. } => self.go_on(Phase::Wait),
                 LockWord::Reserved { .. } => self.go_on(Phase::Cancel),
                 _ => self.go_on(Phase::GoIn),
@@ -245,7 +297,7 @@ impl Turn<'_> {
             return self.go_on(onward.phase());
         }
         if monitor.holder != thread {
-            self.queue(thread, onward);
+            self.table.queue(self.object, thread, onward);
             return Outcome::of(Returned::Parked);
         }
         if operation != Operation::Enter || monitor.depth == 0 {
@@ -286,7 +338,7 @@ impl Turn<'_> {
             }
             LockWord::Flat { thread, .. } if !self.is_own(thread) => {
                 self.park(Chain::Contention, Phase::Contending);
-                self.hand();
+                self.table.hand(self.object);
                 Outcome::of(Returned::Parked)
             }
             _ => no_rule(),
@@ -314,7 +366,7 @@ impl Turn<'_> {
         if self.monitor().depth > 0 {
             return no_rule();
         }
-        self.hand();
+        self.table.hand(self.object);
         self.finish()
     }
 
@@ -338,7 +390,7 @@ impl Turn<'_> {
         self.record().saved_depth = depth;
         self.monitor().depth = 0;
         self.park(Chain::Waiting, Phase::Waiting);
-        self.hand();
+        self.table.hand(self.object);
         Outcome::of(Returned::Parked).committing()
     }
 
@@ -347,7 +399,8 @@ impl Turn<'_> {
             return no_rule();
         }
         self.monitor().depth = self.record().saved_depth;
-        self.finish().committing()
+        let run_out = self.record().has_run_out();
+        self.end(Returned::Finished, run_out.into()).committing()
     }
 
     // What several phases share: words first, then going on and ending, then queues.
@@ -427,34 +480,15 @@ impl Turn<'_> {
         self.table.join(self.object, chain, self.thread);
     }
 
-    fn queue(&mut self, thread: u8, onward: Onward) {
-        self.table.thread_mut(thread).phase = Phase::Queued(onward);
-        self.table.join(self.object, Chain::Entry, thread);
-    }
-
     /// Moves the first of a chain to the end of the entry chain; false where there is none.
     fn move_first(&mut self, chain: Chain, onward: Onward) -> bool {
         match self.table.take_first(self.object, chain) {
             Some(thread) => {
-                self.queue(thread, onward);
+                self.table.queue(self.object, thread, onward);
                 true
             }
             None => false,
         }
-    }
-
-    /// Gives the monitor to the first thread queued for entry, or to nobody.
-    fn hand(&mut self) {
-        let next = self.table.take_first(self.object, Chain::Entry);
-        if let Some(thread) = next {
-            let record = self.table.thread_mut(thread);
-            if let Phase::Queued(onward) = record.phase {
-                record.phase = onward.phase();
-            }
-        }
-        let monitor = self.monitor();
-        monitor.holder = next.unwrap_or(0);
-        monitor.depth = 0;
     }
 
     fn inflate(&mut self, depth: u16) {

@@ -3,13 +3,17 @@
 
 use crate::engine::{apply, Event};
 use crate::random::Random;
-use crate::table::{Operation, Phase, Table, MAX_OBJECTS, MAX_THREADS};
+use crate::table::{Operation, Phase, Table, MAX_LIMIT, MAX_OBJECTS, MAX_THREADS};
 use crate::word::MAX_COUNT;
 use std::io::Write;
 
 /// Sizes up to which most tables go.
 const FEW_THREADS: u64 = 6;
 const FEW_OBJECTS: u64 = 3;
+/// Limits up to which most timed waits go, so that they run out within the schedule.
+const FEW_TICKS: u64 = 6;
+/// With every thread parked the clock goes on alone while one of them has at most so many ticks left.
+const TICKS_ALONE: u16 = 20;
 
 /// What one schedule is to be like. Chances are in percent of events.
 struct Plan {
@@ -28,6 +32,11 @@ struct Plan {
     burst: u64,
     /// How often an owner waits. Waiters keep a monitor from going back to a flat word.
     wait: u64,
+    /// How often a wait has a limit, and how often that is a long one.
+    timed: u64,
+    long_limit: u64,
+    /// How often the clock ticks. Without timed waits and ticks no number is drawn for them: the schedules of benchmarks stay the same.
+    tick: u64,
 }
 
 impl Plan {
@@ -53,6 +62,9 @@ impl Plan {
             noise: random.pick(&[0, 0, 0, 3, 15]),
             burst: random.pick(&[0, 0, 0, 4]),
             wait: random.pick(&[0, 4, 15]),
+            timed: random.pick(&[0, 50, 50, 90]),
+            long_limit: random.pick(&[0, 0, 30]),
+            tick: random.pick(&[0, 2, 10, 25]),
         }
     }
 }
@@ -116,21 +128,26 @@ pub fn schedule(seed: u64) -> Vec<u8> {
     planned(random, plan, burst)
 }
 
-/// A long schedule for benchmarks: so many events of so many threads that collide over so many objects.
-pub fn long_schedule(seed: u64, length: u64, threads: u8, objects: u8) -> Vec<u8> {
+/// A long schedule for benchmarks: so many events of so many threads that collide over so many objects, so many percent of them ticks. With ticks
+/// there are timed waits too.
+pub fn long_schedule(seed: u64, length: u64, threads: u8, objects: u8, ticks: u64) -> Vec<u8> {
+    let waits = ticks > 0;
     let plan = Plan {
         threads,
         objects,
         reserved: true,
         busy_threads: (1..=threads).collect(),
-        // With one busy object and no waits the threads cannot block each other for good.
+        // With one busy object and no waits, or none but short timed ones, the threads cannot block each other for good.
         busy_objects: vec![1],
         length,
         sticky: 30,
         stray: 0,
         noise: 0,
         burst: 0,
-        wait: 0,
+        wait: if waits { 10 } else { 0 },
+        timed: if waits { 100 } else { 0 },
+        long_limit: 0,
+        tick: ticks,
     };
     planned(Random::new(seed), plan, None)
 }
@@ -187,8 +204,11 @@ impl Generator {
         write_event_line(event, &mut self.text);
     }
 
-    /// Nothing where every thread is parked for good.
+    /// Nothing where every thread is parked for good, or for very long.
     fn choose_event(&mut self) -> Option<Event> {
+        if self.plan.tick > 0 && self.random.percent(self.plan.tick) {
+            return Some(Event::Tick);
+        }
         if self.random.percent(self.plan.stray) {
             return Some(self.stray_event());
         }
@@ -198,7 +218,9 @@ impl Generator {
                 return Some(event);
             }
         }
-        let thread = self.choose_thread()?;
+        let Some(thread) = self.choose_thread() else {
+            return self.tick_alone();
+        };
         self.last_thread = thread;
         match self.table.thread(thread).phase {
             Phase::Idle => Some(self.choose_begin(thread)),
@@ -212,11 +234,26 @@ impl Generator {
         if self.random.percent(50) {
             return Event::Step { thread };
         }
+        let operation = self.any_operation();
         Event::Begin {
             thread,
-            operation: self.random.pick(&Operation::ALL).number(),
+            operation: operation.number(),
             object: self.random.between(0, u64::from(self.plan.objects) + 1) as u16,
+            limit: match operation {
+                Operation::TimedWait => self.random.pick(&[0, 0, 1, MAX_LIMIT]).into(),
+                _ => 0,
+            },
         }
+    }
+
+    /// A tick, where a waiting thread runs out soon.
+    fn tick_alone(&self) -> Option<Event> {
+        let soon = |thread: u8| {
+            let record = self.table.thread(thread);
+            record.phase == Phase::Waiting && (1..=TICKS_ALONE).contains(&record.ticks)
+        };
+        let goes_on = self.plan.tick > 0 && (1..=self.plan.threads).any(soon);
+        goes_on.then_some(Event::Tick)
     }
 
     fn burst_event(&mut self) -> Option<Event> {
@@ -230,7 +267,7 @@ impl Generator {
             return Some(step(burst.thread));
         }
         burst.left -= 1;
-        Some(begin(burst.thread, burst.operation, burst.object))
+        Some(begin(burst.thread, burst.operation, burst.object, 0))
     }
 
     fn choose_thread(&mut self) -> Option<u8> {
@@ -275,18 +312,44 @@ impl Generator {
             });
         }
         let operation = self.choose_operation(owned.contains(&object));
-        begin(thread, operation, object)
+        let limit = match operation {
+            Operation::TimedWait => self.choose_limit(),
+            _ => 0,
+        };
+        begin(thread, operation, object, limit)
     }
 
     fn choose_operation(&mut self, owner: bool) -> Operation {
         if owner && self.random.percent(self.plan.wait) {
-            Operation::Wait
+            self.choose_wait()
         } else if owner {
             self.random.pick(&OWNER_CHOICES)
         } else if self.random.percent(95) {
             Operation::Enter
         } else {
-            self.random.pick(&Operation::ALL)
+            self.any_operation()
+        }
+    }
+
+    fn choose_wait(&mut self) -> Operation {
+        match self.plan.timed > 0 && self.random.percent(self.plan.timed) {
+            true => Operation::TimedWait,
+            false => Operation::Wait,
+        }
+    }
+
+    fn choose_limit(&mut self) -> u16 {
+        if !self.random.percent(self.plan.long_limit) {
+            return self.random.between(1, FEW_TICKS) as u16;
+        }
+        let any = self.random.between(1, MAX_LIMIT.into()) as u16;
+        self.random.pick(&[MAX_LIMIT, any, any])
+    }
+
+    fn any_operation(&mut self) -> Operation {
+        match self.plan.timed {
+            0 => self.random.pick(&UNTIMED),
+            _ => self.random.pick(&Operation::ALL),
         }
     }
 
@@ -311,6 +374,14 @@ impl Generator {
         self.text.push(b'\n');
     }
 }
+
+const UNTIMED: [Operation; 5] = [
+    Operation::Enter,
+    Operation::Exit,
+    Operation::Wait,
+    Operation::Notify,
+    Operation::NotifyAll,
+];
 
 /// What an owner does next: exits lead, so that objects pass from hand to hand.
 const OWNER_CHOICES: [Operation; 10] = [
@@ -343,7 +414,7 @@ const ODD_HEADERS: [&str; 12] = [
     "E 1 1\n",
 ];
 
-const NOISE_LINES: [&str; 24] = [
+const NOISE_LINES: [&str; 34] = [
     "",
     " ",
     "S",
@@ -368,13 +439,24 @@ const NOISE_LINES: [&str; 24] = [
     "EX 1 1",
     "A 1 1x",
     "N 1,1",
+    "V 1 1",
+    "V 1 1 1 1",
+    "V 1 1 65536",
+    "V 1 1 01",
+    "V 1 1 1 ",
+    "E 1 1 65535",
+    "C ",
+    "C 1",
+    "CC",
+    "c",
 ];
 
-fn begin(thread: u8, operation: Operation, object: u8) -> Event {
+fn begin(thread: u8, operation: Operation, object: u8, limit: u16) -> Event {
     Event::Begin {
         thread: u16::from(thread),
         operation: operation.number(),
         object: u16::from(object),
+        limit: u32::from(limit),
     }
 }
 
@@ -392,10 +474,12 @@ fn write_event_line(event: Event, text: &mut Vec<u8>) {
             thread,
             operation,
             object,
-        } => {
-            let letter = char::from(b"EXWNA"[usize::from(operation) - 1]);
-            writeln!(text, "{letter} {thread} {object}")
-        }
+            limit,
+        } => match b"EXWNA".get(usize::from(operation) - 1) {
+            Some(letter) => writeln!(text, "{} {thread} {object}", char::from(*letter)),
+            None => writeln!(text, "V {thread} {object} {limit}"),
+        },
+        Event::Tick => writeln!(text, "C"),
     };
     written.expect("a vector takes any text");
 }

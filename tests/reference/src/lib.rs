@@ -1,5 +1,6 @@
 //! A second implementation of the lock engine, its replay and the checks made with it.
-//! Written from the specification alone ("document 01" in comments), so that agreement with the proved one says something.
+//! Written from the specification alone, so that agreement with the proved one says something. In comments "document 01" is the specification, and
+//! "request L1" the customer's request for timed waits, which adds to it.
 
 pub mod arguments;
 pub mod checked;

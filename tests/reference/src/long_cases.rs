@@ -1,7 +1,7 @@
-//! Cases too long to store. What they must print is spelled out here from document 01, not taken from the engine.
+//! Cases too long to store. What they must print is spelled out here from document 01 and request L1, not taken from the engine.
 
 use crate::stored::Case;
-use crate::table::MAX_DEPTH;
+use crate::table::{MAX_DEPTH, MAX_LIMIT};
 use crate::word::MAX_COUNT;
 use std::fmt::Write;
 
@@ -10,7 +10,12 @@ const LONG_LINE: usize = 1 << 20;
 const FAT: &str = "000101";
 
 pub fn cases() -> Vec<Case> {
-    vec![nest_to_the_limit(), long_lines()]
+    vec![
+        nest_to_the_limit(),
+        long_lines(),
+        runs_out_at_the_longest_limit(),
+        notified_before_the_last_tick(),
+    ]
 }
 
 /// Input and expected output side by side.
@@ -117,8 +122,63 @@ fn long_lines() -> Case {
     script.line(&format!("S {}1", "0".repeat(LONG_LINE)), "21");
     script.line(&format!("S 1{}", " ".repeat(LONG_LINE)), "21");
     script.line(&"9".repeat(LONG_LINE), "21");
+    script.line(&format!("V 1 1 1{}", "0".repeat(LONG_LINE)), "21");
+    script.line(&format!("C{}", " ".repeat(LONG_LINE)), "21");
     script.line("S 1", "1 0 0 000106");
     script.line(&format!("S 1{}", "1".repeat(LONG_LINE)), "21");
     script.input.pop();
     script.case("lines-of-a-megabyte")
+}
+
+/// Thread 1 owns object 1 and waits there with the longest limit, of which one tick is left.
+fn wait_all_but_a_tick(script: &mut Script) {
+    script.header("L 2 1 0");
+    script.line("E 1 1", "0 1 0 000000");
+    script.line("S 1", "1 0 0 000100");
+    script.line(&format!("V 1 1 {MAX_LIMIT}"), "0 1 0 000100");
+    script.line("S 1", "0 4 0 000100");
+    script.line("S 1", "0 12 0 000100");
+    script.line("S 1", &format!("0 13 0 {FAT}"));
+    script.line("S 1", &format!("2 14 0 {FAT}"));
+    for _ in 1..MAX_LIMIT {
+        script.line("C", "0");
+    }
+    script.line("S 1", "16");
+}
+
+/// With the last tick it runs out and, as nobody holds the monitor, is handed it.
+fn runs_out_at_the_longest_limit() -> Case {
+    let mut script = Script::default();
+    wait_all_but_a_tick(&mut script);
+    script.line("C", "0");
+    script.line("S 1", &format!("1 0 1 {FAT}"));
+    script.line("X 1 1", &format!("0 1 0 {FAT}"));
+    script.line("S 1", "0 11 0 000000");
+    script.line("S 1", "1 0 0 000000");
+    script.case("runs-out-after-65535-ticks")
+}
+
+/// Thread 2 notifies it before the last tick; that tick and others do not make it run out any more.
+fn notified_before_the_last_tick() -> Case {
+    let mut script = Script::default();
+    wait_all_but_a_tick(&mut script);
+    let steps = [
+        ("E 2 1", "0 1 0"),
+        ("S 2", "0 4 0"),
+        ("S 2", "0 6 0"),
+        ("S 2", "1 0 0"),
+        ("N 2 1", "0 1 0"),
+        ("S 2", "1 0 1"),
+    ];
+    for (input, expected) in steps {
+        script.line(input, &format!("{expected} {FAT}"));
+    }
+    script.line("C", "0");
+    script.line("X 2 1", &format!("0 1 0 {FAT}"));
+    script.line("S 2", &format!("0 11 0 {FAT}"));
+    script.line("C", "0");
+    script.line("S 2", &format!("1 0 0 {FAT}"));
+    script.line("C", "0");
+    script.line("S 1", &format!("1 0 0 {FAT}"));
+    script.case("notified-after-65534-ticks")
 }

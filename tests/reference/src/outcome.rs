@@ -1,4 +1,4 @@
-//! What an event returns: document 01's numbers under their names, and what goes with them.
+//! What an event returns: the specification's numbers under their names, and what goes with them.
 
 /// The returned numbers; those from 11 up are refusals.
 #[derive(Clone, Copy, Debug, PartialEq, Eq, PartialOrd, Ord)]
@@ -19,6 +19,7 @@ pub enum Returned {
     NoRule = 20,
     MalformedLine = 21,
     SizesOutOfRange = 22,
+    LimitOutOfRange = 23,
 }
 
 impl Returned {
@@ -31,7 +32,8 @@ impl Returned {
     }
 }
 
-/// The answer to one event. `committed` says that the step carried the mark (c).
+/// The answer to one event. `woken` says how many threads a finished notify woke, or of a finished timed wait 1 if it ran out; `committed` that the
+/// step carried the mark (c).
 #[derive(Clone, Copy, Debug, PartialEq, Eq)]
 pub struct Outcome {
     pub returned: Returned,

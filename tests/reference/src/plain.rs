@@ -1,15 +1,17 @@
-//! Document 01's plain recursive monitors, and the check of demand 3 against them after each event.
+//! Document 01's plain recursive monitors with request L1's ticks, and the check of demand 3 against them after each event.
 //! The monitors are fed events, returned numbers and commit marks; of the tables they see nothing.
 
 use crate::engine::Event;
 use crate::outcome::{Outcome, Returned};
-use crate::table::{Chain, Operation, Table, MAX_DEPTH, MAX_THREADS};
+use crate::table::{Chain, Operation, Table, MAX_DEPTH, MAX_LIMIT, MAX_THREADS};
 
 /// A thread with the depth it gave up.
 #[derive(Clone, Copy, Debug, PartialEq, Eq)]
 struct Saved {
     thread: u8,
     depth: u16,
+    /// What a timed wait has left of its limit, 0 when it ran out; nothing for any other wait.
+    ticks: Option<u32>,
 }
 
 #[derive(Clone, Debug, Default)]
@@ -20,7 +22,7 @@ struct PlainMonitor {
     woken: Vec<Saved>,
 }
 
-/// What an ended operation says: returned number and woken threads.
+/// What an ended operation says: returned number and woken number.
 #[derive(Clone, Copy, Debug, PartialEq, Eq)]
 struct Answer {
     returned: Returned,
@@ -32,6 +34,8 @@ struct Answer {
 struct Run {
     operation: Operation,
     object: u8,
+    /// Of a timed wait.
+    limit: Option<u32>,
     commits: u32,
     /// The plain answer of the last commit.
     answer: Option<Answer>,
@@ -48,22 +52,48 @@ fn answer(returned: Returned, woken: u8) -> Option<Answer> {
     Some(Answer { returned, woken })
 }
 
+impl Run {
+    /// An operation whose begin returned 0.
+    fn begun(operation: u8, object: u16, limit: u32) -> Result<Run, String> {
+        let operation = Operation::from_number(operation);
+        let operation = operation.ok_or("a begin of no operation was accepted")?;
+        let timed = operation == Operation::TimedWait;
+        if timed && !(1..=u32::from(MAX_LIMIT)).contains(&limit) {
+            return Err(format!("a limit of {limit} was accepted"));
+        }
+        Ok(Run {
+            operation,
+            object: object as u8,
+            limit: timed.then_some(limit),
+            commits: 0,
+            answer: None,
+            unfinished: true,
+        })
+    }
+}
+
 impl PlainMonitor {
-    fn commit(&mut self, operation: Operation, thread: u8) -> Option<Answer> {
-        if operation == Operation::Enter {
+    /// The threads that gave the object up and do not have it back.
+    fn gave_up(&self) -> impl Iterator<Item = &Saved> {
+        self.waiting.iter().chain(&self.woken)
+    }
+
+    fn commit(&mut self, run: &Run, thread: u8) -> Option<Answer> {
+        if run.operation == Operation::Enter {
             return self.enter(thread);
         }
-        if operation == Operation::Wait && self.owner == 0 {
+        if run.operation.is_wait() && self.owner == 0 {
             if let Some(place) = self.woken.iter().position(|saved| saved.thread == thread) {
-                (self.owner, self.depth) = (thread, self.woken.remove(place).depth);
-                return answer(Returned::Finished, 0);
+                let saved = self.woken.remove(place);
+                (self.owner, self.depth) = (thread, saved.depth);
+                return answer(Returned::Finished, u8::from(saved.ticks == Some(0)));
             }
         }
         if self.owner != thread {
             return answer(Returned::NotOwner, 0);
         }
-        match operation {
-            Operation::Wait => self.give_up(thread),
+        match run.operation {
+            Operation::Wait | Operation::TimedWait => self.give_up(thread, run.limit),
             Operation::Notify => self.wake(1),
             Operation::NotifyAll => self.wake(self.waiting.len()),
             _ => self.exit(),
@@ -89,9 +119,13 @@ impl PlainMonitor {
         answer(Returned::Finished, 0)
     }
 
-    fn give_up(&mut self, thread: u8) -> Option<Answer> {
+    fn give_up(&mut self, thread: u8, ticks: Option<u32>) -> Option<Answer> {
         let depth = self.depth;
-        self.waiting.push(Saved { thread, depth });
+        self.waiting.push(Saved {
+            thread,
+            depth,
+            ticks,
+        });
         (self.owner, self.depth) = (0, 0);
         None
     }
@@ -100,6 +134,18 @@ impl PlainMonitor {
         let number = most.min(self.waiting.len());
         self.woken.extend(self.waiting.drain(..number));
         answer(Returned::Finished, number as u8)
+    }
+
+    /// One tick less for every timed thread that waits; who has none left is woken, as run out.
+    fn tick(&mut self) {
+        let mut waiting = std::mem::take(&mut self.waiting);
+        for saved in &mut waiting {
+            saved.ticks = saved.ticks.map(|ticks| ticks - 1);
+        }
+        let run_out = |saved: &Saved| saved.ticks == Some(0);
+        let (woken, waiting): (Vec<Saved>, Vec<Saved>) = waiting.into_iter().partition(run_out);
+        self.waiting = waiting;
+        self.woken.extend(woken);
     }
 }
 
@@ -123,8 +169,10 @@ impl PlainMonitors {
                 thread,
                 operation,
                 object,
-            } => self.feed_begin(thread, operation, object, outcome),
+                limit,
+            } => self.feed_begin(thread, operation, object, limit, outcome),
             Event::Step { thread } => self.feed_step(thread, outcome),
+            Event::Tick => self.feed_tick(outcome),
         }
     }
 
@@ -133,22 +181,25 @@ impl PlainMonitors {
         thread: u16,
         operation: u8,
         object: u16,
+        limit: u32,
         outcome: Outcome,
     ) -> Result<(), String> {
         if outcome.committed {
             return Err("a begin is marked as committing".to_string());
         }
         if outcome.returned == Returned::GoneOn {
-            let operation = Operation::from_number(operation);
-            let operation = operation.ok_or("a begin of no operation was accepted")?;
-            self.runs[usize::from(thread) - 1] = Some(Run {
-                operation,
-                object: object as u8,
-                commits: 0,
-                answer: None,
-                unfinished: true,
-            });
+            let run = Run::begun(operation, object, limit)?;
+            self.runs[usize::from(thread) - 1] = Some(run);
         }
+        Ok(())
+    }
+
+    /// A tick is one whole operation on all objects, and answers nothing but that it was accepted.
+    fn feed_tick(&mut self, outcome: Outcome) -> Result<(), String> {
+        if outcome != Outcome::of(Returned::GoneOn) {
+            return Err(format!("a tick was answered {outcome:?}"));
+        }
+        self.monitors.iter_mut().for_each(PlainMonitor::tick);
         Ok(())
     }
 
@@ -167,7 +218,7 @@ impl PlainMonitors {
             .ok_or("a step committed or ended without an unfinished operation")?;
         if outcome.committed {
             let monitor = &mut self.monitors[usize::from(run.object) - 1];
-            run.answer = monitor.commit(run.operation, thread as u8);
+            run.answer = monitor.commit(run, thread as u8);
             run.commits += 1;
         }
         if ends {
@@ -183,6 +234,7 @@ impl PlainMonitors {
             compare_monitor(table, object, plain)?;
         }
         self.compare_woken(table)?;
+        self.compare_ticks(table)?;
         self.check_stranding(table)
     }
 
@@ -208,6 +260,19 @@ impl PlainMonitors {
             return Err(format!(
                 "{woken} woken threads, in the plain monitors {plain_woken}"
             ));
+        }
+        Ok(())
+    }
+
+    /// More than demand 3 asks: the record of each thread that waits or is woken has the ticks that the plain monitors count.
+    fn compare_ticks(&self, table: &Table) -> Result<(), String> {
+        for saved in self.monitors.iter().flat_map(PlainMonitor::gave_up) {
+            let (thread, ticks) = (saved.thread, table.thread(saved.thread).ticks);
+            if u32::from(ticks) != saved.ticks.unwrap_or(0) {
+                return Err(format!(
+                    "thread {thread} has ticks {ticks}, in the plain monitors {saved:?}"
+                ));
+            }
         }
         Ok(())
     }
@@ -244,7 +309,7 @@ impl PlainMonitors {
 
 /// An ended operation has committed once, a wait that returned 1 twice, and has the plain answer of its last commit.
 fn check_end(run: &Run, outcome: Outcome) -> Result<(), String> {
-    let resumed = run.operation == Operation::Wait && outcome.returned == Returned::Finished;
+    let resumed = run.operation.is_wait() && outcome.returned == Returned::Finished;
     let expected_commits = if resumed { 2 } else { 1 };
     let operation = run.operation;
     if run.commits != expected_commits {

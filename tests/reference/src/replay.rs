@@ -1,13 +1,13 @@
 //! The replay program, from bytes to bytes: a header line, then one event a line, each answered by one line.
 //! Input may come in blocks of any size; no line is held longer than the longest well-formed one.
 
-use crate::engine::{apply, Event};
+use crate::engine::{apply, tick, Event};
 use crate::outcome::{Outcome, Returned};
 use crate::table::{Operation, Table};
 use std::io::{self, Read, Write};
 
-/// The length of `L 65535 65535 1`, the longest line of the form, without its newline.
-const LONGEST_LINE: usize = 15;
+/// The length of `V 65535 65535 65535`, the longest line of the form, without its newline.
+const LONGEST_LINE: usize = 19;
 const MAX_DIGITS: usize = 5;
 /// How many bytes a program reads at once.
 const BLOCK: usize = 1 << 16;
@@ -43,27 +43,35 @@ pub fn open_schedule(input: &[u8]) -> Option<(Table, impl Iterator<Item = Option
 /// Reads a line without its newline; nothing where it is malformed.
 pub fn read_line(line: &[u8]) -> Option<Line> {
     let (letter, rest) = line.split_first()?;
+    if *letter == b'C' {
+        return rest.is_empty().then_some(Line::Event(Event::Tick));
+    }
     let (first, rest) = read_field(rest)?;
     if *letter == b'S' {
         let event = Event::Step { thread: first };
         return rest.is_empty().then_some(Line::Event(event));
     }
     let (second, rest) = read_field(rest)?;
-    if *letter == b'L' {
-        let (kind, rest) = read_field(rest)?;
-        let header = Line::Header {
+    let (third, rest) = match letter {
+        b'L' | b'V' => read_field(rest)?,
+        _ => (0, rest),
+    };
+    if !rest.is_empty() {
+        return None;
+    }
+    match letter {
+        b'L' => (third <= 1).then_some(Line::Header {
             threads: first,
             objects: second,
-            reserved: kind == 1,
-        };
-        return (rest.is_empty() && kind <= 1).then_some(header);
+            reserved: third == 1,
+        }),
+        _ => Some(Line::Event(Event::Begin {
+            thread: first,
+            operation: read_operation(*letter)?.number(),
+            object: second,
+            limit: third.into(),
+        })),
     }
-    let event = Event::Begin {
-        thread: first,
-        operation: read_operation(*letter)?.number(),
-        object: second,
-    };
-    rest.is_empty().then_some(Line::Event(event))
 }
 
 fn read_operation(letter: u8) -> Option<Operation> {
@@ -73,6 +81,7 @@ fn read_operation(letter: u8) -> Option<Operation> {
         b'W' => Some(Operation::Wait),
         b'N' => Some(Operation::Notify),
         b'A' => Some(Operation::NotifyAll),
+        b'V' => Some(Operation::TimedWait),
         _ => None,
     }
 }
@@ -212,13 +221,12 @@ fn header(line: &[u8], output: &mut Vec<u8>) -> State {
 }
 
 fn event_line(table: &mut Table, event: Event, output: &mut Vec<u8>) {
-    let (Event::Begin { thread, .. } | Event::Step { thread }) = event;
     // A finishing step clears the record, so a step's object is read before it.
-    let object = match event {
-        Event::Begin { object, .. } => object as u8,
-        Event::Step { .. } => table
-            .thread_number(thread)
-            .map_or(0, |thread| table.thread(thread).object),
+    let (thread, object) = match event {
+        Event::Begin { thread, object, .. } => (thread, object as u8),
+        Event::Step { thread } => (thread, object_of(table, thread)),
+        // No thread's event: it prints its number alone also where it is accepted.
+        Event::Tick => return print_number_alone(tick(table).returned, output),
     };
     let outcome = apply(table, event);
     if outcome.returned.is_refusal() {
@@ -226,6 +234,13 @@ fn event_line(table: &mut Table, event: Event, output: &mut Vec<u8>) {
     }
     let phase = table.thread(thread as u8).phase.number();
     print_outcome(outcome, phase, table.object(object).word, output);
+}
+
+/// The object that a thread is at; 0 where it is at none, or there is no such thread.
+fn object_of(table: &Table, thread: u16) -> u8 {
+    table
+        .thread_number(thread)
+        .map_or(0, |thread| table.thread(thread).object)
 }
 
 fn print_outcome(outcome: Outcome, phase: u8, word: u32, output: &mut Vec<u8>) {

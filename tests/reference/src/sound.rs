@@ -1,5 +1,5 @@
-//! Soundness of a table: one function for each clause of document 01, in its order.
-//! Widths already rule out the rest: a flag is a bool, a depth sixteen bits, a phase one of its enum.
+//! Soundness of a table: one function for each clause of document 01, in its order, and one for the ticks of request L1.
+//! Widths already rule out the rest: a flag is a bool, a depth sixteen bits, ticks too, a phase one of its enum.
 
 use crate::table::{Chain, ObjectRecord, Onward, Operation, Phase, Table, ThreadRecord};
 use crate::table::{MAX_OBJECTS, MAX_THREADS};
@@ -11,6 +11,7 @@ pub fn is_sound(table: &Table) -> bool {
         && phases_fit_operations(table)
         && kept_words_fit(table)
         && saved_depths_fit(table)
+        && ticks_fit(table)
         && holders_in_range(table)
         && unheld_monitors_empty(table)
         && chains_end(table)
@@ -59,12 +60,14 @@ fn operation_uses(operation: Operation, phase: Phase) -> bool {
     match (operation, phase) {
         (Operation::Enter, Phase::Queued(onward)) => onward == Onward::Check,
         (Operation::Exit, Phase::Queued(onward)) => onward == Onward::Tell,
-        (Operation::Wait, Phase::Queued(onward)) => {
+        (Operation::Wait | Operation::TimedWait, Phase::Queued(onward)) => {
             matches!(onward, Onward::Inflate | Onward::Resume)
         }
         (Operation::Enter, phase) => matches!(phase.number(), 1..=8),
         (Operation::Exit, phase) => matches!(phase.number(), 1 | 2 | 4 | 9..=11),
-        (Operation::Wait, phase) => matches!(phase.number(), 1 | 3 | 4 | 12..=15),
+        (Operation::Wait | Operation::TimedWait, phase) => {
+            matches!(phase.number(), 1 | 3 | 4 | 12..=15)
+        }
         (Operation::Notify | Operation::NotifyAll, phase) => phase == Phase::Look,
     }
 }
@@ -90,6 +93,11 @@ pub fn saved_depths_fit(table: &Table) -> bool {
     threads(table)
         .filter(|(_, record)| record.phase.uses_saved_depth())
         .all(|(_, record)| record.saved_depth > 0)
+}
+
+/// A timed wait has ticks left in every phase, but for a woken one that ran out.
+pub fn ticks_fit(table: &Table) -> bool {
+    threads(table).all(|(_, record)| !record.has_run_out() || record.phase.is_woken())
 }
 
 pub fn holders_in_range(table: &Table) -> bool {
@@ -168,4 +176,5 @@ fn thread_unused_zero(record: &ThreadRecord) -> bool {
         && (record.phase == Phase::Store || record.kept_word == 0)
         && (record.phase.uses_saved_depth() || record.saved_depth == 0)
         && (record.phase.is_parked() || record.next == 0)
+        && (record.operation == Some(Operation::TimedWait) || record.ticks == 0)
 }

@@ -7,6 +7,8 @@ pub const MAX_THREADS: usize = 32;
 pub const MAX_OBJECTS: usize = 64;
 /// The deepest that one thread may own an object.
 pub const MAX_DEPTH: u16 = u16::MAX;
+/// The longest limit of a timed wait, in ticks.
+pub const MAX_LIMIT: u16 = u16::MAX;
 
 #[derive(Clone, Copy, Debug, PartialEq, Eq)]
 pub enum Operation {
@@ -15,15 +17,18 @@ pub enum Operation {
     Wait,
     Notify,
     NotifyAll,
+    /// A wait that gives up by itself after a number of ticks.
+    TimedWait,
 }
 
 impl Operation {
-    pub const ALL: [Operation; 5] = [
+    pub const ALL: [Operation; 6] = [
         Operation::Enter,
         Operation::Exit,
         Operation::Wait,
         Operation::Notify,
         Operation::NotifyAll,
+        Operation::TimedWait,
     ];
 
     pub fn number(self) -> u8 {
@@ -34,6 +39,10 @@ impl Operation {
         Operation::ALL
             .into_iter()
             .find(|operation| operation.number() == number)
+    }
+
+    pub fn is_wait(self) -> bool {
+        matches!(self, Operation::Wait | Operation::TimedWait)
     }
 }
 
@@ -149,6 +158,15 @@ pub struct ThreadRecord {
     pub kept_word: u32,
     pub saved_depth: u16,
     pub next: u8,
+    /// What a timed wait has left of its limit, 0 once it ran out; 0 of any other operation.
+    pub ticks: u16,
+}
+
+impl ThreadRecord {
+    /// Whether it is a timed wait that ran out: in every other phase than those of a woken thread it has ticks left.
+    pub fn has_run_out(&self) -> bool {
+        self.operation == Some(Operation::TimedWait) && self.ticks == 0
+    }
 }
 
 /// Thread numbers throughout; 0 means none.
@@ -293,5 +311,25 @@ impl Table {
         let next = std::mem::take(&mut self.thread_mut(thread).next);
         *self.object_mut(object).monitor.first_mut(chain) = next;
         Some(thread)
+    }
+
+    /// Parks a thread at the end of the entry chain, with the phase it goes on with.
+    pub fn queue(&mut self, object: u8, thread: u8, onward: Onward) {
+        self.thread_mut(thread).phase = Phase::Queued(onward);
+        self.join(object, Chain::Entry, thread);
+    }
+
+    /// Gives the monitor to the first thread queued for entry, or to nobody.
+    pub fn hand(&mut self, object: u8) {
+        let next = self.take_first(object, Chain::Entry);
+        if let Some(thread) = next {
+            let record = self.thread_mut(thread);
+            if let Phase::Queued(onward) = record.phase {
+                record.phase = onward.phase();
+            }
+        }
+        let monitor = &mut self.object_mut(object).monitor;
+        monitor.holder = next.unwrap_or(0);
+        monitor.depth = 0;
     }
 }

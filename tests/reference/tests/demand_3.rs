@@ -11,11 +11,12 @@ use reference::table::{Chain, Onward, Operation, Phase, Table};
 
 const STEP_1: Event = Event::Step { thread: 1 };
 
-fn begin_1(operation: Operation) -> Event {
+fn begin_1(operation: Operation, limit: u32) -> Event {
     Event::Begin {
         thread: 1,
         operation: operation.number(),
         object: 1,
+        limit,
     }
 }
 
@@ -23,7 +24,7 @@ fn begin_1(operation: Operation) -> Event {
 fn begun(operation: Operation) -> PlainMonitors {
     let mut plain = PlainMonitors::new(1);
     let outcome = Outcome::of(Returned::GoneOn);
-    plain.feed(begin_1(operation), outcome).expect("a begin");
+    plain.feed(begin_1(operation, 1), outcome).expect("a begin");
     plain
 }
 
@@ -63,7 +64,7 @@ fn commits() {
     plain.feed(STEP_1, finished(0)).expect("an enter");
     violation(plain.feed(STEP_1, finished(0)), "without an unfinished");
     violation(
-        plain.feed(begin_1(Operation::Exit), early),
+        plain.feed(begin_1(Operation::Exit, 0), early),
         "a begin is marked",
     );
 }
@@ -85,21 +86,30 @@ fn owners() {
     violation(plain.compare(&with_word(2, 0x000106)), "object 2");
 }
 
-/// The table and plain monitors after events on object 1, as `E1` or `S2`, that all passed the check.
+/// The event on object 1 that a word stands for: `E1`, `S2`, `V1/3` for a timed wait with limit 3, `C`.
+fn event(word: &str) -> Event {
+    if word == "C" {
+        return Event::Tick;
+    }
+    let (letter, numbers) = word.split_at(1);
+    let (thread, limit) = numbers.split_once('/').unwrap_or((numbers, "0"));
+    let thread = thread.parse().expect("a thread");
+    match "EXWNAV".find(letter) {
+        Some(place) => Event::Begin {
+            thread,
+            operation: place as u8 + 1,
+            object: 1,
+            limit: limit.parse().expect("a limit"),
+        },
+        None => Event::Step { thread },
+    }
+}
+
+/// The table and plain monitors after events that all passed the check.
 fn checked_run(events: &str) -> (Table, PlainMonitors) {
     let (mut table, mut plain) = (fresh(), PlainMonitors::new(2));
     for word in events.split(' ') {
-        let (letter, thread) = word.split_at(1);
-        let thread = thread.parse().expect("a thread");
-        let event = match "EXWNA".find(letter) {
-            Some(place) => Event::Begin {
-                thread,
-                operation: place as u8 + 1,
-                object: 1,
-            },
-            None => Event::Step { thread },
-        };
-        check_event(&mut table, &mut plain, event).expect("no violation");
+        check_event(&mut table, &mut plain, event(word)).expect("no violation");
     }
     (table, plain)
 }
@@ -125,6 +135,47 @@ fn woken() {
     assert_eq!(table.thread(1).phase, Phase::Queued(Onward::Resume));
     table.thread_mut(1).phase = Phase::Queued(Onward::Inflate);
     violation(plain.compare(&table), "0 woken threads");
+}
+
+/// Thread 1 waits with a limit of two ticks, and nobody holds the monitor.
+const ONE_WAITS_TIMED: &str = "E1 S1 V1/2 S1 S1 S1 S1";
+
+#[test]
+fn answers_of_timed_waits() {
+    let (_, mut plain) = checked_run(&format!("{ONE_WAITS_TIMED} C C"));
+    violation(plain.clone().feed(STEP_1, finished(0)), "woken: 1");
+    assert_eq!(plain.feed(STEP_1, finished(1)), Ok(()));
+    let notified = format!("{ONE_WAITS_TIMED} C E2 S2 S2 S2 N2 S2 C C X2 S2 S2 C");
+    let (_, mut plain) = checked_run(&notified);
+    violation(plain.clone().feed(STEP_1, finished(1)), "woken: 0");
+    assert_eq!(plain.feed(STEP_1, finished(0)), Ok(()));
+}
+
+#[test]
+fn ticks() {
+    let (mut table, plain) = checked_run(&format!("{ONE_WAITS_TIMED} C"));
+    table.thread_mut(1).ticks = 2;
+    violation(plain.compare(&table), "thread 1 has ticks 2");
+    // Run out in the plain monitors, and not in the table.
+    let (table, mut plain) = checked_run(&format!("{ONE_WAITS_TIMED} C"));
+    let accepted = Outcome::of(Returned::GoneOn);
+    assert_eq!(plain.feed(Event::Tick, accepted), Ok(()));
+    violation(plain.compare(&table), "waiting threads [1]");
+    violation(plain.feed(Event::Tick, finished(1)), "a tick was answered");
+    violation(
+        plain.feed(Event::Tick, accepted.committing()),
+        "a tick was answered",
+    );
+}
+
+#[test]
+fn limits_accepted_wrongly() {
+    for limit in [0, 65_536] {
+        let mut plain = PlainMonitors::new(1);
+        let accepted = Outcome::of(Returned::GoneOn);
+        let begun = plain.feed(begin_1(Operation::TimedWait, limit), accepted);
+        violation(begun, "was accepted");
+    }
 }
 
 #[test]

@@ -2,9 +2,11 @@
 
 use reference::checked::check_schedule;
 use reference::engine::{apply, Event};
-use reference::generate::schedule;
+use reference::generate::{long_schedule, schedule};
+use reference::outcome::{Outcome, Returned};
 use reference::replay::{open_schedule, Line};
 use reference::shrink::shrink;
+use reference::table::{Onward, Operation, Phase, Table, ThreadRecord, MAX_LIMIT};
 use std::collections::BTreeSet;
 
 const SEEDS: std::ops::Range<u64> = 0..400;
@@ -35,7 +37,126 @@ fn every_phase_and_number_is_reached() {
         visit(&schedule(seed), &mut phases, &mut numbers);
     }
     assert_eq!(phases, (0..=15).collect());
-    assert_eq!(numbers, BTreeSet::from([0, 1, 2, 12, 13, 14, 15, 16, 18]));
+    let reached = BTreeSet::from([0, 1, 2, 12, 13, 14, 15, 16, 18, 23]);
+    assert_eq!(numbers, reached);
+}
+
+/// What may befall a timed wait.
+#[derive(Clone, Copy, Debug, PartialEq, Eq, PartialOrd, Ord)]
+enum Fate {
+    LongestLimit,
+    FinishedRunOut,
+    FinishedNotified,
+    TickedWhenNotified,
+    RunOutAndHanded,
+    RunOutAndQueued,
+    RunOutTogether,
+    RunOutBeforeOthers,
+}
+
+fn is_timed(record: &ThreadRecord) -> bool {
+    record.operation == Some(Operation::TimedWait)
+}
+
+/// What a tick does to the timed waits of a table.
+fn fates_of_tick(before: &Table, after: &Table) -> Vec<Fate> {
+    let records = before.thread_records.iter().zip(&after.thread_records);
+    let waited = records.filter(|(old, _)| old.phase == Phase::Waiting);
+    let phases: Vec<Phase> = waited.map(|(_, new)| new.phase).collect();
+    let handed = phases.contains(&Phase::Resume);
+    let queued = phases.contains(&Phase::Queued(Onward::Resume));
+    let run_out = phases.iter().filter(|phase| phase.is_woken()).count();
+    let notified = before
+        .thread_records
+        .iter()
+        .any(|old| is_timed(old) && old.phase.is_woken() && old.ticks > 0);
+    let seen = [
+        (notified, Fate::TickedWhenNotified),
+        (handed, Fate::RunOutAndHanded),
+        (queued, Fate::RunOutAndQueued),
+        (run_out > 1, Fate::RunOutTogether),
+        (
+            (1..phases.len()).contains(&run_out),
+            Fate::RunOutBeforeOthers,
+        ),
+    ];
+    let seen = seen.into_iter().filter(|(is_so, _)| *is_so);
+    seen.map(|(_, fate)| fate).collect()
+}
+
+/// What the event does to a timed wait, if anything.
+fn fates(before: &Table, after: &Table, event: Event, outcome: Outcome) -> Vec<Fate> {
+    match (event, outcome.returned) {
+        (Event::Tick, _) => fates_of_tick(before, after),
+        (Event::Begin { thread, .. }, Returned::GoneOn) => {
+            let longest = after.thread(thread as u8).ticks == MAX_LIMIT;
+            longest.then_some(Fate::LongestLimit).into_iter().collect()
+        }
+        (Event::Step { thread }, Returned::Finished) if is_timed(before.thread(thread as u8)) => {
+            match outcome.woken {
+                0 => vec![Fate::FinishedNotified],
+                _ => vec![Fate::FinishedRunOut],
+            }
+        }
+        _ => Vec::new(),
+    }
+}
+
+fn fates_in(input: &[u8]) -> BTreeSet<Fate> {
+    let mut found = BTreeSet::new();
+    let Some((mut table, lines)) = open_schedule(input) else {
+        return found;
+    };
+    for line in lines {
+        let Some(Line::Event(event)) = line else {
+            continue;
+        };
+        let before = table.clone();
+        let outcome = apply(&mut table, event);
+        found.extend(fates(&before, &table, event, outcome));
+    }
+    found
+}
+
+#[test]
+fn timed_waits_meet_every_fate() {
+    let found: BTreeSet<Fate> = SEEDS.flat_map(|seed| fates_in(&schedule(seed))).collect();
+    let all = BTreeSet::from([
+        Fate::LongestLimit,
+        Fate::FinishedRunOut,
+        Fate::FinishedNotified,
+        Fate::TickedWhenNotified,
+        Fate::RunOutAndHanded,
+        Fate::RunOutAndQueued,
+        Fate::RunOutTogether,
+        Fate::RunOutBeforeOthers,
+    ]);
+    assert_eq!(found, all);
+}
+
+/// What the schedules of benchmarks add up to, so that measurements before and after a change are of the same one.
+#[test]
+fn benchmarks_keep_their_schedules() {
+    let sum = long_schedule(1, 1_000, 8, 3, 0)
+        .into_iter()
+        .fold(0_u64, |sum, byte| {
+            sum.wrapping_mul(31).wrapping_add(byte.into())
+        });
+    assert_eq!(sum, 0xc577_eb21_079d_85cb);
+}
+
+#[test]
+fn long_schedules_have_timed_waits_and_ticks_only_if_asked() {
+    let letters = |ticks: u64| -> BTreeSet<u8> {
+        let schedule = long_schedule(1, 5_000, 4, 2, ticks);
+        let lines = schedule.split(|byte| *byte == b'\n');
+        lines.filter_map(|line| line.first().copied()).collect()
+    };
+    assert!(letters(0).is_disjoint(&BTreeSet::from(*b"VC")));
+    assert!(letters(5).is_superset(&BTreeSet::from(*b"VC")));
+    let ticked = long_schedule(1, 5_000, 4, 2, 5);
+    assert!(fates_in(&ticked).contains(&Fate::FinishedRunOut));
+    assert_eq!(check_schedule(&ticked), Ok(()));
 }
 
 #[test]

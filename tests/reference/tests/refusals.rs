@@ -1,12 +1,12 @@
-//! Each refusal from 11 to 22, their order, and the table they leave.
+//! Each refusal from 11 to 23, their order, and the table they leave.
 
 mod common;
 
 use common::{begin_and_step, fresh, place, step_to, with_monitor, with_word};
-use reference::engine::{begin, step};
+use reference::engine::{begin, step, tick};
 use reference::outcome::{Outcome, Returned};
 use reference::replay::replay;
-use reference::table::{Onward, Operation, Phase, Table};
+use reference::table::{Onward, Operation, Phase, Table, MAX_LIMIT};
 
 fn unchanged(table: &Table, expected: Returned, event: impl FnOnce(&mut Table) -> Outcome) {
     let mut after = table.clone();
@@ -31,39 +31,90 @@ fn two_at_work() -> Table {
 #[test]
 fn not_sound_comes_first() {
     let table = with_word(2, 0x000003);
-    unchanged(&table, Returned::NotSound, |table| begin(table, 0, 9, 9));
+    unchanged(&table, Returned::NotSound, |table| begin(table, 0, 9, 9, 0));
     unchanged(&table, Returned::NotSound, |table| step(table, 9));
+    unchanged(&table, Returned::NotSound, tick);
 }
 
 #[test]
 fn begins_in_order() {
     let table = two_at_work();
     unchanged(&table, Returned::NoSuchThread, |table| {
-        begin(table, 0, 9, 9)
+        begin(table, 0, 9, 9, 0)
     });
     unchanged(&table, Returned::NoSuchThread, |table| {
-        begin(table, 5, 1, 1)
+        begin(table, 5, 1, 1, 0)
     });
     unchanged(&table, Returned::NoSuchThread, |table| {
-        begin(table, 257, 1, 1)
+        begin(table, 257, 1, 1, 0)
     });
     unchanged(&table, Returned::NoSuchOperation, |table| {
-        begin(table, 1, 0, 9)
+        begin(table, 1, 0, 9, 0)
     });
     unchanged(&table, Returned::NoSuchOperation, |table| {
-        begin(table, 3, 6, 1)
+        begin(table, 3, 7, 1, 0)
     });
     unchanged(&table, Returned::NoSuchObject, |table| {
-        begin(table, 1, 1, 0)
+        begin(table, 1, 1, 0, 0)
     });
     unchanged(&table, Returned::NoSuchObject, |table| {
-        begin(table, 3, 5, 3)
+        begin(table, 3, 5, 3, 0)
     });
     unchanged(&table, Returned::NoSuchObject, |table| {
-        begin(table, 3, 5, 257)
+        begin(table, 3, 5, 257, 0)
     });
-    unchanged(&table, Returned::ThreadBusy, |table| begin(table, 1, 5, 2));
-    unchanged(&table, Returned::ThreadBusy, |table| begin(table, 2, 1, 1));
+    unchanged(&table, Returned::ThreadBusy, |table| {
+        begin(table, 1, 5, 2, 0)
+    });
+    unchanged(&table, Returned::ThreadBusy, |table| {
+        begin(table, 2, 1, 1, 0)
+    });
+}
+
+const TIMED_WAIT: u8 = 6;
+/// Limits that no timed wait has; the last two look like short ones to whoever cuts them off at sixteen bits.
+const NO_LIMITS: [u32; 5] = [0, 65_536, u32::MAX, 65_536 + 1, 5 << 16 | 7];
+
+#[test]
+fn limits_come_last() {
+    let table = two_at_work();
+    for limit in NO_LIMITS {
+        unchanged(&table, Returned::NoSuchThread, |table| {
+            begin(table, 5, TIMED_WAIT, 9, limit)
+        });
+        unchanged(&table, Returned::NoSuchOperation, |table| {
+            begin(table, 1, 7, 9, limit)
+        });
+        unchanged(&table, Returned::NoSuchObject, |table| {
+            begin(table, 1, TIMED_WAIT, 9, limit)
+        });
+        unchanged(&table, Returned::ThreadBusy, |table| {
+            begin(table, 2, TIMED_WAIT, 1, limit)
+        });
+        unchanged(&table, Returned::LimitOutOfRange, |table| {
+            begin(table, 3, TIMED_WAIT, 2, limit)
+        });
+    }
+}
+
+#[test]
+fn limits_are_for_timed_waits_alone() {
+    for operation in Operation::ALL {
+        let limit = u32::from(MAX_LIMIT);
+        let mut table = fresh();
+        let outcome = begin(&mut table, 1, operation.number(), 1, limit);
+        assert_eq!(outcome, Outcome::of(Returned::GoneOn));
+        let timed = operation == Operation::TimedWait;
+        assert_eq!(table.thread(1).ticks, if timed { MAX_LIMIT } else { 0 });
+    }
+    for limit in NO_LIMITS {
+        for operation in 1..TIMED_WAIT {
+            let mut table = fresh();
+            let outcome = begin(&mut table, 1, operation, 1, limit);
+            assert_eq!(outcome, Outcome::of(Returned::GoneOn));
+            assert_eq!(table.thread(1).ticks, 0);
+        }
+    }
 }
 
 #[test]
@@ -91,6 +142,7 @@ fn not_the_owner() {
         Operation::Wait,
         Operation::Notify,
         Operation::NotifyAll,
+        Operation::TimedWait,
     ];
     for operation in operations {
         for word in others {
@@ -138,6 +190,9 @@ fn no_rule_without_holding() {
         (Operation::Wait, Phase::Inflate),
         (Operation::Wait, Phase::Wait),
         (Operation::Wait, Phase::Resume),
+        (Operation::TimedWait, Phase::Inflate),
+        (Operation::TimedWait, Phase::Wait),
+        (Operation::TimedWait, Phase::Resume),
     ];
     for (operation, phase) in phases {
         no_rule(with_monitor(1, 0), operation, phase);
@@ -154,7 +209,6 @@ fn no_rule_while_holding() {
     };
     let fat = 0x000101;
     no_rule(held(fat, 1), Operation::Exit, Phase::GoIn);
-    no_rule(held(fat, 1), Operation::Wait, Phase::GoIn);
     no_rule(held(fat, 0), Operation::Enter, Phase::GoIn);
     no_rule(held(fat, 1), Operation::Enter, Phase::Check);
     no_rule(held(0x000002, 0), Operation::Enter, Phase::Check);
@@ -163,12 +217,15 @@ fn no_rule_while_holding() {
     no_rule(held(0x000200, 0), Operation::Enter, Phase::Try);
     no_rule(held(0x000102, 0), Operation::Enter, Phase::Try);
     no_rule(held(fat, 1), Operation::Exit, Phase::Leave);
-    no_rule(held(0x000100, 0), Operation::Wait, Phase::Inflate);
-    no_rule(held(0x000000, 0), Operation::Wait, Phase::Inflate);
-    no_rule(held(fat, 0), Operation::Wait, Phase::Wait);
-    no_rule(held(0x000200, 1), Operation::Wait, Phase::Wait);
-    no_rule(held(fat, 1), Operation::Wait, Phase::Resume);
-    no_rule(held(0x000000, 0), Operation::Wait, Phase::Resume);
+    for wait in [Operation::Wait, Operation::TimedWait] {
+        no_rule(held(fat, 1), wait, Phase::GoIn);
+        no_rule(held(0x000100, 0), wait, Phase::Inflate);
+        no_rule(held(0x000000, 0), wait, Phase::Inflate);
+        no_rule(held(fat, 0), wait, Phase::Wait);
+        no_rule(held(0x000200, 1), wait, Phase::Wait);
+        no_rule(held(fat, 1), wait, Phase::Resume);
+        no_rule(held(0x000000, 0), wait, Phase::Resume);
+    }
 }
 
 #[test]
@@ -182,7 +239,7 @@ fn program_refusals() {
 fn accepted_where_no_refusal_applies() {
     let mut table = fresh();
     for (thread, operation) in (1..=4).zip(Operation::ALL) {
-        let outcome = begin(&mut table, thread, operation.number(), 2);
+        let outcome = begin(&mut table, thread, operation.number(), 2, 1);
         assert_eq!(outcome, Outcome::of(Returned::GoneOn));
         assert_eq!(table.thread(thread as u8).phase, Phase::Look);
     }

@@ -21,10 +21,12 @@ fn document_01_listing() {
 /// Headers without their newline, parted by bars.
 const MALFORMED_HEADERS: &str =
     "|L 1 1|L 1 1 0 |L 1 1 2|L 33 1 2|L 1 1 00|L 01 1 0|L 65536 1 0|L 1 70000 0|\
-    l 1 1 0|L  1 1 0|L 1 1 0\r| L 1 1 0|E 1 1|L 1 1 0 0|L 1 1 -0";
+    l 1 1 0|L  1 1 0|L 1 1 0\r| L 1 1 0|E 1 1|L 1 1 0 0|L 1 1 -0|C|V 1 1 1|L 1 1 0 1";
 
 const MALFORMED_LINES: &str = "| |S|S |S 1 | S 1|S  1|S 01|S 00|S +1|S -1|S 1 1|S 65536|S 99999999999999999999|\
-    s 1|S\t1|S 1\r|E 1|E 1 1 1|E 1 01|E  1 1|E 1  1|Q 1 1|L 1 1 0|L 1 1|EE 1 1|1|E 1 1\0|S \u{661}|S1";
+    s 1|S\t1|S 1\r|E 1|E 1 1 1|E 1 01|E  1 1|E 1  1|Q 1 1|L 1 1 0|L 1 1|EE 1 1|1|E 1 1\0|S \u{661}|S1|\
+    C |C 1| C|CC|c|C\r|V|V 1|V 1 1|V 1 1 |V 1 1 1 |V 1 1 1 1|V 1 1 01|V 1 1 65536|V 1 1 -1|V 1 1  1|v 1 1 1|\
+    VV 1 1 1|W 1 1 1";
 
 #[test]
 fn malformed_headers() {
@@ -63,9 +65,13 @@ fn malformed_lines() {
 #[test]
 fn refused_lines() {
     let refused = [
-        ("12", "S 0|S 2|S 65535|E 0 0|W 257 1"),
-        ("13", "E 1 0|E 1 2|A 1 65535|N 1 257"),
+        (
+            "12",
+            "S 0|S 2|S 65535|E 0 0|W 257 1|V 0 0 0|V 65535 65535 65535",
+        ),
+        ("13", "E 1 0|E 1 2|A 1 65535|N 1 257|V 1 2 0"),
         ("15", "S 1"),
+        ("23", "V 1 1 0"),
     ];
     for (number, lines) in refused {
         for line in lines.split('|') {
@@ -73,6 +79,28 @@ fn refused_lines() {
             assert_eq!(printed(&input), format!("{number}\n"), "{line:?}");
         }
     }
+}
+
+#[test]
+fn timed_waits_and_ticks() {
+    for limit in ["1", "65535"] {
+        let input = format!("L 1 1 0\nV 1 1 {limit}\nV 1 1 0\nC\n");
+        assert_eq!(printed(&input), "0 1 0 000000\n14\n0\n");
+    }
+    assert_eq!(printed("L 1 1 0\nC"), "21\n");
+}
+
+/// Fed byte by byte, so that the replay keeps all of the line: one of the greatest length, and one that is longer.
+#[test]
+fn the_longest_line_in_pieces() {
+    let input = b"L 1 1 0\nV 65535 65535 65535\nV 65535 65535 655351\nC\n";
+    let mut run = Replay::default();
+    let mut output = Vec::new();
+    for byte in input {
+        run.feed(&[*byte], &mut output);
+    }
+    run.finish(&mut output);
+    assert_eq!(output, b"12\n21\n0\n");
 }
 
 #[test]

@@ -3,19 +3,20 @@
 mod common;
 
 use common::{fresh, place, with_monitor, with_word, OBJECTS, THREADS};
-use reference::engine::{begin, step};
+use reference::engine::{begin, step, tick};
 use reference::outcome::Returned;
 use reference::sound;
 use reference::table::{Onward, Operation, Phase, Table, ThreadRecord};
 
 type Clause = fn(&Table) -> bool;
 
-/// The clause refuses the table, and so do both events, leaving it as it was.
+/// The clause refuses the table, and so do all three events, leaving it as it was.
 fn refused(clause: Clause, table: Table) {
     assert!(!clause(&table), "{table:?}");
     let mut after = table.clone();
-    assert_eq!(begin(&mut after, 1, 1, 1).returned, Returned::NotSound);
+    assert_eq!(begin(&mut after, 1, 1, 1, 0).returned, Returned::NotSound);
     assert_eq!(step(&mut after, 0).returned, Returned::NotSound);
+    assert_eq!(tick(&mut after).returned, Returned::NotSound);
     assert_eq!(after, table);
 }
 
@@ -88,11 +89,15 @@ fn operations_and_phases() {
         (Operation::Exit, Phase::Check),
         (Operation::Wait, Phase::Store),
         (Operation::Wait, Phase::Leave),
+        (Operation::TimedWait, Phase::Store),
+        (Operation::TimedWait, Phase::Leave),
         (Operation::Notify, Phase::GoIn),
         (Operation::NotifyAll, Phase::Store),
         (Operation::Enter, Phase::Queued(Onward::Tell)),
         (Operation::Exit, Phase::Queued(Onward::Check)),
         (Operation::Wait, Phase::Queued(Onward::Check)),
+        (Operation::TimedWait, Phase::Queued(Onward::Check)),
+        (Operation::TimedWait, Phase::Queued(Onward::Tell)),
         (Operation::Notify, Phase::Queued(Onward::Resume)),
     ];
     for (operation, phase) in wrong {
@@ -137,6 +142,44 @@ fn saved_depths() {
     );
     queued.object_mut(1).monitor.entry = 3;
     refused(sound::saved_depths_fit, queued);
+}
+
+/// Thread 3 is at a phase of a timed wait on object 1, in the chain of that phase, with so many ticks left.
+fn timed(phase: Phase, ticks: u16) -> Table {
+    let mut table = with_monitor(1, 1);
+    place(&mut table, 3, Operation::TimedWait, phase);
+    let record = table.thread_mut(3);
+    record.ticks = ticks;
+    record.saved_depth = u16::from(phase.uses_saved_depth());
+    if let Some(chain) = phase.chain() {
+        table.join(1, chain, 3);
+    }
+    table
+}
+
+#[test]
+fn ticks() {
+    let unwoken = [
+        Phase::Look,
+        Phase::Cancel,
+        Phase::GoIn,
+        Phase::Queued(Onward::Inflate),
+        Phase::Inflate,
+        Phase::Wait,
+        Phase::Waiting,
+    ];
+    for phase in unwoken {
+        refused(sound::ticks_fit, timed(phase, 0));
+    }
+    let woken = [Phase::Queued(Onward::Resume), Phase::Resume];
+    for phase in woken {
+        assert!(sound::is_sound(&timed(phase, 0)));
+    }
+    for phase in unwoken.into_iter().chain(woken) {
+        for ticks in [1, u16::MAX] {
+            assert!(sound::is_sound(&timed(phase, ticks)), "{phase:?}");
+        }
+    }
 }
 
 #[test]
@@ -215,6 +258,12 @@ fn records_past_the_sizes() {
     );
     refused(
         clause,
+        altered(fresh(), |table| {
+            table.thread_records[past_threads].ticks = 1
+        }),
+    );
+    refused(
+        clause,
         altered(fresh(), |table| table.object_records[past_objects].word = 2),
     );
     let last_flag = |table: &mut Table| table.object_records[63].contention_flag = true;
@@ -233,15 +282,20 @@ fn unused_fields() {
     refuse(fresh(), |thread| thread.kept_word = 0x000202);
     refuse(fresh(), |thread| thread.saved_depth = 1);
     refuse(fresh(), |thread| thread.next = 1);
+    refuse(fresh(), |thread| thread.ticks = 1);
     // A queued enter has neither a kept word nor a saved depth, a storing one no saved depth and no next.
     refuse(crowded(), |thread| thread.kept_word = 0x000202);
     refuse(crowded(), |thread| thread.saved_depth = 1);
+    refuse(crowded(), |thread| thread.ticks = 1);
     refuse(storing(Operation::Enter, 0x000202), |thread| {
         thread.saved_depth = 1
     });
     refuse(storing(Operation::Enter, 0x000202), |thread| {
         thread.next = 1
     });
+    // A wait without a limit has no ticks.
+    let waiting = altered(crowded(), |table| table.thread_mut(3).ticks = 1);
+    refused(sound::unused_fields_zero, waiting);
 }
 
 #[test]

@@ -33,7 +33,7 @@ fn cancelling_sends_the_owner_back_from_its_store() {
 fn cancelling_leaves_a_store_on_another_object_alone() {
     let mut table = about_to_store(Operation::Enter);
     table.object_mut(2).word = 0x000102;
-    begin(&mut table, 2, Operation::Enter.number(), 2);
+    begin(&mut table, 2, Operation::Enter.number(), 2, 0);
     assert_eq!(step_to(&mut table, 2), (0, 3));
     assert_eq!(step_to(&mut table, 2), (0, 1));
     assert_eq!(table.object(2).word, 0);
@@ -58,7 +58,7 @@ fn reserved_and_flat_counts_differ_by_one() {
 #[test]
 fn the_flag_is_tested_after_the_word_is_free() {
     let mut table = with_word(1, 0x000100);
-    begin(&mut table, 1, Operation::Exit.number(), 1);
+    begin(&mut table, 1, Operation::Exit.number(), 1, 0);
     place(&mut table, 2, Operation::Enter, Phase::Try);
     table.object_mut(1).contention_flag = true;
     table.object_mut(1).monitor.holder = 2;

@@ -14,12 +14,15 @@ pub struct Case {
 const ONE: u8 = 1;
 const OTHER: u8 = 2;
 const OBJECT: u8 = 1;
+const FAT: LockWord = LockWord::Fat {
+    monitor: OBJECT as u16,
+};
 
 fn fresh() -> Table {
     Table::fresh(2, 1, false).expect("sizes in range")
 }
 
-/// A table with thread one at this operation and phase, in the chain of its phase.
+/// A table with thread one at this operation and phase, in the chain of its phase. A timed wait has one tick left.
 fn at(operation: Operation, phase: Phase) -> Table {
     let mut table = fresh();
     *table.thread_mut(ONE) = ThreadRecord {
@@ -27,6 +30,7 @@ fn at(operation: Operation, phase: Phase) -> Table {
         object: OBJECT,
         phase,
         saved_depth: u16::from(phase.uses_saved_depth()),
+        ticks: u16::from(operation == Operation::TimedWait),
         ..ThreadRecord::default()
     };
     if let Some(chain) = phase.chain() {
@@ -49,6 +53,16 @@ fn begin(thread: u16, operation: u8, object: u16) -> Event {
         thread,
         operation,
         object,
+        limit: 0,
+    }
+}
+
+fn timed_wait(thread: u16, object: u16, limit: u32) -> Event {
+    Event::Begin {
+        thread,
+        operation: Operation::TimedWait.number(),
+        object,
+        limit,
     }
 }
 
@@ -63,17 +77,27 @@ fn unsound() -> Table {
 }
 
 pub fn cases() -> Vec<Case> {
+    let mut cases = untimed_cases();
+    cases.extend(timed_cases());
+    cases
+        .into_iter()
+        .map(|(number, table, event)| Case {
+            number,
+            table,
+            event,
+        })
+        .collect()
+}
+
+fn untimed_cases() -> Vec<(u8, Table, Event)> {
     let flat = LockWord::Flat {
         thread: OTHER.into(),
         count: 0,
     };
-    let fat = LockWord::Fat {
-        monitor: OBJECT.into(),
-    };
     let queued = at(Operation::Enter, Phase::Queued(Onward::Check));
-    let deep = held(at(Operation::Enter, Phase::GoIn), fat, ONE, MAX_DEPTH);
+    let deep = held(at(Operation::Enter, Phase::GoIn), FAT, ONE, MAX_DEPTH);
     let trying = held(at(Operation::Enter, Phase::Try), flat, ONE, 0);
-    let cases = [
+    vec![
         (0, fresh(), begin(1, 1, 1)),
         (1, at(Operation::Enter, Phase::Look), step(1)),
         (2, trying, step(1)),
@@ -84,31 +108,54 @@ pub fn cases() -> Vec<Case> {
         (13, fresh(), begin(1, 1, 2)),
         (14, at(Operation::Exit, Phase::Look), begin(1, 1, 1)),
         (15, fresh(), step(1)),
-        (16, held(queued, fat, OTHER, 1), step(1)),
+        (16, held(queued, FAT, OTHER, 1), step(1)),
         (16, at(Operation::Enter, Phase::Contending), step(1)),
         (16, at(Operation::Wait, Phase::Waiting), step(1)),
-        (17, fresh(), begin(1, 6, 1)),
+        (17, fresh(), begin(1, 7, 1)),
         (18, at(Operation::Exit, Phase::Look), step(1)),
         (19, deep, step(1)),
         (20, at(Operation::Enter, Phase::Check), step(1)),
         (20, at(Operation::Exit, Phase::Tell), step(1)),
-    ];
-    cases
-        .map(|(number, table, event)| Case {
-            number,
-            table,
-            event,
-        })
-        .into()
+    ]
 }
 
-/// Tables to be asked about: a thread behind another in each chain, and a monitor at a depth that nobody holds, which is no owner's.
+/// The table with thread one out of ticks.
+fn out_of_ticks(mut table: Table) -> Table {
+    table.thread_mut(ONE).ticks = 0;
+    table
+}
+
+fn timed_cases() -> Vec<(u8, Table, Event)> {
+    let looking = at(Operation::TimedWait, Phase::Look);
+    let waiting = at(Operation::TimedWait, Phase::Waiting);
+    let resuming = held(at(Operation::TimedWait, Phase::Resume), FAT, ONE, 0);
+    let mut ticking = at(Operation::Wait, Phase::Waiting);
+    ticking.thread_mut(ONE).ticks = 1;
+    vec![
+        (0, fresh(), timed_wait(1, 1, 65_535)),
+        (0, fresh(), Event::Tick),
+        (0, held(waiting.clone(), FAT, 0, 0), Event::Tick),
+        (0, held(waiting.clone(), FAT, OTHER, 1), Event::Tick),
+        (1, resuming.clone(), step(1)),
+        (1, out_of_ticks(resuming), step(1)),
+        (11, unsound(), Event::Tick),
+        (11, out_of_ticks(looking.clone()), step(1)),
+        (11, out_of_ticks(waiting.clone()), Event::Tick),
+        (11, ticking, Event::Tick),
+        (14, looking.clone(), timed_wait(1, 1, 0)),
+        (16, waiting, step(1)),
+        (18, looking, step(1)),
+        (23, fresh(), begin(1, 6, 1)),
+        (23, fresh(), timed_wait(1, 1, 65_536)),
+        (23, fresh(), timed_wait(1, 1, u32::MAX)),
+    ]
+}
+
+/// Tables to be asked about: a thread behind another in each chain, a timed wait, and a monitor at a depth that nobody holds, which is no owner's.
 pub fn asked_about() -> Vec<Table> {
     let mut tables: Vec<Table> = Chain::ALL.into_iter().map(chained).collect();
-    let fat = LockWord::Fat {
-        monitor: OBJECT.into(),
-    };
-    tables.push(held(fresh(), fat, 0, 5));
+    tables.push(at(Operation::TimedWait, Phase::Waiting));
+    tables.push(held(fresh(), FAT, 0, 5));
     // The other thread holds the monitor of an object that the queued one owns itself, and of one that nobody owns.
     let own = LockWord::Flat {
         thread: ONE.into(),

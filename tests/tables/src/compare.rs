@@ -14,7 +14,11 @@ use reference::{generate, program, replay, sound};
 use std::process::ExitCode;
 
 const NOT_SOUND: u32 = 11;
-/// Questions put to each table; the next table gets the next ones.
+/// The number of the operation that has a call of its own.
+pub const TIMED_WAIT: u8 = 6;
+/// Kinds of tables, by turns.
+const KINDS: u64 = 8;
+/// Questions put to each table; the next table of its kind gets the next ones.
 const ASKED: u64 = 5;
 
 pub struct Run {
@@ -63,8 +67,7 @@ impl Run {
         let bytes = self.any_bytes(place);
         let table = decode(&bytes);
         let numbers = table.as_ref().map(|table| (table.threads, table.objects));
-        for stepping in [true, false] {
-            let event = self.event(numbers.unwrap_or((3, 3)), stepping);
+        for event in self.events(numbers.unwrap_or((3, 3))) {
             let result = self.check_event(&bytes, table.clone(), event).map(|_| ());
             let name = || format!("table {place}, {event:?}");
             self.note(name, result);
@@ -73,7 +76,7 @@ impl Run {
         let last = self.random.pick(&[threads, objects]);
         let asked = self.near(last).into();
         for turn in 0..ASKED {
-            let question = &QUESTIONS[(place * ASKED + turn) as usize % QUESTIONS.len()];
+            let question = &QUESTIONS[(place / KINDS * ASKED + turn) as usize % QUESTIONS.len()];
             let result = question.check(&bytes, table.as_ref(), asked);
             self.note(|| format!("table {place}"), result);
         }
@@ -90,7 +93,7 @@ impl Run {
 
     /// Kinds of tables by turns: sound, one field damaged, two fields, random bytes.
     fn any_bytes(&mut self, place: u64) -> Vec<u8> {
-        match place % 8 {
+        match place % KINDS {
             0..=2 => self.sound_bytes(),
             3..=4 => self.damaged_bytes(place, 1),
             5..=6 => self.damaged_bytes(place, 2),
@@ -110,11 +113,11 @@ impl Run {
     /// The first field damaged goes through all of them in turn.
     fn damaged_bytes(&mut self, place: u64, number: usize) -> Vec<u8> {
         let mut bytes = self.sound_bytes();
-        let first = (place / 8) as usize % self.fields.len();
+        let first = (place / KINDS) as usize % self.fields.len();
         damage(&mut self.random, &mut bytes, self.fields[first]);
         for _ in 1..number {
             // Fields of the first records are the ones that matter most.
-            let last = self.random.pick(&[self.fields.len(), 30]);
+            let last = self.random.pick(&[self.fields.len(), 34]);
             let other = self.random.between(0, last as u64 - 1) as usize;
             damage(&mut self.random, &mut bytes, self.fields[other]);
         }
@@ -125,7 +128,7 @@ impl Run {
         let any = self.random.between(0, 2 * TABLE_SIZE as u64) as usize;
         let near = TABLE_SIZE - 1 + self.random.between(0, 2) as usize;
         let length = self.random.pick(&[TABLE_SIZE, TABLE_SIZE, near, any]);
-        let largest = self.random.pick(&[1, 2, 5, 15, 255]);
+        let largest = self.random.pick(&[1, 2, 6, 15, 255]);
         let chance = self.random.pick(&[1, 10, 100]);
         let mut bytes = vec![0; length];
         for byte in &mut bytes {
@@ -136,16 +139,26 @@ impl Run {
         bytes
     }
 
-    fn event(&mut self, (threads, objects): (u8, u8), stepping: bool) -> Event {
-        let thread = self.near(threads);
-        if stepping {
-            return Event::Step { thread };
-        }
-        Event::Begin {
-            thread,
-            operation: self.random.pick(&[0, 1, 1, 2, 2, 3, 3, 4, 5, 6, 255]),
+    /// A step, a begin and a tick.
+    fn events(&mut self, (threads, objects): (u8, u8)) -> [Event; 3] {
+        let step = Event::Step {
+            thread: self.near(threads),
+        };
+        let begin = Event::Begin {
+            thread: self.near(threads),
+            operation: self.random.pick(&[0, 1, 1, 2, 2, 3, 3, 4, 5, 6, 6, 7, 255]),
             object: self.near(objects),
-        }
+            limit: self.limit(),
+        };
+        [step, begin, Event::Tick]
+    }
+
+    /// Mostly a limit that a timed wait may have, at times one beside that range, or one that looks good if it is cut off.
+    fn limit(&mut self) -> u32 {
+        let any = self.random.between(1, 65_535) as u32;
+        let cut_off = self.random.between(1, 65_535) as u32 * 65_536 + any;
+        self.random
+            .pick(&[1, 2, 65_535, any, any, 0, 65_536, cut_off, u32::MAX])
     }
 
     /// Mostly a number from 1 to the last, at times one beside that range or far from it.
@@ -183,19 +196,7 @@ impl Run {
             }
         };
         let mut given_bytes = bytes.to_vec();
-        let given = match event {
-            Event::Begin {
-                thread,
-                operation,
-                object,
-            } => raw::begin(
-                &mut given_bytes,
-                thread.into(),
-                operation.into(),
-                object.into(),
-            ),
-            Event::Step { thread } => raw::step(&mut given_bytes, thread.into()),
-        };
+        let given = call(&mut given_bytes, event);
         self.returned[given as u8 as usize] += 1;
         if given != expected {
             return Err(format!(
@@ -241,12 +242,12 @@ impl Run {
 
     /// An event of a run. At times its kind is none, and what no event reads is not 0.
     fn event_bytes(&mut self, threads: u8, objects: u8) -> [u8; raw::EVENT_SIZE] {
-        let kind = self.random.pick(&[0, 0, 0, 1, 1, 1, 1, 1, 1, 2, 255]);
+        let kind = self.random.pick(&[0, 0, 0, 1, 1, 1, 1, 1, 1, 2, 2, 3, 255]);
         let thread = self.near(threads).min(255) as u8;
-        let operation = self.random.pick(&[0, 1, 1, 1, 2, 2, 3, 4, 5, 6, 255]);
+        let operation = self.random.pick(&[0, 1, 1, 1, 2, 2, 3, 4, 5, 6, 6, 7, 255]);
         let object = self.near(objects).min(255) as u8;
-        let limit = self.random.pick(&[0, 0, 7, 255]);
-        [kind, thread, operation, object, limit, 0, 0, limit]
+        let [low, second, third, high] = self.limit().to_le_bytes();
+        [kind, thread, operation, object, low, second, third, high]
     }
 
     /// A fresh table of sizes in range or not, over bytes of any length.
@@ -282,7 +283,7 @@ impl Run {
     /// A generated schedule with malformed lines strewn in, by both replays.
     pub fn check_replay(&mut self, program: &str, seed: u64) {
         let mut input = generate::schedule(seed);
-        input.extend(b"E 01 1\nS\n\nQ 1 1\nS 1 1\n");
+        input.extend(b"E 01 1\nS\n\nQ 1 1\nS 1 1\nV 1 1\nV 1 1 65536\nC 1\n");
         let expected = replay::replay(&input);
         let result = program::run(program, &input).and_then(|output| {
             let lines = output.split(|byte| *byte == b'\n');
@@ -294,7 +295,7 @@ impl Run {
 
     /// Each number must have come up, which `check_cases` sees to.
     pub fn finish(mut self, replayed: bool) -> ExitCode {
-        let numbers = [0, 1, 2].into_iter().chain(11..=22);
+        let numbers = [0, 1, 2].into_iter().chain(11..=23);
         for number in numbers.filter(|number| *number != 21 || replayed) {
             let times = self.returned[number];
             println!("returned {number}: {times}");
@@ -308,12 +309,36 @@ impl Run {
     }
 }
 
-/// The event by a call of its own; one of no kind is the begin of no operation.
+/// The event by its call. A timed wait without a limit is begun as any other operation is, which passes the limit 0.
+fn call(bytes: &mut [u8], event: Event) -> u32 {
+    match event {
+        Event::Begin {
+            thread,
+            operation: TIMED_WAIT,
+            object,
+            limit,
+        } if limit != 0 => raw::timed_wait(bytes, thread.into(), object.into(), limit),
+        Event::Begin {
+            thread,
+            operation,
+            object,
+            ..
+        } => raw::begin(bytes, thread.into(), operation.into(), object.into()),
+        Event::Step { thread } => raw::step(bytes, thread.into()),
+        Event::Tick => raw::tick(bytes),
+    }
+}
+
+/// The event of a run by a call of its own; one of no kind is the begin of no operation.
 fn single_call(bytes: &mut [u8], event: &[u8; raw::EVENT_SIZE]) -> u32 {
-    let [kind, thread, operation, object, ..] = event.map(u32::from);
-    match kind {
-        0 => raw::begin(bytes, thread, operation, object),
-        1 => raw::step(bytes, thread),
+    let [kind, thread, operation, object, limit @ ..] = *event;
+    let limit = u32::from_le_bytes(limit);
+    let (thread, object) = (thread.into(), object.into());
+    match (kind, operation) {
+        (0, TIMED_WAIT) => raw::timed_wait(bytes, thread, object, limit),
+        (0, _) => raw::begin(bytes, thread, operation.into(), object),
+        (1, _) => raw::step(bytes, thread),
+        (2, _) => raw::tick(bytes),
         _ => raw::begin(bytes, thread, 0, object),
     }
 }

@@ -1,7 +1,7 @@
 //! Sound tables made by construction, most of which no schedule reaches: words, monitors and phases are drawn apart from each other.
 
 use reference::random::Random;
-use reference::table::{Onward, Operation, Phase, Table, ThreadRecord, MAX_DEPTH};
+use reference::table::{Onward, Operation, Phase, Table, ThreadRecord, MAX_DEPTH, MAX_LIMIT};
 use reference::word::{LockWord, MAX_COUNT};
 
 /// Sizes up to which most tables go, so that numbers meet.
@@ -77,7 +77,7 @@ fn phases(operation: Operation) -> &'static [Phase] {
             Phase::Tell,
             Phase::Leave,
         ],
-        Operation::Wait => &[
+        Operation::Wait | Operation::TimedWait => &[
             Phase::Look,
             Phase::Cancel,
             Phase::GoIn,
@@ -113,10 +113,23 @@ fn draw_thread(random: &mut Random, table: &mut Table, thread: u8) {
             false => 0,
         },
         next: 0,
+        ticks: ticks(random, operation, phase),
     };
     if let Some(chain) = phase.chain() {
         table.join(object, chain, thread);
     }
+}
+
+/// What a timed wait has left: often so little that the next tick ends it, and none at times where it may have run out.
+fn ticks(random: &mut Random, operation: Operation, phase: Phase) -> u16 {
+    if operation != Operation::TimedWait {
+        return 0;
+    }
+    if phase.is_woken() && random.percent(50) {
+        return 0;
+    }
+    let any = random.between(1, MAX_LIMIT.into()) as u16;
+    random.pick(&[1, 1, 1, 2, MAX_LIMIT, any])
 }
 
 /// A reserved word of the thread, with a count that its operation can store the next of.

@@ -1,6 +1,6 @@
 //! The fields of a table by their places in its bytes, and damage done to one of them.
 
-use crate::layout::{OBJECTS_START, RECORD_SIZE, THREADS_START};
+use crate::layout::{OBJECTS_START, OBJECT_SIZE, THREADS_START, THREAD_SIZE};
 use reference::random::Random;
 use reference::table::{MAX_OBJECTS, MAX_THREADS};
 
@@ -11,28 +11,38 @@ pub struct Field {
 }
 
 /// Offset and width of the fields of a thread's and of an object's record.
-const THREAD_FIELDS: [(usize, usize); 7] =
-    [(0, 1), (1, 1), (2, 1), (3, 1), (4, 4), (8, 2), (10, 1)];
+const THREAD_FIELDS: [(usize, usize); 8] = [
+    (0, 1),
+    (1, 1),
+    (2, 1),
+    (3, 1),
+    (4, 4),
+    (8, 2),
+    (10, 1),
+    (11, 2),
+];
 const OBJECT_FIELDS: [(usize, usize); 7] =
     [(0, 4), (4, 1), (5, 1), (6, 2), (8, 1), (9, 1), (10, 1)];
 
 /// All fields: the two sizes, then those of each record.
 pub fn fields() -> Vec<Field> {
     let mut fields = vec![Field { at: 0, width: 1 }, Field { at: 1, width: 1 }];
-    let kinds = [
-        (THREADS_START, MAX_THREADS, THREAD_FIELDS),
-        (OBJECTS_START, MAX_OBJECTS, OBJECT_FIELDS),
-    ];
-    for (start, records, kind) in kinds {
-        for place in 0..records {
-            let record = start + place * RECORD_SIZE;
-            fields.extend(kind.map(|(offset, width)| Field {
-                at: record + offset,
-                width,
-            }));
-        }
+    for place in 0..MAX_THREADS {
+        let record = THREADS_START + place * THREAD_SIZE;
+        fields.extend(THREAD_FIELDS.map(|field| field_at(record, field)));
+    }
+    for place in 0..MAX_OBJECTS {
+        let record = OBJECTS_START + place * OBJECT_SIZE;
+        fields.extend(OBJECT_FIELDS.map(|field| field_at(record, field)));
     }
     fields
+}
+
+fn field_at(record: usize, (offset, width): (usize, usize)) -> Field {
+    Field {
+        at: record + offset,
+        width,
+    }
 }
 
 /// Gives a field another value: a neighbour, a small number, an end of its range, or anything.

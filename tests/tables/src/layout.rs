@@ -4,10 +4,11 @@ use reference::table::{
     Monitor, ObjectRecord, Onward, Operation, Phase, Table, ThreadRecord, MAX_OBJECTS, MAX_THREADS,
 };
 
-pub const RECORD_SIZE: usize = 11;
+pub const THREAD_SIZE: usize = 13;
+pub const OBJECT_SIZE: usize = 11;
 pub const THREADS_START: usize = 2;
-pub const OBJECTS_START: usize = THREADS_START + MAX_THREADS * RECORD_SIZE;
-pub const TABLE_SIZE: usize = OBJECTS_START + MAX_OBJECTS * RECORD_SIZE;
+pub const OBJECTS_START: usize = THREADS_START + MAX_THREADS * THREAD_SIZE;
+pub const TABLE_SIZE: usize = OBJECTS_START + MAX_OBJECTS * OBJECT_SIZE;
 
 const PHASES: [Phase; 16] = [
     Phase::Idle,
@@ -37,18 +38,18 @@ pub fn decode(bytes: &[u8]) -> Option<Table> {
         thread_records: [ThreadRecord::default(); MAX_THREADS],
         object_records: [ObjectRecord::default(); MAX_OBJECTS],
     };
-    let (threads, objects) = bytes[THREADS_START..].split_at(MAX_THREADS * RECORD_SIZE);
+    let (threads, objects) = bytes[THREADS_START..].split_at(MAX_THREADS * THREAD_SIZE);
     for (record, bytes) in table
         .thread_records
         .iter_mut()
-        .zip(threads.chunks(RECORD_SIZE))
+        .zip(threads.chunks(THREAD_SIZE))
     {
         *record = decode_thread(bytes)?;
     }
     for (record, bytes) in table
         .object_records
         .iter_mut()
-        .zip(objects.chunks(RECORD_SIZE))
+        .zip(objects.chunks(OBJECT_SIZE))
     {
         *record = decode_object(bytes)?;
     }
@@ -76,6 +77,7 @@ fn decode_thread(bytes: &[u8]) -> Option<ThreadRecord> {
         kept_word: u32::from_le_bytes(bytes[4..8].try_into().ok()?),
         saved_depth: u16::from_le_bytes(bytes[8..10].try_into().ok()?),
         next: bytes[10],
+        ticks: u16::from_le_bytes(bytes[11..13].try_into().ok()?),
     })
 }
 
@@ -99,7 +101,7 @@ fn decode_object(bytes: &[u8]) -> Option<ObjectRecord> {
 
 /// The phase byte of a thread, from 1, in a table's bytes.
 pub fn phase_byte(bytes: &[u8; TABLE_SIZE], thread: usize) -> u8 {
-    bytes[THREADS_START + (thread - 1) * RECORD_SIZE + 2]
+    bytes[THREADS_START + (thread - 1) * THREAD_SIZE + 2]
 }
 
 pub fn encode(table: &Table) -> Vec<u8> {
@@ -114,6 +116,7 @@ pub fn encode(table: &Table) -> Vec<u8> {
         bytes.extend(record.kept_word.to_le_bytes());
         bytes.extend(record.saved_depth.to_le_bytes());
         bytes.push(record.next);
+        bytes.extend(record.ticks.to_le_bytes());
     }
     for record in &table.object_records {
         let monitor = &record.monitor;

@@ -43,7 +43,7 @@ const fn object(
     }
 }
 
-pub const QUESTIONS: [Question; 19] = [
+pub const QUESTIONS: [Question; 20] = [
     Question {
         name: "thread count",
         given: |bytes, _| raw::thread_count(bytes),
@@ -67,6 +67,7 @@ pub const QUESTIONS: [Question; 19] = [
         record.saved_depth.into()
     }),
     thread("next", raw::next, |_, record, _| record.next.into()),
+    thread("ticks", raw::ticks, |_, record, _| record.ticks.into()),
     thread("blocker", raw::blocker, blocker),
     object("word", raw::word, |record| record.word),
     object("owner", raw::owner, |record| ownership(record).0),

@@ -38,7 +38,15 @@ extern "C" {
         operation: u32,
         object: u32,
     ) -> u32;
+    fn duskclamp_timed_wait(
+        bytes: *mut u8,
+        length: usize,
+        thread: u32,
+        object: u32,
+        limit: u32,
+    ) -> u32;
     fn duskclamp_step(bytes: *mut u8, length: usize, thread: u32) -> u32;
+    fn duskclamp_tick(bytes: *mut u8, length: usize) -> u32;
     fn duskclamp_run(
         bytes: *mut u8,
         length: usize,
@@ -83,7 +91,7 @@ impl ReadOnly {
         unsafe { std::slice::from_raw_parts(self.start, self.length) }
     }
 
-    // SAFETY, of the four calls: the bytes may be read, and the library is expected to store nothing; if it does, the process ends.
+    // SAFETY, of the six calls: the bytes may be read, and the library is expected to store nothing; if it does, the process ends.
 
     pub fn fresh(&self, threads: u32, objects: u32) -> u32 {
         unsafe { duskclamp_fresh(self.start, self.length, threads, objects, 0) }
@@ -93,8 +101,16 @@ impl ReadOnly {
         unsafe { duskclamp_begin(self.start, self.length, thread, operation, object) }
     }
 
+    pub fn timed_wait(&self, thread: u32, object: u32, limit: u32) -> u32 {
+        unsafe { duskclamp_timed_wait(self.start, self.length, thread, object, limit) }
+    }
+
     pub fn step(&self, thread: u32) -> u32 {
         unsafe { duskclamp_step(self.start, self.length, thread) }
+    }
+
+    pub fn tick(&self) -> u32 {
+        unsafe { duskclamp_tick(self.start, self.length) }
     }
 
     pub fn run(&self, events: &[u8], answers: &mut [u64]) -> usize {

@@ -1,13 +1,14 @@
-//! Cases on the proved engine, through its library: tables that are sound and tables that break one clause of document 01's "Sound means", and the cases
-//! K1 to K9. What is expected is written here, and not asked of the second engine.
+//! Cases on the proved engine, through its library: tables that are sound and tables that break one clause of document 01's "Sound means" or of request
+//! L1's, the cases K1 to K9, and ticks. What is expected is written here, and not asked of the second engine.
 
-use duskclamp::{Answer, Operation as Wanted, Refusal, Table as Engine, Words};
+use duskclamp::{Answer, Chain, Operation as Wanted, Refusal, Table as Engine, Words};
 use reference::table::{Monitor, ObjectRecord, Onward, Operation, Phase, Table, ThreadRecord};
-use tables::layout::encode;
+use tables::layout::{encode, TABLE_SIZE, THREADS_START};
 
 const ENTER: Operation = Operation::Enter;
 const EXIT: Operation = Operation::Exit;
 const WAIT: Operation = Operation::Wait;
+const TIMED: Operation = Operation::TimedWait;
 
 /// The first object's fat word.
 const FAT: u32 = 0x000101;
@@ -100,6 +101,21 @@ fn saving(saved_depth: u16, record: ThreadRecord) -> ThreadRecord {
     }
 }
 
+fn ticking(ticks: u16, record: ThreadRecord) -> ThreadRecord {
+    ThreadRecord { ticks, ..record }
+}
+
+/// Thread 2 waits on object 1, or is queued there, with so many ticks left.
+fn timed(phase: Phase, ticks: u16) -> Table {
+    let saved_depth = u16::from(phase.uses_saved_depth());
+    let record = ticking(ticks, saving(saved_depth, at(TIMED, phase)));
+    match phase {
+        Phase::Waiting => parked(record, [0, 0, 2]),
+        Phase::Queued(_) => parked(record, [2, 0, 0]),
+        _ => parked(record, [0, 0, 0]),
+    }
+}
+
 fn queued(operation: Operation, onward: Onward, saved_depth: u16) -> Table {
     let record = saving(saved_depth, at(operation, Phase::Queued(onward)));
     parked(record, [2, 0, 0])
@@ -137,6 +153,22 @@ fn sound_tables() {
         ("waiting", parked(waiting, [0, 0, 2])),
         ("enter, kept count 62", storing(ENTER, 0x0001fa)),
         ("exit, kept count 63", storing(EXIT, 0x0001fe)),
+        ("timed, looking", timed(Phase::Look, 65535)),
+        ("timed, waiting", timed(Phase::Waiting, 1)),
+        (
+            "timed, queued for 12",
+            timed(Phase::Queued(Onward::Inflate), 1),
+        ),
+        (
+            "timed, queued for 15, notified",
+            timed(Phase::Queued(Onward::Resume), 1),
+        ),
+        (
+            "timed, queued for 15, run out",
+            timed(Phase::Queued(Onward::Resume), 0),
+        ),
+        ("timed, phase 15, notified", timed(Phase::Resume, 65535)),
+        ("timed, phase 15, run out", timed(Phase::Resume, 0)),
     ];
     for (name, table) in cases {
         assert!(is_sound(&table), "{name}");
@@ -187,6 +219,9 @@ fn operations_and_phases() {
         ("enter queued for 12", queued(ENTER, Onward::Inflate, 0)),
         ("exit queued for 6", queued(EXIT, Onward::Check, 0)),
         ("wait queued for 10", queued(WAIT, Onward::Tell, 0)),
+        ("timed in phase 2", timed(Phase::Store, 1)),
+        ("timed in phase 11", timed(Phase::Leave, 1)),
+        ("timed queued for 6", timed(Phase::Queued(Onward::Check), 1)),
     ];
     for (name, table) in cases {
         assert!(!is_sound(&table), "{name}");
@@ -215,6 +250,52 @@ fn kept_words_and_saved_depths() {
     ];
     for (name, table) in cases {
         assert!(!is_sound(&table), "{name}");
+    }
+}
+
+#[test]
+fn ticks_left() {
+    let unwoken = [
+        Phase::Look,
+        Phase::Cancel,
+        Phase::GoIn,
+        Phase::Queued(Onward::Inflate),
+        Phase::Inflate,
+        Phase::Wait,
+        Phase::Waiting,
+    ];
+    for phase in unwoken {
+        assert!(is_sound(&timed(phase, 1)), "timed with a tick, {phase:?}");
+        assert!(!is_sound(&timed(phase, 0)), "timed with none, {phase:?}");
+    }
+    let waiting = ticking(1, saving(1, at(WAIT, Phase::Waiting)));
+    let cases = [
+        ("wait with ticks", parked(waiting, [0, 0, 2])),
+        (
+            "enter with ticks",
+            first(ticking(1, at(ENTER, Phase::Look))),
+        ),
+        (
+            "idle with ticks",
+            first(ticking(1, ThreadRecord::default())),
+        ),
+        (
+            "thread record past the last with ticks",
+            with_thread(fresh(), 4, ticking(1, ThreadRecord::default())),
+        ),
+    ];
+    for (name, table) in cases {
+        assert!(!is_sound(&table), "{name}");
+    }
+}
+
+#[test]
+fn the_last_operation_is_6() {
+    let fresh: [u8; TABLE_SIZE] = encode(&fresh()).try_into().expect("a table's size");
+    for (operation, answered) in [(6, Ok(3)), (7, Err(Refusal::NotSound))] {
+        let mut bytes = fresh;
+        bytes[THREADS_START] = operation;
+        assert_eq!(Engine::from_bytes(bytes).thread_count(), answered);
     }
 }
 
@@ -335,4 +416,47 @@ fn k1_to_k9() {
     assert_eq!(exit, (Err(Refusal::NotOwner), 0, 0x000002), "K8");
     assert_eq!(going_in_at(65534), (finished, 65535), "K9");
     assert_eq!(going_in_at(65535), (Err(Refusal::TooDeep), 65535), "K9");
+}
+
+/// Threads 3, 1 and 2 wait on object 1, in this order: 3 and 2 with one tick left, 1 without a limit.
+fn two_due(depth: u16, holder: u8) -> Engine {
+    let due = ticking(1, saving(5, at(TIMED, Phase::Waiting)));
+    let untimed = saving(5, at(WAIT, Phase::Waiting));
+    let mut table = with_thread(fresh(), 3, ThreadRecord { next: 1, ..due });
+    table = with_thread(table, 1, ThreadRecord { next: 2, ..untimed });
+    table = with_thread(table, 2, due);
+    engine(&monitored(table, depth, holder, [0, 0, 3]))
+}
+
+/// The holder of object 1, and the threads of its entry and of its waiting chain.
+fn shown(engine: &Engine) -> (u32, Vec<u32>, Vec<u32>) {
+    let chain = |chain: Chain| engine.chain(1, chain).unwrap().collect();
+    let holder = engine.object(1).unwrap().holder;
+    (holder, chain(Chain::Entry), chain(Chain::Waiting))
+}
+
+#[test]
+fn a_tick_hands_a_monitor_that_nobody_holds() {
+    let mut engine = two_due(0, 0);
+    assert_eq!(engine.tick(), Ok(()));
+    assert_eq!(shown(&engine), (3, vec![2], vec![1]));
+    let resumed = engine.step(3);
+    assert_eq!(resumed.result, Ok(Answer::Finished { woken: 1 }));
+    assert!(resumed.commits);
+    assert_eq!((engine.owner(1), engine.depth(1)), (Ok(3), Ok(5)));
+    // Another tick has nothing to do.
+    let before = engine.clone();
+    assert_eq!(engine.tick(), Ok(()));
+    assert_eq!(engine, before);
+}
+
+#[test]
+fn a_tick_leaves_a_holder_its_monitor() {
+    for depth in [0, 1] {
+        let mut engine = two_due(depth, 1);
+        assert_eq!(engine.tick(), Ok(()));
+        assert_eq!(shown(&engine), (1, vec![3, 2], vec![1]));
+        let ticks = [1, 2, 3].map(|thread| engine.ticks(thread));
+        assert_eq!(ticks, [Ok(0), Ok(0), Ok(0)]);
+    }
 }

@@ -4,7 +4,7 @@ use reference::engine::Event;
 use std::os::unix::process::ExitStatusExt;
 use std::process::{Command, ExitCode};
 use tables::cases::cases;
-use tables::compare::Run;
+use tables::compare::{Run, TIMED_WAIT};
 use tables::layout::{encode, TABLE_SIZE};
 use tables::read_only::ReadOnly;
 
@@ -26,7 +26,7 @@ fn the_two_engines_agree() {
 
 /// Returned with nothing to store: all refusals but 18 and 19, which make the thread idle.
 fn stores_nothing(number: u8) -> bool {
-    matches!(number, 11..=17 | 20)
+    matches!(number, 11..=17 | 20 | 23)
 }
 
 #[test]
@@ -41,17 +41,26 @@ fn refused_events_store_nothing() {
         let answer = match case.event {
             Event::Begin {
                 thread,
+                operation: TIMED_WAIT,
+                object,
+                limit,
+            } => table.timed_wait(thread.into(), object.into(), limit),
+            Event::Begin {
+                thread,
                 operation,
                 object,
+                ..
             } => table.begin(thread.into(), operation.into(), object.into()),
             Event::Step { thread } => table.step(thread.into()),
+            Event::Tick => table.tick(),
         };
         assert_eq!(answer, case.number.into());
         assert_eq!(table.bytes(), bytes);
         seen.push(case.number);
     }
+    seen.sort_unstable();
     seen.dedup();
-    assert_eq!(seen, [11, 12, 13, 14, 15, 16, 17, 20]);
+    assert_eq!(seen, [11, 12, 13, 14, 15, 16, 17, 20, 23]);
 }
 
 #[test]
@@ -60,7 +69,28 @@ fn bytes_that_are_no_table_are_not_stored_to() {
         // A mapping has at least a byte.
         let table = ReadOnly::new(&vec![value; length.max(1)]);
         assert_eq!(table.begin(1, 1, 1), 11);
+        assert_eq!(table.timed_wait(1, 1, 1), 11);
         assert_eq!(table.step(1), 11);
+        assert_eq!(table.tick(), 11);
+    }
+}
+
+/// The event as one of a run.
+fn event_bytes(event: Event) -> [u8; 8] {
+    let narrow = |number: u16| number.min(255) as u8;
+    match event {
+        Event::Begin {
+            thread,
+            operation,
+            object,
+            limit,
+        } => {
+            let [low, second, third, high] = limit.to_le_bytes();
+            let (thread, object) = (narrow(thread), narrow(object));
+            [0, thread, operation, object, low, second, third, high]
+        }
+        Event::Step { thread } => [1, narrow(thread), 0, 0, 0, 0, 0, 0],
+        Event::Tick => [2, 0, 0, 0, 0, 0, 0, 0],
     }
 }
 
@@ -73,24 +103,7 @@ fn refused_runs_store_nothing() {
     {
         let bytes = encode(&case.table);
         let table = ReadOnly::new(&bytes);
-        let narrow = |number: u16| number.min(255) as u8;
-        let event = match case.event {
-            Event::Begin {
-                thread,
-                operation,
-                object,
-            } => [
-                0,
-                narrow(thread),
-                narrow(operation.into()),
-                narrow(object),
-                0,
-                0,
-                0,
-                0,
-            ],
-            Event::Step { thread } => [1, narrow(thread), 0, 0, 0, 0, 0, 0],
-        };
+        let event = event_bytes(case.event);
         let mut answers = [0; 3];
         assert_eq!(table.run(&[event, event].concat(), &mut answers), 2);
         assert_eq!(answers, [case.number.into(), case.number.into(), 0]);
@@ -100,6 +113,8 @@ fn refused_runs_store_nothing() {
         let mut answers = [0; 1];
         let table = ReadOnly::new(&[value; TABLE_SIZE]);
         assert_eq!(table.run(&[1, 1, 0, 0, 0, 0, 0, 0], &mut answers), 1);
+        assert_eq!(answers, [11]);
+        assert_eq!(table.run(&[2, 0, 0, 0, 0, 0, 0, 0], &mut answers), 1);
         assert_eq!(answers, [11]);
     }
 }

@@ -6,6 +6,5 @@ pub begin-gate-spec : {M : Type 1} → statement M
 begin-gate-spec =
     tie.close
     (tie.spec (λ c. simp (c .if1 .taken)) (λ c. simp (c .if2 .taken, c .before .if1 .left))
-    (λ c. simp (c .if3 .taken, c .before .if2 .left, c .before .before .if1 .left))
-    (λ c. simp (c .if4 .taken, c .before .if3 .left, c .before .before .if2 .left, c .before .before .before .if1 .left)) (λ c κs. tt)
-    (λ c. simp (c .begin-status .ensures, c .before .if4 .left, c .before .before .if3 .left, c .before .before .before .if2 .left, c .before .before .before .before .if1 .left)))
+    (λ c. simp (c .if3 .taken, c .before .if2 .left, c .before .before .if1 .left)) (λ c κs. tt)
+    (λ c. simp (c .begin-status .ensures, c .before .if3 .left, c .before .before .if2 .left, c .before .before .before .if1 .left)))

@@ -5,5 +5,4 @@ use Rattle.lock_gate.proofs.step_gate.Tie as tie
 pub step-gate-spec : {M : Type 1} → statement M
 step-gate-spec =
     tie.close
-    (tie.spec (λ c. simp (c .if1 .taken)) (λ c. simp (c .if2 .taken, c .before .if1 .left)) (λ c κs. tt)
-    (λ c. simp (c .step-status .ensures, c .before .if2 .left, c .before .before .if1 .left)))
+    (tie.spec (λ c. simp (c .if1 .taken)) (λ c κs. tt) (λ c. simp (c .step-status .ensures, c .before .if1 .left)))

@@ -1,4 +1,5 @@
-//! Writes a long, collision-heavy schedule for benchmarks: `make_schedule EVENTS THREADS OBJECTS [SEED]`.
+//! Writes a long, collision-heavy schedule for benchmarks: `make_schedule EVENTS THREADS OBJECTS [SEED] [TICKS]`.
+//! TICKS percent of the events are ticks, none if not given; with ticks threads wait too, with limits.
 
 use reference::generate::long_schedule;
 use std::env;
@@ -18,5 +19,6 @@ fn main() -> io::Result<()> {
         argument(1, 1_000_000),
         threads,
         objects,
+        argument(5, 0),
     ))
 }

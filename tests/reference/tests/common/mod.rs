@@ -30,19 +30,20 @@ pub fn with_monitor(holder: u8, depth: u16) -> Table {
     table
 }
 
-/// Puts a thread at a phase of an operation on object 1.
+/// Puts a thread at a phase of an operation on object 1. A timed wait has one tick left.
 pub fn place(table: &mut Table, thread: u8, operation: Operation, phase: Phase) {
     *table.thread_mut(thread) = ThreadRecord {
         operation: Some(operation),
         object: 1,
         phase,
+        ticks: u16::from(operation == Operation::TimedWait),
         ..ThreadRecord::default()
     };
 }
 
-/// Begins an operation on object 1 and takes its first step.
+/// Begins an operation on object 1, a timed wait with the shortest limit, and takes its first step.
 pub fn begin_and_step(table: &mut Table, thread: u16, operation: Operation) -> Outcome {
-    let begun = begin(table, thread, operation.number(), 1);
+    let begun = begin(table, thread, operation.number(), 1, 1);
     assert_eq!(begun.returned, Returned::GoneOn);
     step(table, thread)
 }

@@ -1,7 +1,7 @@
 //! Thirty-two threads of random operations through the wrapper, with the plain monitors as a check.
 //! Usage: stress [STEPS] [SEED]
 
-use duskclamp::{Answer, Operation, Outcome, Refusal, Table, Words};
+use duskclamp::{Answer, Operation, Outcome, Phase, Refusal, Table, Words};
 use reference::arguments::number;
 use reference::engine::Event;
 use reference::outcome::Returned;
@@ -14,10 +14,17 @@ use tables::layout::{decode, phase_byte};
 const DEFAULT_STEPS: u64 = 10_000_000;
 const DEFAULT_SEED: u64 = 1;
 const THREADS: u32 = 32;
-/// A table is left for a fresh one after so many events, or when all its threads are parked.
+/// A table is left for a fresh one after so many events, or when all its threads are parked and no tick lets one go on soon.
 const ROUND: u64 = 100_000;
 /// Events between two comparisons of the whole table.
 const COMPARED: u64 = 64;
+/// Ticks in percent of events.
+const TICKS: u64 = 5;
+/// Limits up to which most timed waits go, and up to which a few do.
+const SHORT_LIMIT: u64 = 12;
+const LONG_LIMIT: u64 = 65_535;
+/// With all threads parked the clock goes on while one of them has at most so many ticks left.
+const SOON: u32 = 1_000;
 
 fn main() -> ExitCode {
     let arguments: Vec<String> = std::env::args().skip(1).collect();
@@ -51,8 +58,8 @@ fn main() -> ExitCode {
         total.steps, total.begins
     );
     println!(
-        "{} finished, {} parked, {} woken",
-        total.finished, total.parked, total.woken
+        "{} finished, {} parked, {} woken, {} ticks, {} run out",
+        total.finished, total.parked, total.woken, total.ticks, total.run_out
     );
     report.finish()
 }
@@ -64,6 +71,8 @@ struct Tally {
     finished: u64,
     parked: u64,
     woken: u64,
+    ticks: u64,
+    run_out: u64,
 }
 
 impl Tally {
@@ -73,6 +82,8 @@ impl Tally {
         self.finished += other.finished;
         self.parked += other.parked;
         self.woken += other.woken;
+        self.ticks += other.ticks;
+        self.run_out += other.run_out;
     }
 }
 
@@ -89,7 +100,8 @@ struct Round {
     table: Table,
     plain: PlainMonitors,
     states: [State; THREADS as usize],
-    /// The object that a thread last began something on.
+    /// The operation and the object that a thread last began.
+    operations_of: [Operation; THREADS as usize],
     objects_of: [u32; THREADS as usize],
     tally: Tally,
 }
@@ -105,6 +117,7 @@ impl Round {
             table: Table::fresh(THREADS, objects, words).expect("sizes in range"),
             plain: PlainMonitors::new(objects as u8),
             states: [State::Idle; THREADS as usize],
+            operations_of: [Operation::Enter; THREADS as usize],
             objects_of: [1; THREADS as usize],
             tally: Tally::default(),
         }
@@ -113,15 +126,19 @@ impl Round {
     fn run(&mut self, steps: u64) -> Result<(), String> {
         let mut events = 0;
         while self.tally.steps < steps {
-            if self.all_parked() {
+            let all_parked = self.all_parked();
+            if all_parked && !self.one_is_due_soon() {
                 break;
             }
             let thread = self.random.between(1, THREADS.into()) as u32;
-            if self.is_parked(thread) {
+            if !all_parked && self.is_parked(thread) {
                 continue;
             }
-            self.turn(thread)
-                .map_err(|wrong| format!("event {events}: {wrong}"))?;
+            let result = match all_parked || self.random.percent(TICKS) {
+                true => self.tick(),
+                false => self.turn(thread),
+            };
+            result.map_err(|wrong| format!("event {events}: {wrong}"))?;
             events += 1;
             if events % COMPARED == 0 {
                 self.compare()?;
@@ -134,6 +151,11 @@ impl Round {
     fn all_parked(&self) -> bool {
         self.states.iter().all(|state| *state == State::Parked)
             && (1..=THREADS).all(|thread| self.is_parked(thread))
+    }
+
+    fn one_is_due_soon(&self) -> bool {
+        let mut threads = self.table.threads();
+        threads.any(|thread| thread.phase == Phase::Waiting && (1..=SOON).contains(&thread.ticks))
     }
 
     /// By the bytes, since most threads are asked most of the time.
@@ -157,19 +179,32 @@ impl Round {
     fn begin(&mut self, thread: u32) -> Result<(), String> {
         let object = self.choose_object(thread);
         let operation = self.choose(self.table.owner(object) == Ok(thread));
+        let limit = self.choose_limit();
+        self.operations_of[thread as usize - 1] = operation;
         self.objects_of[thread as usize - 1] = object;
-        self.table
-            .begin(thread, operation, object)
-            .map_err(|refusal| format!("begin refused with {refusal:?}"))?;
+        match operation {
+            Operation::TimedWait => self.table.timed_wait(thread, object, limit),
+            _ => self.table.begin(thread, operation, object),
+        }
+        .map_err(|refusal| format!("begin refused with {refusal:?}"))?;
         self.states[thread as usize - 1] = State::Running;
         self.tally.begins += 1;
         let event = Event::Begin {
             thread: thread as u16,
             operation: operation as u8,
             object: object as u16,
+            limit,
         };
         self.plain
             .feed(event, reference::outcome::Outcome::of(Returned::GoneOn))
+    }
+
+    fn tick(&mut self) -> Result<(), String> {
+        let answer = self.table.tick();
+        answer.map_err(|refusal| format!("tick refused with {refusal:?}"))?;
+        self.tally.ticks += 1;
+        let accepted = reference::outcome::Outcome::of(Returned::GoneOn);
+        self.plain.feed(Event::Tick, accepted)
     }
 
     /// An owner mostly stays with its object, and goes only to later ones, so that few owners park for each other.
@@ -190,13 +225,23 @@ impl Round {
             (true, 1..=20) => Operation::Enter,
             (true, 21..=70) => Operation::Exit,
             (true, 71..=72) => Operation::Wait,
-            (true, 73..=86) => Operation::Notify,
+            (true, 73..=76) => Operation::TimedWait,
+            (true, 77..=88) => Operation::Notify,
             (true, _) => Operation::NotifyAll,
             (false, 1..=92) => Operation::Enter,
             (false, 93..=95) => Operation::Exit,
-            (false, 96..=97) => Operation::Wait,
+            (false, 96) => Operation::Wait,
+            (false, 97) => Operation::TimedWait,
             (false, _) => Operation::Notify,
         }
+    }
+
+    fn choose_limit(&mut self) -> u32 {
+        let longest = match self.random.percent(10) {
+            true => LONG_LIMIT,
+            false => SHORT_LIMIT,
+        };
+        self.random.between(1, longest) as u32
     }
 
     fn step(&mut self, thread: u32) -> Result<(), String> {
@@ -213,7 +258,10 @@ impl Round {
         self.states[thread as usize - 1] = state;
         self.tally.finished += u64::from(returned == Returned::Finished);
         self.tally.parked += u64::from(returned == Returned::Parked);
-        self.tally.woken += u64::from(woken);
+        match self.operations_of[thread as usize - 1] {
+            Operation::TimedWait => self.tally.run_out += u64::from(woken),
+            _ => self.tally.woken += u64::from(woken),
+        }
         let event = Event::Step {
             thread: thread as u16,
         };

@@ -1,6 +1,6 @@
 //! Feeds the engine tables that no schedule reaches and compares bytes and answers with the second engine's.
 //! Usage: tables [COUNT] [SEED] [REPLAY_PROGRAM]
-//! COUNT tables, each with two events and questions; the replay program, if given, is fed malformed lines, for 21.
+//! COUNT tables, each with three events and questions; the replay program, if given, is fed malformed lines, for 21.
 
 use reference::arguments::number;
 use std::path::Path;

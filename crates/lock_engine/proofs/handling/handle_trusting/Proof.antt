@@ -27,7 +27,7 @@ returns c =
       home-is = home .object-place .ensures;
       turn-is = turned .turn-with .ensures;
     })
-    (sym (c .before .stays .ensures) ∙ c .if1 .taken)
+    (sym (c .before .work-stays .ensures) ∙ c .if1 .taken)
 
 returns-2 : tie.Need-returns-2
 returns-2 c =
@@ -44,7 +44,7 @@ returns-2 c =
       home-is = home .object-place .ensures;
       turn-is = turned .turn-with .ensures;
     })
-    (sym (done .before .before .stays .ensures) ∙ done .before .if1 .left) (done .work-done .ensures)
+    (sym (done .before .before .work-stays .ensures) ∙ done .before .if1 .left) (done .work-done .ensures)
 
 pub handle-trusting-spec : {M : Type 1} → statement M
 handle-trusting-spec =

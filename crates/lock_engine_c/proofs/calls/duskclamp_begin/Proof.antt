@@ -22,7 +22,7 @@ duskclamp-begin-spec =
     let given = entry .before .args in
     let small : AreBytes (given .bytes .now) = λ i. omega (arith, entry .slice-known .given i) in (
       simp (gated .handle-if-table .ensures .0, third .narrow3 .ensures, second .narrow2 .ensures, first .narrow .ensures, known, narrow-begin),
-      begin-promised (given .bytes .now) small (given .thread) (given .operation) (given .object) _ _
+      begin-promised (given .bytes .now) small (given .thread) (given .operation) (given .object) 0 _ _
           (simp (gated .handle-if-table .ensures .0, third .narrow3 .ensures, second .narrow2 .ensures, first .narrow .ensures, known))
           (simp (gated .handle-if-table .ensures .1, third .narrow3 .ensures, second .narrow2 .ensures, first .narrow .ensures, known)),
     )))

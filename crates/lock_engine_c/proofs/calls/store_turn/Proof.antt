@@ -17,7 +17,7 @@ store-turn-spec =
     simp (
       object .write-object .ensures,
       thread .write-thread .ensures,
-      sym (test .before .stays .ensures) ∙ test .if2 .taken,
+      sym (test .before .work-stays .ensures) ∙ test .if2 .taken,
       test .before .before .before .before .if1 .taken,
     ))
     (λ c κs. tt) (λ c κs. tt) (λ c. search needs)
@@ -28,7 +28,7 @@ store-turn-spec =
     simp (
       table .write-table .ensures,
       done .work-done .ensures,
-      sym (test .before .stays .ensures) ∙ test .if2 .left,
+      sym (test .before .work-stays .ensures) ∙ test .if2 .left,
       test .before .before .before .before .if1 .taken,
     ))
     (λ c. simp (c .if1 .left)))

@@ -1,5 +1,5 @@
 -- `lock_engine_c::running::duskclamp_run` meets its contract: what is still to run gives what the whole run gives.
-use Prim.Native.Nat.{_-_, _*_, _^_, _≤_, _<_}
+use Prim.Native.Nat.{_+_, _-_, _*_, _^_, _≤_, _<_}
 use mathlib.Core.Path.{_≡_, refl, _∙_}
 use mathlib.Core.Logic.{inl, inr}
 use native.Mathlib.Omega.{arith}
@@ -63,7 +63,7 @@ loop-again c =
     let place = number .before .before in
     let thread = place .before in
     let read = thread .before in
-    let test = read .before .before .before .before .before in
+    let test = read .before in
     let loop = test .before in
     let (count, wide, enough, room, few, at, long, running) = loop .loop .inv in
     let turn = turned .turn-with .result in
@@ -76,7 +76,7 @@ loop-again c =
       omega (arith, at),
       length-set (loop .loop .answers) (loop .loop .done) _ ∙ long,
       run-goes-on _ _ _ running {outcome = outcome} (omega (arith, count, test .loop-test .taken)) (omega (arith, room, long, test .loop-test .taken))
-          (read .event-from .ensures)
+          (read .event-at .ensures)
           (came-so
           (record {
             thread-is = thread .event-thread .ensures;
@@ -85,7 +85,7 @@ loop-again c =
             home-is = home .object-place .ensures;
             turn-is = turned .turn-with .ensures;
           })
-          (stay .stays .ensures)
+          (stay .work-stays .ensures)
           (either-way (joined .if1 .came) (λ some. inl (some .0 .taken, some .1)) (λ some. inr (some .0 .left, some .1 .result, some .1 .ensures, some .3))))
           (simp (c .packed .ensures, c .before .woken .ensures, c .before .before .returned .ensures))
           (λ j. either (loop .loop .changed) (replied .reply-changes .ensures j)),
@@ -103,20 +103,30 @@ returns c =
     let (bytes, answers) = run-ends _ _ _ running small (omega (arith, count, test .loop-test .left)) in
     (count, (answers, stored .store .ensures ∙ bytes))
 
+-- the events that the loop has still to read lie inside, and there is room for the answer
+inside : (c : tie.In-loop Inv-loop μ-loop) → let loop = c .before .loop in
+    let given = c .before .before .before .before .before .before .before .before .before .before .before .args in
+    (loop .at + event-size ≤ length (given .events .now)) × (length (given .events .now) < 2 ^ 64)
+inside c = let (count, wide, enough, room, few, at, long, running) = c .before .loop .inv in (omega (arith, enough, at, c .loop-test .taken), wide)
+
+abbrev begun : (c : tie.After-packed Inv-loop μ-loop) → tie.In-loop Inv-loop μ-loop
+begun c = c .before .before .before .before .before .before .before .before .before .before .before .before .before .before .before .before
+
 pub duskclamp-run-spec : {M : Type 1} → statement M
 duskclamp-run-spec =
     tie.close
-    (tie.spec Inv-loop μ-loop (λ c κs. tt) (λ c κs. tt) (λ c κs. tt) (λ c κs. tt) loop-holds (λ c. omega arith) (λ c. omega arith)
-    (λ c. omega arith) (λ c. omega arith) (λ c. omega arith) (λ c. omega arith) (λ c. omega arith) (λ c κs. tt) (λ c κs. tt) (λ c κs. tt)
-    (λ c. omega (arith, place-in c)) place-in (λ c κs. tt) (λ c κs. tt) (λ c. omega (arith, home-in c)) home-in (λ c κs. tt) (λ c κs. tt)
+    (tie.spec Inv-loop μ-loop (λ c κs. tt) (λ c κs. tt) (λ c κs. tt) (λ c κs. tt) loop-holds
+    (λ c κs. omega (arith, inside c))
+    (λ c κs. tt) (λ c κs. tt) (λ c. omega (arith, place-in c)) place-in (λ c κs. tt) (λ c κs. tt) (λ c. omega (arith, home-in c)) home-in
+    (λ c κs. tt) (λ c κs. tt)
     (λ c. let inside = place-in (c .before .before .before .before .before .before .before .before .before) in omega (arith, inside))
     (λ c. place-in (c .before .before .before .before .before .before .before .before .before))
     (λ c. let inside = home-in (c .before .before .before .before .before .before) in omega (arith, inside))
     (λ c. home-in (c .before .before .before .before .before .before)) (λ c κs. tt) (λ c κs. tt) (λ c κs. tt) (λ c κs. tt) (λ c κs. tt)
     (λ c. omega arith)
-    (λ c. let (count, wide, enough, room, few, at, long, running) = c .before .before .before .before .before .before .before .before .before .before .before .before .before .before .before .before .before .before .before .before .before .loop .inv in omega (arith, wide, enough, room, few, at, long, c .before .before .before .before .before .before .before .before .before .before .before .before .before .before .before .before .before .before .before .before .loop-test .taken))
-    (λ c. let (count, wide, enough, room, few, at, long, running) = c .before .before .before .before .before .before .before .before .before .before .before .before .before .before .before .before .before .before .before .before .before .loop .inv in omega (arith, wide, enough, room, few, at, long, c .before .before .before .before .before .before .before .before .before .before .before .before .before .before .before .before .before .before .before .before .loop-test .taken))
-    (λ c. let (count, wide, enough, room, few, at, long, running) = c .before .before .before .before .before .before .before .before .before .before .before .before .before .before .before .before .before .before .before .before .before .loop .inv in omega (arith, wide, enough, room, few, at, long, c .before .before .before .before .before .before .before .before .before .before .before .before .before .before .before .before .before .before .before .before .loop-test .taken))
-    (λ c. let (count, wide, enough, room, few, at, long, running) = c .before .before .before .before .before .before .before .before .before .before .before .before .before .before .before .before .before .before .before .before .before .loop .inv in omega (arith, wide, enough, room, few, at, long, c .before .before .before .before .before .before .before .before .before .before .before .before .before .before .before .before .before .before .before .before .loop-test .taken))
-    (λ c. let (count, wide, enough, room, few, at, long, running) = c .before .before .before .before .before .before .before .before .before .before .before .before .before .before .before .before .before .before .before .before .before .loop .inv in omega (arith, wide, enough, room, few, at, long, c .before .before .before .before .before .before .before .before .before .before .before .before .before .before .before .before .before .before .before .before .loop-test .taken))
+    (λ c. let (count, wide, enough, room, few, at, long, running) = begun c .before .loop .inv in omega (arith, wide, enough, room, few, at, long, begun c .loop-test .taken))
+    (λ c. let (count, wide, enough, room, few, at, long, running) = begun c .before .loop .inv in omega (arith, wide, enough, room, few, at, long, begun c .loop-test .taken))
+    (λ c. let (count, wide, enough, room, few, at, long, running) = begun c .before .loop .inv in omega (arith, wide, enough, room, few, at, long, begun c .loop-test .taken))
+    (λ c. let (count, wide, enough, room, few, at, long, running) = begun c .before .loop .inv in omega (arith, wide, enough, room, few, at, long, begun c .loop-test .taken))
+    (λ c. let (count, wide, enough, room, few, at, long, running) = begun c .before .loop .inv in omega (arith, wide, enough, room, few, at, long, begun c .loop-test .taken))
     loop-again (λ c κs. tt) (λ c. search needs) (λ c. search needs) returns)

@@ -10,5 +10,5 @@ carried-activity-spec =
     tie.close
     (tie.spec (λ c. search needs) (λ c κs. tt) (λ c. search needs) (λ c κs. tt) (λ c. search needs) (λ c κs. tt) (λ c. search needs) (λ c κs. tt)
     (λ c. simp (c .activity-of .ensures, c .before .enum-told .given .1)) (λ c. simp (c .activity-of2 .ensures, c .before .enum-told2 .given .1))
-    (λ c. simp (c .activity-of3 .ensures, c .before .enum-told3 .given .1))
-    (λ c. simp (c .activity-of4 .ensures, c .before .before .carried .given .1)))
+    (λ c. simp (c .wait-activity .ensures, c .before .before .carried .given .1))
+    (λ c. simp (c .suspended-activity .ensures, c .before .before .carried2 .given .1)))

@@ -5,5 +5,5 @@ use Rattle.lock_perform.proofs.state.read_thread.Tie as tie
 pub read-thread-spec : {M : Type 1} → statement M
 read-thread-spec =
     tie.close
-    (tie.spec (λ c κs. tt) (λ c κs. tt) (λ c κs. tt)
-    (λ c. simp (c .state .ensures, c .before .kept-count .ensures, c .before .before .read-word .ensures)))
+    (tie.spec (λ c κs. tt) (λ c κs. tt) (λ c κs. tt) (λ c κs. tt)
+    (λ c. simp (c .state .ensures, c .before .kept-count .ensures, c .before .before .read-word .ensures, c .before .before .before .limit .ensures)))

@@ -13,4 +13,4 @@ write-activity-spec =
     (λ c. simp (c .doing-activity .ensures, c .before .before .state .given .1))
     (λ c. simp (c .carried-activity .ensures, c .before .before .state2 .given .1))
     (λ c. simp (c .activity-of .ensures, c .before .enum-told2 .given .1))
-    (λ c. simp (c .activity-of2 .ensures, c .before .before .state3 .given .1)))
+    (λ c. simp (c .suspended-activity .ensures, c .before .before .state3 .given .1)))

@@ -1,4 +1,4 @@
--- `replay_lines::reading::read_begin_object` meets its contract: the object, then the end.
+-- `replay_lines::reading::read_begin_object` meets its contract: the object, then the rest.
 use mathlib.Core.Path.{sym, _∙_}
 use borrow.Author.Needs.{needs}
 use Rattle.replay_lines.specs.Grammar.{read-begin-object}
@@ -6,7 +6,7 @@ use Rattle.replay_lines.proofs.Grammar.{field-fits, field-next}
 use Rattle.replay_lines.proofs.reading.read_begin_object.Statement.{statement}
 use Rattle.replay_lines.proofs.reading.read_begin_object.Tie as tie
 
-fits : tie.Need-sub-end-line
+fits : tie.Need-sub-read-begin-limit
 fits c =
     let read = c .before .before .before in
     field-fits (read .before .before .args .text .now) (read .read-field .ensures) (c .before .value .given .1)
@@ -16,7 +16,7 @@ unfolding read-begin-object
 returns-2 c =
     let found = c .before .before .before in
     let read = found .before .before in
-    c .end-line .ensures ∙ field-next (read .before .before .args .text .now) (read .read-field .ensures) (found .value .given .1) _
+    c .read-begin-limit .ensures ∙ field-next (read .before .before .args .text .now) (read .read-field .ensures) (found .value .given .1) _
 
 pub read-begin-object-spec : {M : Type 1} → statement M
 unfolding read-begin-object

@@ -24,11 +24,21 @@ returns-3 c =
 returns-4 : tie.Need-returns-4
 unfolding read-line
 returns-4 c =
-    let tests = c .before .before in
-    let some = tests .before .before .before .before in
+    let tests = c .before in
+    let some = tests .before .before .before .before .before in
     let line = some .before .before .args .line .now in
     rw (first-byte line (some .if1 .left))
-    (simp (ne-eqb _ _ (tests .before .if2 .left), ne-eqb _ _ (tests .if3 .left))
+    (simp (ne-eqb _ _ (tests .before .before .if2 .left), ne-eqb _ _ (tests .before .if3 .left), eq-eqb _ _ (tests .if4 .taken))
+    (rw (rest-of 1 line) at (c .end-line .ensures)))
+
+returns-5 : tie.Need-returns-5
+unfolding read-line
+returns-5 c =
+    let tests = c .before .before in
+    let some = tests .before .before .before .before .before in
+    let line = some .before .before .args .line .now in
+    rw (first-byte line (some .if1 .left))
+    (simp (ne-eqb _ _ (tests .before .before .if2 .left), ne-eqb _ _ (tests .before .if3 .left), ne-eqb _ _ (tests .if4 .left))
     (rw (rest-of 1 line, c .before .operation-of .ensures) at (c .read-begin .ensures)))
 
 pub read-line-spec : {M : Type 1} → statement M
@@ -36,4 +46,4 @@ unfolding read-line
 read-line-spec =
     tie.close
     (tie.spec (λ c. rw (no-bytes (c .before .before .args .line .now) (c .if1 .taken))) (λ c. search needs) (λ c. search needs) (λ c. search needs)
-    (λ c. search needs) (λ c κs. tt) returns-2 (λ c κs. tt) returns-3 (λ c κs. tt) (λ c κs. tt) returns-4)
+    (λ c. search needs) (λ c κs. tt) returns-2 (λ c κs. tt) returns-3 (λ c κs. tt) returns-4 (λ c κs. tt) (λ c κs. tt) returns-5)

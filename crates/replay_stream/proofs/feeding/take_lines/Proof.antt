@@ -56,7 +56,7 @@ loop-less c =
     let end = test .before in
     rest-shorter (end .line-end .result) (end .before .before .loop .rest .now) (end .line-end .ensures) (test .if1 .left)
 
--- a line that is no event of a running session
+-- a line that is no event of a thread in a running session
 loop-again : tie.Need-loop-again Inv-loop μ-loop
 loop-again c =
     let put = c .before .before in
@@ -103,9 +103,9 @@ loop-again-2 c =
     } in
     let (going, known, whole) = loop .loop .inv in
     next-line (loop .loop .inv) (end .line-end .ensures) (test .if1 .left) (end .before .loop-test .taken)
-    (line-in-place (loop .loop .stage) taken (sym (runs .runs-event .ensures) ∙ not-false (runs .runs-event .result) (asks .before .if2 .left))
+    (line-in-place (loop .loop .stage) taken (sym (runs .runs-thread-event .ensures) ∙ not-false (runs .runs-thread-event .result) (asks .before .if2 .left))
     (read .read-line .ensures) (asks .line-event .ensures) known whole
-    (stored-so taken (sym (stay .stays .ensures) ∙ c .if3 .taken)) (put .before .event-answer .ensures))
+    (stored-so taken (sym (stay .work-stays .ensures) ∙ c .if3 .taken)) (put .before .event-answer .ensures))
     (put .put-answer2 .ensures) (put .put-answer2 .kept .0)
 
 loop-less-3 : tie.Need-loop-less-3 Inv-loop μ-loop
@@ -138,9 +138,9 @@ loop-again-3 c =
     } in
     let (going, known, whole) = loop .loop .inv in
     next-line (loop .loop .inv) (end .line-end .ensures) (test .if1 .left) (end .before .loop-test .taken)
-    (line-in-place (loop .loop .stage) taken (sym (runs .runs-event .ensures) ∙ not-false (runs .runs-event .result) (asks .before .if2 .left))
+    (line-in-place (loop .loop .stage) taken (sym (runs .runs-thread-event .ensures) ∙ not-false (runs .runs-thread-event .result) (asks .before .if2 .left))
     (read .read-line .ensures) (asks .line-event .ensures) known whole
-    (worked-so taken (sym (stay .stays .ensures) ∙ done .before .if3 .left) (done .work-done .ensures)) (put .before .event-answer .ensures))
+    (worked-so taken (sym (stay .work-stays .ensures) ∙ done .before .if3 .left) (done .work-done .ensures)) (put .before .event-answer .ensures))
     (put .put-answer2 .ensures) (put .put-answer2 .kept .0)
 
 returns-2 : tie.Need-returns-2 Inv-loop μ-loop

@@ -7,4 +7,4 @@ pub onward-spec : {M : Type 1} → statement M
 onward-spec =
     tie.close
     (tie.spec (λ c. search needs) (λ c. search needs) (λ c. search needs) (λ c. search needs) (λ c. simp (c .enum-told .given .1))
-    (λ c. simp (c .enum-told2 .given .1)) (λ c. simp (c .enum-told3 .given .1)) (λ c. simp (c .before .carried .given .1)))
+    (λ c. simp (c .enum-told2 .given .1)) (λ c. simp (c .before .carried .given .1)) (λ c. simp (c .before .carried2 .given .1)))

@@ -9,8 +9,8 @@ pub wait-resume-spec : {M : Type 1} → statement M
 unfolding wait-resume
 wait-resume-spec =
     tie.close
-    (tie.spec (λ c. search needs) (λ c. search needs) (λ c. search needs) (λ c κs. tt)
-    (λ c. simp (c .finish-depth .ensures, eq-eqb _ _ (c .before .if1 .taken), c .before .before .before .enum-told3 .given .1)) (λ c. search needs)
-    (λ c. search needs) (λ c. simp (c .enum-told .given .1)) (λ c. simp (c .enum-told2 .given .1))
+    (tie.spec (λ c. search needs) (λ c. search needs) (λ c. search needs) (λ c κs. tt) (λ c κs. tt)
+    (λ c. simp (c .finish-depth .ensures, c .before .run-out .ensures, eq-eqb _ _ (c .before .before .if1 .taken), c .before .before .before .before .enum-told3 .given .1))
+    (λ c. search needs) (λ c. search needs) (λ c. simp (c .enum-told .given .1)) (λ c. simp (c .enum-told2 .given .1))
     (λ c. simp (ne-eqb _ _ (c .if1 .left), c .before .before .enum-told3 .given .1)) (λ c. simp (c .enum-told4 .given .1))
     (λ c. simp (c .enum-told5 .given .1)))

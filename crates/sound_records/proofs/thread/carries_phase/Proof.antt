@@ -8,6 +8,8 @@ pub carries-phase-spec : {M : Type 1} → statement M
 unfolding carries-phase
 carries-phase-spec =
     tie.close
-    (tie.spec (λ c. search needs) (λ c. search needs) (λ c. search needs) (λ c. search needs) (λ c. search needs) (λ c. search needs)
-    (λ c. simp (c .enum-told .given .1)) (λ c. simp (c .enum-told2 .given .1)) (λ c. simp (c .enum-told3 .given .1))
-    (λ c. simp (c .enum-told4 .given .1)) (λ c. simp (c .enum-told5 .given .1)) (λ c. simp (c .enum-told6 .given .1)))
+    (tie.spec (λ c. search needs) (λ c. search needs) (λ c. search needs) (λ c. search needs) (λ c κs. tt) (λ c. search needs) (λ c. search needs)
+    (λ c. search needs) (λ c κs. tt) (λ c. simp (c .enum-told .given .1)) (λ c. simp (c .enum-told2 .given .1))
+    (λ c. simp (c .enum-told3 .given .1)) (λ c. simp (c .wait-carries .ensures, c .before .enum-told4 .given .1))
+    (λ c. simp (c .enum-told5 .given .1)) (λ c. simp (c .enum-told6 .given .1))
+    (λ c. simp (c .wait-carries2 .ensures, c .before .enum-told7 .given .1)))

@@ -5,5 +5,5 @@ use Rattle.sound_records.proofs.thread.used_thread_fits.Tie as tie
 pub used-thread-fits-spec : {M : Type 1} → statement M
 used-thread-fits-spec =
     tie.close
-    (tie.spec (λ c κs. tt) (λ c κs. tt) (λ c κs. tt) (λ c κs. tt)
-    (λ c. simp (c .unused-fits .ensures, c .before .saved-fits .ensures, c .before .before .kept-fits .ensures, c .before .before .before .operation-fits .ensures)))
+    (tie.spec (λ c κs. tt) (λ c κs. tt) (λ c κs. tt) (λ c κs. tt) (λ c κs. tt)
+    (λ c. simp (c .unused-fits .ensures, c .before .ticks-fit .ensures, c .before .before .saved-fits .ensures, c .before .before .before .kept-fits .ensures, c .before .before .before .before .operation-fits .ensures)))

@@ -9,8 +9,8 @@ unfolding uses-phase
 uses-phase-spec =
     tie.close
     (tie.spec (λ c. search needs) (λ c. search needs) (λ c κs. tt) (λ c. search needs) (λ c κs. tt) (λ c κs. tt) (λ c κs. tt) (λ c. search needs)
-    (λ c κs. tt) (λ c κs. tt) (λ c. search needs) (λ c. search needs) (λ c. simp (c .enum-told .given .1))
+    (λ c κs. tt) (λ c. search needs) (λ c. search needs) (λ c. search needs) (λ c κs. tt) (λ c. simp (c .enum-told .given .1))
     (λ c. simp (c .within .ensures, c .before .enum-told2 .given .1))
     (λ c. simp (c .within4 .ensures, c .before .within3 .ensures, c .before .before .within2 .ensures, c .before .before .before .enum-told3 .given .1))
-    (λ c. simp (c .within6 .ensures, c .before .within5 .ensures, c .before .before .enum-told4 .given .1)) (λ c. simp (c .enum-told5 .given .1))
-    (λ c. simp (c .enum-told6 .given .1)))
+    (λ c. simp (c .wait-uses .ensures, c .before .enum-told4 .given .1)) (λ c. simp (c .enum-told5 .given .1)) (λ c. simp (c .enum-told6 .given .1))
+    (λ c. simp (c .wait-uses2 .ensures, c .before .enum-told7 .given .1)))

@@ -6,4 +6,4 @@ pub join-spec : {M : Type 1} → statement M
 join-spec =
     tie.close
     (tie.spec (λ c κs. tt) (λ c κs. tt) (λ c κs. tt)
-    (λ c. simp (c .with-first .ensures, c .before .first-of-both .ensures, c .before .before .first-in .ensures)))
+    (λ c. simp (c .with-first .ensures, c .before .first-with .ensures, c .before .before .first-in .ensures)))

@@ -1,0 +1,2 @@
+-- The laws behind the code of the tick.
+pub mod InPlace
