@@ -33,9 +33,10 @@ use Rattle.lock_soundness.specs.Sound.{sound-of}
 use Rattle.lock_engine.specs.Outcome.{reply-returned}
 use Rattle.lock_engine.specs.Turn.{action-turn, word-turn, state-turn, step-turn, open-turn, gate-turn}
 use Rattle.lock_engine.specs.declared.turning.Turn.{Turn}
-use Rattle.lock_engine.specs.declared.turning.Work.the-variants.{Chains}
+use Rattle.lock_work.specs.declared.settling.Work.the-variants.{Chains}
 use Rattle.lock_gate.specs.Status.{thread-status}
-use Rattle.lock_engine.specs.Handle.{trusted, work-stays, work-done-by, outcome-of, handle-trusting}
+use Rattle.lock_work.specs.Work.{work-stays, work-done}
+use Rattle.lock_engine.specs.Handle.{trusted, outcome-of, handle-trusting}
 use Rattle.lock_engine.proofs.InPlace.{first-there, parts-of, keeps-object, shut-thread, own-in-place, number-in-place, object-in-place}
 use Rattle.lock_engine.proofs.InPlace.{gate-here, turn-here, own-here, object-here}
 use Rattle.lock_engine.proofs.Full.{Full, full-thread, full-carried}
@@ -105,8 +106,8 @@ on-chains Open Tick own object waiters other = false≢true (sym other)
 on-chains (Shut refusal) event own object waiters other = (Stay, refl)
 
 worked-leaves : (t : Table) → Full t → (n o : ℕ) (turn : Turn) (work : ChainWork) → Has thread-limit n → Has object-limit o
-    → Leaves n o (turn .own) (turn .object) (work-done-by (Chains work) t n o turn .table)
-unfolding work-done-by
+    → Leaves n o (turn .own) (turn .object) (work-done (Chains work) t n o (turn .own) (turn .object) .table)
+unfolding work-done
 worked-leaves t full n o turn work has-n has-o =
     let carried = carry-out t (turn .object .monitor) work n o in
     let (thread, home) = both-read (carried .table) (full-carried t (turn .object .monitor) work n o full) n o
@@ -115,7 +116,7 @@ worked-leaves t full n o turn work has-n has-o =
 
 outcome-leaves : (t : Table) → Full t → (n o : ℕ) (turn : Turn) → OnChains turn → Has thread-limit n → Has object-limit o
     → Leaves n o (turn .own) (turn .object) (outcome-of t n o turn .table)
-unfolding work-done-by
+unfolding work-done
 outcome-leaves t full n o turn (work, is) has-n has-o =
     by-test (Leaves n o (turn .own) (turn .object)) (work-stays (turn .work))
     (λ stay.

@@ -20,7 +20,8 @@ use Rattle.lock_soundness.specs.Sound.{unheld-fits, ticks-fit, found-in, names-
 use Rattle.lock_engine.specs.Outcome.{reply-returned}
 use Rattle.lock_engine.specs.Turn.{action-turn, word-turn, state-turn, step-turn, open-turn, gate-turn}
 use Rattle.lock_gate.specs.Status.{thread-status}
-use Rattle.lock_engine.specs.Handle.{work-stays, handle-trusting, handle}
+use Rattle.lock_work.specs.Work.{work-stays}
+use Rattle.lock_engine.specs.Handle.{handle-trusting, handle}
 use Rattle.lock_engine.specs.Cases.{engine-cases, NineCases}
 
 both-hold : (rows more : List Case) → AllHold rows → AllHold more → AllHold (rows ++ more)

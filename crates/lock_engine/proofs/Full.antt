@@ -5,7 +5,7 @@ use lib.Dec.{eqb}
 use lib.ListN.{length}
 use Rattle.laws.specs.Choice.{within}
 use Rattle.laws.proofs.Choice.{by-test}
-use Rattle.lock_rules.specs.Gate.{event-thread}
+use Rattle.lock_rules.specs.Gate.{event-thread, event-object}
 use Rattle.lock_rules.specs.declared.event.Event.{Event}
 use Rattle.lock_rules.specs.declared.ChainWork.{ChainWork}
 use Rattle.lock_table.specs.Limits.{thread-limit, object-limit}
@@ -14,13 +14,15 @@ use Rattle.lock_table.specs.Chain.{hang, moved, move-all}
 use Rattle.lock_table.specs.declared.record.{ThreadRecord.ThreadRecord, ObjectRecord.ObjectRecord, Monitor.Monitor, Table.Table}
 use Rattle.lock_table.proofs.Records.{thread-beside, object-beside}
 use Rattle.lock_perform.specs.Moving.{CarriedOut, relink, moved-whole, after-whole, carry-out}
-use Rattle.lock_clock.specs.Waiters.{no-parting, part-waiters}
-use Rattle.lock_clock.specs.Tick.{hand-if-free, tick-object, tick-to, tick}
-use Rattle.lock_clock.specs.declared.waiters.{Parting.Parting, PartedWaiters.PartedWaiters}
-use Rattle.lock_clock.specs.declared.ticking.Monitored.{Monitored}
-use Rattle.lock_engine.specs.Handle.{work-stays, work-done-by, outcome-of, handle-trusting, handle}
-use Rattle.lock_engine.specs.declared.turning.{Work.Work, Turn.Turn}
-use Rattle.lock_engine.specs.declared.turning.Work.the-variants.{Chains, Tick}
+use Rattle.lock_soundness.specs.Sound.{sound-of}
+use Rattle.lock_work.specs.Waiters.{PartedWaiters, no-parting, part-waiters}
+use Rattle.lock_work.specs.Tick.{Monitored, hand-if-free, tick-object, tick-to, tick}
+use Rattle.lock_work.specs.declared.waiters.Parting.{Parting}
+use Rattle.lock_work.specs.Work.{work-stays, work-done}
+use Rattle.lock_engine.specs.Handle.{turn-with, outcome-of, handle-trusting, handle}
+use Rattle.lock_work.specs.declared.settling.Work.{Work}
+use Rattle.lock_engine.specs.declared.turning.Turn.{Turn}
+use Rattle.lock_work.specs.declared.settling.Work.the-variants.{Chains, Tick}
 
 pub record Full (table : Table) : Type 0 where
   pub threads : length (table .threads) ≡ thread-limit
@@ -90,17 +92,21 @@ pub full-tick : (table : Table) → Full table → Full (tick table)
 full-tick table full = full-ticked-to object-limit table full
 
 -- the work of a turn, and the outcome of an event
-pub full-work : (work : Work) (table : Table) (thread number : ℕ) (turn : Turn) → Full table → Full (work-done-by work table thread number turn .table)
-unfolding work-done-by
-full-work (Chains work) table thread number turn full =
-    full-object _ _ (full-thread _ _ (full-carried table (turn .object .monitor) work thread number full))
-full-work Tick table thread number turn full = full-tick table full
+pub full-work : (work : Work) (table : Table) (thread number : ℕ) (own : ThreadRecord) (object : ObjectRecord) → Full table
+    → Full (work-done work table thread number own object .table)
+unfolding work-done
+full-work (Chains work) table thread number own object full =
+    full-object _ _ (full-thread _ _ (full-carried table (object .monitor) work thread number full))
+full-work Tick table thread number own object full = full-tick table full
 
 full-outcome : (table : Table) (thread number : ℕ) (turn : Turn) → Full table → Full (outcome-of table thread number turn .table)
 full-outcome table thread number turn full =
     by-test Full (work-stays (turn .work)) (λ stay. full-object number (turn .object) (full-thread thread (turn .own) full))
-    (λ some. full-work (turn .work) table thread number turn full)
+    (λ some. full-work (turn .work) table thread number (turn .own) (turn .object) full)
 
 pub full-handle : (table : Table) (event : Event) → Full table → Full (handle table event .table)
 unfolding handle handle-trusting
-full-handle table event full = full-outcome table (event-thread event) _ _ full
+full-handle table event full =
+    let own = thread-at table (event-thread event) in
+    let number = event-object event (own .object) in
+    full-outcome table (event-thread event) number (turn-with table event (sound-of table) own (object-at table number)) full

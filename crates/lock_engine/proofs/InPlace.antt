@@ -30,12 +30,13 @@ use Rattle.lock_engine.specs.Turn.{begun, gate-turn, open-turn, step-tur
 use Rattle.lock_gate.specs.Status.{thread-status}
 use Rattle.lock_table.specs.Place.{thread-place, object-place}
 use Rattle.lock_table.proofs.Places.{Has, Lacks, has?, place-has}
-use Rattle.lock_engine.specs.Handle.{trusted, turn-with, work-stays, work-done-of, handle-with, handle-trusting}
+use Rattle.lock_work.specs.Work.{work-stays}
+use Rattle.lock_engine.specs.Handle.{trusted, turn-with, work-done-of, handle-with, handle-trusting}
 use Rattle.lock_engine.specs.declared.outcome.{Reply.Reply, Outcome.Outcome}
 use Rattle.lock_engine.specs.declared.outcome.Reply.the-variants.{Accepted, Refused}
-use Rattle.lock_engine.specs.declared.turning.Work.the-variants.{Chains}
+use Rattle.lock_work.specs.declared.settling.Work.the-variants.{Chains}
 use Rattle.lock_engine.specs.declared.turning.Turn.{Turn}
-use Rattle.lock_engine.specs.declared.settling.WorkDone.{WorkDone}
+use Rattle.lock_work.specs.declared.settling.WorkDone.{WorkDone}
 
 lacks-within : (limit size number : ℕ) → size ≤ limit → Lacks limit number → within 1 size number ≡ false
 lacks-within limit size number small (inl none) = rw (none) refl

@@ -1,6 +1,5 @@
 -- The laws of events.
 pub mod InPlace
-pub mod Worked
 pub mod Refused
 pub mod Narrow
 pub mod Full

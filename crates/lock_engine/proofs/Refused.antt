@@ -11,7 +11,8 @@ use Rattle.lock_table.proofs.Records.{thread-unchanged, object-unchanged}
 use Rattle.lock_perform.specs.Perform.{stays}
 use Rattle.lock_engine.specs.Turn.{refused, gate-turn}
 use Rattle.lock_gate.specs.Status.{thread-status}
-use Rattle.lock_engine.specs.Handle.{trusted, work-stays, outcome-of, handle-trusting}
+use Rattle.lock_work.specs.Work.{work-stays}
+use Rattle.lock_engine.specs.Handle.{trusted, outcome-of, handle-trusting}
 use Rattle.lock_engine.specs.declared.outcome.Reply.the-variants.{Refused}
 use Rattle.lock_engine.specs.declared.outcome.Outcome.{Outcome}
 

@@ -1,6 +1,6 @@
 -- An event on a table: the records that it touches are read, take their turn, and are written back with the work on the chains done.
 use Prim.Native.Nat.{ℕ}
-use mathlib.Core.Bool.{Bool, false}
+use mathlib.Core.Bool.{Bool}
 use lib.Dec.{leb}
 use Rattle.laws.specs.Choice.{pick, both}
 use Rattle.chains.specs.Chain.{chain-length}
@@ -12,16 +12,12 @@ use Rattle.lock_table.specs.Access.{thread-at, set-thread, object-at, set-objec
 use Rattle.lock_table.specs.declared.record.ThreadRecord.{ThreadRecord}
 use Rattle.lock_table.specs.declared.record.ObjectRecord.{ObjectRecord}
 use Rattle.lock_table.specs.declared.record.Table.{Table}
-use Rattle.lock_perform.specs.Moving.{carry-out}
-use Rattle.lock_perform.specs.Perform.{stays, work-done}
-use Rattle.lock_clock.specs.Tick.{tick}
+use Rattle.lock_work.specs.Work.{work-stays, work-done}
+use Rattle.lock_work.specs.declared.settling.WorkDone.{WorkDone}
 use Rattle.lock_soundness.specs.Sound.{sound-of}
 use Rattle.lock_engine.specs.Turn.{take-turn}
 use Rattle.lock_engine.specs.declared.outcome.Outcome.{Outcome}
-use Rattle.lock_engine.specs.declared.turning.Work.{Work}
-use Rattle.lock_engine.specs.declared.turning.Work.the-variants.{Chains, Tick}
 use Rattle.lock_engine.specs.declared.turning.Turn.{Turn}
-use Rattle.lock_engine.specs.declared.settling.WorkDone.{WorkDone}
 
 -- how many threads wait for an object
 abbrev pub waiters-of : Table → ObjectRecord → ℕ
@@ -35,22 +31,9 @@ abbrev pub turn-with : Table → Event → Bool → ThreadRecord → ObjectRecor
 turn-with table event issound own object =
     take-turn (trusted table issound) (table .threadcount) (table .objectcount) event own object (waiters-of table object)
 
--- whether the two records of the turn are all that it changes
-unfoldable pub work-stays : Work → Bool
-work-stays (Chains work) = stays work
-work-stays Tick = false
-
--- the table with a turn's work done and its records written, and whom a rule's work unparked
-unfoldable pub work-done-by : Work → Table → ℕ → ℕ → Turn → WorkDone
-work-done-by (Chains work) table thread number turn =
-    record {
-      table = work-done table thread number (turn .own) (turn .object) work;
-      unparked = carry-out table (turn .object .monitor) work thread number .unparked;
-    }
-work-done-by Tick table thread number turn = record { table = tick table; unparked = 0 }
-
+-- what the turn leaves to do, done
 abbrev pub work-done-of : Table → ℕ → ℕ → Turn → WorkDone
-work-done-of table thread number turn = work-done-by (turn .work) table thread number turn
+work-done-of table thread number turn = work-done (turn .work) table thread number (turn .own) (turn .object)
 
 -- both records are written, and the work is done where there is some
 abbrev pub outcome-of : Table → ℕ → ℕ → Turn → Outcome

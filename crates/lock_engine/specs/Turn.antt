@@ -36,8 +36,8 @@ use Rattle.lock_gate.specs.Status.{thread-status}
 use Rattle.lock_perform.specs.State.{read-thread, write-thread}
 use Rattle.lock_perform.specs.Sight.{sight-with}
 use Rattle.lock_perform.specs.Perform.{object-after}
+use Rattle.lock_work.specs.declared.settling.Work.the-variants.{Chains, Tick}
 use Rattle.lock_engine.specs.declared.outcome.Reply.the-variants.{Accepted, Refused, Answered}
-use Rattle.lock_engine.specs.declared.turning.Work.the-variants.{Chains, Tick}
 use Rattle.lock_engine.specs.declared.turning.Turn.{Turn}
 
 -- refused: both records stay

@@ -1,7 +1,5 @@
 // An event on a table: the two records that it touches are read in place, take their turn and are written back in place.
 use crate::outcome::Outcome;
-use crate::settling::work_done;
-use crate::settling::work_stays;
 use crate::turning::Turn;
 use crate::turning::take_turn;
 use lock_gate::event_object;
@@ -14,6 +12,8 @@ use lock_table::Table;
 use lock_table::ThreadRecord;
 use lock_table::object_place;
 use lock_table::thread_place;
+use lock_work::work_done;
+use lock_work::work_stays;
 ghost use mathlib.Core.Path.{_≡_};
 ghost use Rattle.lock_engine.specs.Handle.{turn-with, handle-trusting, handle, begin, step, tick-event};
 
@@ -64,7 +64,7 @@ pub fn handle_trusting(table: Table, event: Event, issound: bool) -> Outcome
         changed.threads[place] = ownafter;
         changed.objects[home] = objectafter;
     } else {
-        changed = work_done(changed, thread, number, turn).table;
+        changed = work_done(changed, thread, number, ownafter, objectafter, work).table;
     }
     Outcome {
         table: changed,

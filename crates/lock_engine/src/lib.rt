@@ -3,7 +3,6 @@
 // Every table and every number is answered; what cannot be done is refused with the first refusal that applies.
 mod handling;
 mod outcome;
-mod settling;
 mod turning;
 
 pub use handling::begin;
@@ -17,8 +16,4 @@ pub use outcome::Reply;
 pub use outcome::refusal_number;
 pub use outcome::returned;
 pub use outcome::woken;
-pub use settling::WorkDone;
-pub use settling::work_done;
-pub use settling::work_stays;
 pub use turning::Turn;
-pub use turning::Work;

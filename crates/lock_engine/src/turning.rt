@@ -27,18 +27,13 @@ use lock_word::TICK_LIMIT;
 use lock_word::Ticks;
 use lock_word::read_word;
 use lock_word::seen_word;
+use lock_work::Work;
 use rule_decide::decide;
 ghost use mathlib.Core.Path.{_≡_};
 ghost use lib.Dec.{ltb};
 ghost use Rattle.laws.specs.Choice.{pick};
 ghost use Rattle.lock_word.specs.Ticks.{tick-limit};
 ghost use Rattle.lock_engine.specs.Turn.{refused, given-ticks, begun, begin-turn, tick-turn, effect-turn, action-turn, word-turn, state-turn, step-turn, open-turn, gate-turn, take-turn};
-
-// What an event leaves to be done to the table besides its two records.
-pub enum Work {
-    Chains(ChainWork), // a rule's, on the chains of its object
-    Tick, // on every waiting chain
-}
 
 // What an event makes of the two records, the work that is left to do, and what it replies.
 pub struct Turn {

@@ -25,7 +25,8 @@ use Rattle.lock_soundness.specs.Sound.{sound-of}
 use Rattle.lock_engine.specs.Outcome.{reply-returned, reply-woken}
 use Rattle.lock_engine.specs.Turn.{gate-turn, open-turn}
 use Rattle.lock_gate.specs.Status.{thread-status}
-use Rattle.lock_engine.specs.Handle.{work-stays, work-done-of, outcome-of, waiters-of, trusted, handle-trusting, handle, begin, tick-event}
+use Rattle.lock_work.specs.Work.{work-stays}
+use Rattle.lock_engine.specs.Handle.{work-done-of, outcome-of, waiters-of, trusted, handle-trusting, handle, begin, tick-event}
 use Rattle.lock_engine.proofs.{Refused.refused-stays, Full.full-thread}
 use Rattle.lock_engine.proofs.Narrow.{narrow-begin, narrow-step}
 use Rattle.lock_rules.specs.declared.event.Refusal.the-variants.{NotSound, NoSuchThread, NoSuchObject, NotIdle, ThreadIdle, ThreadParked}

@@ -19,11 +19,12 @@ use Rattle.event_bytes.proofs.Encoding.{events-next, events-end}
 use Rattle.lock_table.specs.WellTyped.{WellTyped}
 use Rattle.lock_table.specs.declared.record.Table.{Table}
 use Rattle.lock_soundness.specs.Sound.{sound-of}
-use Rattle.lock_engine.specs.Handle.{work-stays, work-done-of, handle-trusting, handle}
+use Rattle.lock_work.specs.Work.{work-stays}
+use Rattle.lock_engine.specs.Handle.{work-done-of, handle-trusting, handle}
 use Rattle.lock_engine.specs.Outcome.{reply-returned, reply-woken}
 use Rattle.lock_engine.specs.declared.outcome.Outcome.{Outcome}
 use Rattle.lock_engine.specs.declared.turning.Turn.{Turn}
-use Rattle.lock_engine.specs.declared.settling.WorkDone.{WorkDone}
+use Rattle.lock_work.specs.declared.settling.WorkDone.{WorkDone}
 use Rattle.lock_engine.proofs.InPlace.{Taken, stored, stored-so, worked-so}
 use Rattle.lock_engine.proofs.Refused.{refusing, handle-shut}
 use Rattle.lock_schedule.proofs.Theorem.{sound-kept, well-typed-kept}

@@ -20,7 +20,8 @@ use Rattle.lock_table.specs.declared.fresh_table.FreshTable.{FreshTable}
 use Rattle.lock_table.specs.declared.record.Table.{Table}
 use Rattle.lock_soundness.specs.Sound.{sound-of}
 use Rattle.lock_engine.specs.Outcome.{reply-returned, reply-woken}
-use Rattle.lock_engine.specs.Handle.{turn-with, work-stays, work-done-of, begin, step, tick-event}
+use Rattle.lock_work.specs.Work.{work-stays}
+use Rattle.lock_engine.specs.Handle.{turn-with, work-done-of, begin, step, tick-event}
 use Rattle.lock_engine.specs.declared.turning.Turn.{Turn}
 use Rattle.lock_engine.specs.declared.outcome.Reply.{Reply}
 use Rattle.lock_engine.specs.declared.outcome.Reply.the-variants.{Accepted, Refused, Answered}

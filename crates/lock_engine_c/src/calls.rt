@@ -5,8 +5,6 @@ use lock_engine::refusal_number;
 use lock_engine::returned;
 use lock_engine::turn_with;
 use lock_engine::woken;
-use lock_engine::work_done;
-use lock_engine::work_stays;
 use lock_gate::TIMED_WAIT;
 use lock_gate::event_object;
 use lock_gate::event_thread;
@@ -23,6 +21,8 @@ use lock_table::narrow;
 use lock_table::object_at;
 use lock_table::sized_request;
 use lock_table::thread_at;
+use lock_work::work_done;
+use lock_work::work_stays;
 use table_bytes::TABLE_SIZE;
 use table_bytes::is_table;
 use table_bytes::read_table;
@@ -100,7 +100,10 @@ fn store_turn(bytes: &mut [u8], table: Table, thread: u8, number: u8, turn: Turn
             write_object(bytes, number, object);
             return;
         }
-        write_table(bytes, work_done(table, thread, number, turn).table);
+        write_table(
+            bytes,
+            work_done(table, thread, number, own, object, work).table,
+        );
     }
 }
 

@@ -8,14 +8,14 @@ use event_bytes::limit_from;
 use lock_engine::returned;
 use lock_engine::turn_with;
 use lock_engine::woken;
-use lock_engine::work_done;
-use lock_engine::work_stays;
 use lock_gate::event_object;
 use lock_gate::event_thread;
 use lock_rules::Event;
 use lock_soundness::sound;
 use lock_table::object_place;
 use lock_table::thread_place;
+use lock_work::work_done;
+use lock_work::work_stays;
 use table_bytes::is_table;
 use table_bytes::read_table;
 ghost use mathlib.Core.Path.{_≡_};
@@ -88,7 +88,7 @@ pub extern "C" fn duskclamp_run(bytes: &mut [u8], events: &[u8], answers: &mut [
             table.threads[place] = ownafter;
             table.objects[home] = objectafter;
         } else {
-            table = work_done(table, thread, number, turn).table;
+            table = work_done(table, thread, number, ownafter, objectafter, work).table;
         }
         changed = changed | reply_changes(reply);
         answers[done] = packed(returned(reply), woken(reply), turn.commits) as u64;

@@ -37,35 +37,31 @@ read-in-place t n = at (eqb n 0) (ltb thread-limit n)
 abbrev pub with-threads : Table → List ThreadRecord → Table
 with-threads t threads = record { threadcount = t .threadcount; objectcount = t .objectcount; threads = threads; objects = t .objects }
 
-pub set-in-place : (t : Table) (n : ℕ) (thread : ThreadRecord)
-    → with-threads t (set (t .threads) (thread-place n) (if-record n thread (getD (t .threads) (thread-place n) no-thread))) ≡ set-thread t n thread
-unfolding place-within if-record set-thread
-set-in-place t n thread = at (eqb n 0) (ltb thread-limit n)
-  where
-    at : (none past : Bool)
-        → let place = pick none 0 (pick past 0 (n - 1)) in
-        let there = getD (t .threads) place no-thread in
-        with-threads t (set (t .threads) place (pick none there (pick past there thread)))
-        ≡ pick none t (pick past t (with-threads t (set (t .threads) (n - 1) thread)))
-    at true past = ap (with-threads t) (set-getD (t .threads) 0 no-thread)
-    at false true = ap (with-threads t) (set-getD (t .threads) 0 no-thread)
-    at false false = refl
-
-pub set-own-in-place : (t : Table) (n : ℕ) (own : ThreadRecord)
-    → with-threads t (set (t .threads) (thread-place n) (own-written n own (getD (t .threads) (thread-place n) no-thread)))
-    ≡ set-thread t n (with-next own (next-of t n))
+-- a record changed at its place
+pub set-by-in-place : (t : Table) (n : ℕ) (change : ThreadRecord → ThreadRecord)
+    → let there = getD (t .threads) (thread-place n) no-thread in
+    with-threads t (set (t .threads) (thread-place n) (if-record n (change there) there)) ≡ set-thread t n (change (thread-at t n))
 unfolding place-within if-record set-thread thread-at
-set-own-in-place t n own = at (eqb n 0) (ltb thread-limit n)
+set-by-in-place t n change = at (eqb n 0) (ltb thread-limit n)
   where
     at : (none past : Bool)
         → let place = pick none 0 (pick past 0 (n - 1)) in
         let there = getD (t .threads) place no-thread in
         let read : ThreadRecord = pick none no-thread (pick past no-thread (getD (t .threads) (n - 1) no-thread)) in
-        with-threads t (set (t .threads) place (pick none there (pick past there (with-next own (there .next)))))
-        ≡ pick none t (pick past t (with-threads t (set (t .threads) (n - 1) (with-next own (read .next)))))
+        with-threads t (set (t .threads) place (pick none there (pick past there (change there))))
+        ≡ pick none t (pick past t (with-threads t (set (t .threads) (n - 1) (change read))))
     at true past = ap (with-threads t) (set-getD (t .threads) 0 no-thread)
     at false true = ap (with-threads t) (set-getD (t .threads) 0 no-thread)
     at false false = refl
+
+pub set-in-place : (t : Table) (n : ℕ) (thread : ThreadRecord)
+    → with-threads t (set (t .threads) (thread-place n) (if-record n thread (getD (t .threads) (thread-place n) no-thread))) ≡ set-thread t n thread
+set-in-place t n thread = set-by-in-place t n (λ there. thread)
+
+pub set-own-in-place : (t : Table) (n : ℕ) (own : ThreadRecord)
+    → with-threads t (set (t .threads) (thread-place n) (own-written n own (getD (t .threads) (thread-place n) no-thread)))
+    ≡ set-thread t n (with-next own (next-of t n))
+set-own-in-place t n own = set-by-in-place t n (λ there. with-next own (there .next))
 
 -- a table with other object records
 abbrev pub with-objects : Table → List ObjectRecord → Table

@@ -29,7 +29,7 @@ use Rattle.lock_records.proofs.Readings.{busy-in, state-is, home-is, wo
 use Rattle.lock_records.proofs.Performs.{running-unchained, begin-represents, unruled-represents, perform-represents}
 use Rattle.lock_records.proofs.Operations.{begun-activity, begun-written}
 use Rattle.lock_records.proofs.TickRepresents.{tick-represents}
-use Rattle.lock_clock.specs.Tick.{tick}
+use Rattle.lock_work.specs.Tick.{tick}
 
 -- what a rule decided, carried out by thread n on the object of this number
 abbrev pub step-acts : Table → ℕ → ℕ → ObjectRecord → Action → TurnOf Table

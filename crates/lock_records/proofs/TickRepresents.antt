@@ -21,7 +21,7 @@ use Rattle.lock_rules.proofs.Tables.{ListThread, ListTable, states-at, seen-her
 use Rattle.lock_table.specs.Limits.{object-limit}
 use Rattle.lock_table.specs.Access.{object-at}
 use Rattle.lock_table.specs.declared.record.{ObjectRecord.ObjectRecord, Table.Table}
-use Rattle.lock_clock.specs.Tick.{tick-waited, tick-object, tick-to, tick}
+use Rattle.lock_work.specs.Tick.{tick-waited, tick-object, tick-to, tick}
 use Rattle.lock_records.proofs.Represents.{Represents}
 use Rattle.lock_records.proofs.Readings.{chain-empty}
 use Rattle.lock_records.proofs.Placing.{placed, placed-none}

@@ -38,10 +38,9 @@ use Rattle.lock_table.specs.Access.{set-object, next-of}
 use Rattle.lock_table.specs.Chain.{hang, handed-of}
 use Rattle.lock_table.specs.Monitor.{hand-of, join}
 use Rattle.lock_table.specs.declared.record.{ThreadRecord.ThreadRecord, ObjectRecord.ObjectRecord, Monitor.Monitor, Table.Table}
-use Rattle.lock_clock.specs.Waiters.{no-parting, part-waiters}
-use Rattle.lock_clock.specs.Tick.{moved-monitor, hand-over, hand-if-free, tick-waited}
-use Rattle.lock_clock.specs.declared.waiters.{Parting.Parting, PartedWaiters.PartedWaiters}
-use Rattle.lock_clock.specs.declared.ticking.Monitored.{Monitored}
+use Rattle.lock_work.specs.Waiters.{PartedWaiters, no-parting, part-waiters}
+use Rattle.lock_work.specs.Tick.{Monitored, moved-monitor, hand-over, hand-if-free, tick-waited}
+use Rattle.lock_work.specs.declared.waiters.Parting.{Parting}
 use Rattle.lock_records.proofs.Numbering.{number, place-of, lists-of, list-at, update-number, lists-replaced, chain-handed, entered-all, first-is-head}
 use Rattle.lock_records.proofs.Represents.{monitor-record, object-record, Represents, next-is}
 use Rattle.lock_records.proofs.Written.{handed-written}
@@ -207,7 +206,7 @@ module _ (threads objects : ℕ) (t : Table) (lists : ListTable) (represents : R
   abbrev monitor : Monitor
   monitor = monitor-record o old (here .holder) (here .depth)
 
-  moved-recorded : moved-monitor monitor (p .left .first) (p .taken .first) ≡ monitor-record o links (here .holder) (here .depth)
+  moved-recorded : moved-monitor monitor (record { left = p .left; taken = p .taken }) ≡ monitor-record o links (here .holder) (here .depth)
   moved-recorded =
       let left : Links = record { next = old .next; first = update (old .first) (number o Chain.Waiting) (p .left .first) } in
       let entry-is : left .first (number o Chain.Entry) ≡ first Chain.Entry = update-number (old .first) o Chain.Waiting Chain.Entry (p .left .first) in
@@ -298,11 +297,11 @@ module _ (threads objects : ℕ) (t : Table) (lists : ListTable) (represents : R
       ap (λ (object : ObjectRecord).
       let monitor = object .monitor in
       let parted = part-waiters thread-limit t no-parting (monitor .waiting) in
-      let taken = parted .parting .taken .first in
-      let after = hand-if-free (hang thread-limit (parted .table) (monitor .entry) taken) (moved-monitor monitor (parted .parting .left .first) taken) in
+      let hung = hang thread-limit (parted .table) (monitor .entry) (parted .parting .taken .first) in
+      let after = hand-if-free hung (moved-monitor monitor (parted .parting)) in
       set-object (after .table) o (with-monitor object (after .monitor))) (represents .object-is o real small)
       ∙ (ap (λ (parting : Parting).
-      finished (hang thread-limit (walked .table) (first Chain.Entry) (parting .taken .first)) (moved-monitor monitor (parting .left .first) (parting .taken .first))) (the-walk .1)
+      finished (hang thread-limit (walked .table) (first Chain.Entry) (parting .taken .first)) (moved-monitor monitor parting)) (the-walk .1)
       ∙ ap (finished hung) moved-recorded)
 
   abbrev at-object : Ticked

@@ -31,8 +31,8 @@ use Rattle.lock_table.specs.Chain.{moved-phase}
 use Rattle.lock_table.specs.declared.record.{ThreadRecord.ThreadRecord, Table.Table}
 use Rattle.lock_table.proofs.Records.{set-thread-out}
 use Rattle.lock_perform.specs.State.{wait-activity, carried-activity, write-activity, write-thread}
-use Rattle.lock_clock.specs.Waiters.{ticks-after, runs-out, waiter-after, last-behind, passed, part-waiters}
-use Rattle.lock_clock.specs.declared.waiters.Parting.{Parting}
+use Rattle.lock_work.specs.Waiters.{ticks-after, runs-out, waiter-after, last-behind, passed, part-waiters}
+use Rattle.lock_work.specs.declared.waiters.Parting.{Parting}
 use Rattle.lock_records.proofs.Represents.{thread-record, record-is}
 use Rattle.lock_records.proofs.Moves.{change, Moves, Inside, moves-set}
 

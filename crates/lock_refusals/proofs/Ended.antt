@@ -19,7 +19,8 @@ use Rattle.lock_table.proofs.Records.{object-unchanged, thread-unchanged}
 use Rattle.lock_perform.proofs.Performed.{perform-of}
 use Rattle.lock_records.proofs.Settled.{settled-performs}
 use Rattle.lock_engine.specs.{Outcome.reply-returned, Turn.action-turn}
-use Rattle.lock_engine.specs.Handle.{work-stays, work-done-by, outcome-of}
+use Rattle.lock_work.specs.Work.{work-stays, work-done}
+use Rattle.lock_engine.specs.Handle.{outcome-of}
 use Rattle.lock_engine.specs.declared.outcome.Reply.the-variants.{Answered}
 use Rattle.lock_engine.specs.declared.outcome.Outcome.{Outcome}
 use Rattle.lock_engine.proofs.Refused.{refusing}
@@ -90,7 +91,7 @@ module _ (table : Table) (thread : ℕ) where
   -- what a rule decided, carried out
   pub action-ended : (word : LockWord) (action : Action) (number : ℕ) → Ends (sight-at table (object-at table o) word) action number
       → Ended table thread (outcome-of table thread o (action-turn thread own (object-at table o) action)) number
-  unfolding action-turn reply-returned work-stays work-done-by stays
+  unfolding action-turn reply-returned work-stays work-done stays
   action-ended word Unruled number ends =
       record { refused = sym ends; left = λ high. rw (thread-unchanged table thread, object-unchanged table o) refl }
   action-ended word (Do effect) number ends =

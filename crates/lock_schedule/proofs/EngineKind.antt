@@ -42,7 +42,8 @@ use Rattle.lock_records.proofs.{Settled.settled-performs, EveryNumber.written-a
 use Rattle.lock_records.proofs.ReadBack.{IsWritten, state-back}
 use Rattle.lock_engine.specs.Turn.{given-ticks, begun, begin-turn, action-turn, word-turn, state-turn, step-turn, open-turn, gate-turn, refused}
 use Rattle.lock_gate.specs.Status.{thread-status}
-use Rattle.lock_engine.specs.Handle.{waiters-of, work-stays, work-done-by, outcome-of, handle-trusting, handle}
+use Rattle.lock_work.specs.Work.{work-stays, work-done}
+use Rattle.lock_engine.specs.Handle.{waiters-of, outcome-of, handle-trusting, handle}
 use Rattle.lock_engine.specs.declared.outcome.Outcome.{Outcome}
 use Rattle.lock_engine.proofs.{Refused.refused-stays, Narrow.sizes}
 use Rattle.lock_schedule.specs.Schedule.{reply-shown}
@@ -99,7 +100,7 @@ module _ (t : Table) where
       → let own = thread-at t n in
       turn-of (outcome-of t n (own .object) (action-turn n own (object-at t (own .object)) action))
       ≡ step-acts t n (own .object) (object-at t (own .object)) action
-  unfolding action-turn work-stays work-done-by
+  unfolding action-turn work-stays work-done
   rule-acts n Unruled = unfold stays in rw (thread-unchanged t n, object-unchanged t (thread-at t n .object)) refl
   rule-acts n (Do effect) = rw (settled-performs t n (thread-at t n .object) (object-at t (thread-at t n .object)) effect) refl
 
@@ -154,7 +155,7 @@ module _ (t : Table) where
         let object = object-at t number in
         let gated = gate true (t .threadcount) (t .objectcount) event (status-of (read-thread own)) in
         turn-of (outcome-of t (event-thread event) number (gate-turn gated event own object (waiters-of t object))) ≡ through record-kind gated t event
-    unfolding gate-turn open-turn work-stays work-done-by
+    unfolding gate-turn open-turn work-stays work-done
     through-gate event =
         let own = thread-at t (event-thread event) in
         let number = event-object event (own .object) in

@@ -41,6 +41,10 @@ with-phase thread phase =
     with-activity thread
     (record { kept = thread .kept; saved = thread .saved; ticks = thread .ticks; object = thread .object; operation = thread .operation; phase = phase })
 
+abbrev pub with-ticks : ThreadRecord → ℕ → ThreadRecord
+with-ticks thread ticks =
+    record { kept = thread .kept; saved = thread .saved; ticks = ticks; object = thread .object; next = thread .next; operation = thread .operation; phase = thread .phase }
+
 abbrev pub with-next : ThreadRecord → ℕ → ThreadRecord
 with-next thread next =
     record { kept = thread .kept; saved = thread .saved; ticks = thread .ticks; object = thread .object; next = next; operation = thread .operation; phase = thread .phase }

@@ -4,13 +4,13 @@ use crate::ending::take_end;
 use crate::turn::take_line;
 use lock_engine::Turn;
 use lock_engine::turn_with;
-use lock_engine::work_done;
-use lock_engine::work_stays;
 use lock_gate::event_object;
 use lock_gate::event_thread;
 use lock_table::Table;
 use lock_table::object_place;
 use lock_table::thread_place;
+use lock_work::work_done;
+use lock_work::work_stays;
 ghost use mathlib.Core.Path.{_≡_};
 ghost use mathlib.Core.Bool.{true, false};
 ghost use Prim.Native.Nat.{_≤_, _<_};
@@ -138,7 +138,7 @@ fn take_lines(start: Session, input: &[u8], out: &mut [u8]) -> Progress
             table.objects[home] = objectafter;
             continue;
         }
-        table = work_done(table, thread, number, turn).table;
+        table = work_done(table, thread, number, after, objectafter, work).table;
     }
     progressed(stage, table, input.len() - rest.len(), wrote)
 }

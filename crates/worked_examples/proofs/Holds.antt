@@ -5,8 +5,8 @@ use Rattle.lock_word.specs.Meaning.{owned-by}
 use Rattle.laws.specs.Sequence.{tabulate}
 use Rattle.lock_table.specs.Access.{thread-at, set-thread, object-at, set-object}
 use Rattle.lock_table.specs.Chain.{hang, moved-phase}
-use Rattle.lock_clock.specs.Waiters.{runs-out, waiter-after, last-behind, passed, part-waiters}
-use Rattle.lock_clock.specs.Tick.{hand-if-free, tick-object}
+use Rattle.lock_work.specs.Waiters.{runs-out, waiter-after, last-behind, passed, part-waiters}
+use Rattle.lock_work.specs.Tick.{hand-if-free, tick-object}
 use Rattle.event_bytes.specs.Encoding.{event-from, limit-from}
 use Rattle.lock_rules.specs.Limits.{one-less, no-ticks, run-out}
 use Rattle.lock_table.specs.{Fresh.first-word, Fresh.fresh-of, Fresh.fresh-object, Operation.operation-number, Phase.phase-number, Parked.chain-named}

@@ -19,7 +19,7 @@ use Rattle.lock_table.specs.declared.phase.Phase.the-variants.{Waiting, Queued}
 use Rattle.lock_table.specs.declared.phase.Onward.the-variants.{ToResume}
 use Rattle.lock_table.specs.declared.record.{ThreadRecord.ThreadRecord, Table.Table}
 use Rattle.sound_records.specs.Records.{ticks-fit}
-use Rattle.lock_clock.specs.Tick.{tick-object}
+use Rattle.lock_work.specs.Tick.{tick-object}
 use Rattle.event_bytes.specs.Encoding.{event-at}
 
 -- a thread that gave up object 1 at depth 1, with so many ticks left and a thread behind it in its chain

@@ -1,2 +1,0 @@
--- The laws behind the code of the tick.
-pub mod InPlace

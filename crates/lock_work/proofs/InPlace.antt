@@ -1,0 +1,179 @@
+-- One turn of the walk along the waiters, and its end, for the loop of the code, which reads and writes records where they are in their array.
+use Prim.Native.Nat.{ℕ, zero, suc, _+_, _-_, _<_}
+use mathlib.Core.Logic.{_≢_}
+use mathlib.Core.Path.{_≡_, refl, sym, ap, _∙_}
+use mathlib.Core.Bool.{Bool, true, false}
+use native.Mathlib.Nat.{not-suc-le-zero}
+use native.Mathlib.Numerals.{add-one, sub-one}
+use native.Mathlib.Omega.{arith}
+use lib.Dec.{eqb, ltb}
+use lib.ListN.{getD, set}
+use lib.Seq.{set-getD}
+use borrow.Author.Tests.{eq-eqb, ne-eqb, ltb-false}
+use Rattle.laws.specs.Choice.{pick, within}
+use Rattle.laws.proofs.Choice.{split, both-second}
+use Rattle.lock_table.specs.Limits.{thread-limit, object-limit}
+use Rattle.lock_table.specs.Record.{no-thread, no-object, with-next, with-monitor}
+use Rattle.lock_table.specs.Access.{thread-at, set-thread, object-at, set-object, next-of}
+use Rattle.lock_table.specs.Chain.{hang, handed-of}
+use Rattle.lock_table.specs.Monitor.{hand-of}
+use Rattle.lock_table.specs.Place.{place-within, thread-place}
+use Rattle.lock_table.specs.declared.record.{ThreadRecord.ThreadRecord, ObjectRecord.ObjectRecord, Monitor.Monitor, Table.Table}
+use Rattle.lock_table.proofs.Records.{thread-in, set-thread-in, object-in, set-object-in}
+use Rattle.lock_perform.specs.Moving.{if-record, goes-on}
+use Rattle.lock_perform.proofs.InPlace.{with-threads, read-in-place, set-by-in-place, passes-some, passes-inside, passes-more}
+use Rattle.lock_work.specs.Waiters.{PartedWaiters, ticks-after, runs-out, waiter-after, no-parting, last-behind, passed, part-waiters, linked-to}
+use Rattle.lock_work.specs.Tick.{Monitored, moved-monitor, hand-over, hand-if-free, next-holder, handed-if-free, tick-waited, tick-object, tick-to}
+use Rattle.lock_work.specs.declared.waiters.Parting.{Parting}
+use Rattle.lock_work.specs.declared.ticking.Handing.{Handing}
+
+part-step : {left : ℕ} → 0 < left → (t : Table) (parting : Parting) (at : ℕ) → within 1 thread-limit at ≡ true
+    → let waiter = thread-at t at in
+    let ticks = ticks-after (waiter .ticks) in
+    let goes = runs-out (waiter .operation) ticks in
+    let last = last-behind parting goes in
+    let alone = set-thread t at (waiter-after waiter ticks goes) in
+    part-waiters left t parting at
+    ≡ part-waiters (left - 1) (set-thread alone last (with-next (thread-at alone last) at)) (passed parting goes at) (waiter .next)
+unfolding part-waiters
+part-step {left = zero} h t parting at inside = absurd (not-suc-le-zero h)
+part-step {left = suc left} h t parting at inside = let one : suc left - 1 ≡ left = omega arith in rw (inside, one) refl
+
+-- what the code's locals are after one turn
+pub part-passes : (at left : ℕ) → goes-on at left ≡ true → (t : Table) (parting : Parting)
+    → let waiter = getD (t .threads) (at - 1) no-thread in
+    let ticks = ticks-after (waiter .ticks) in
+    let goes = runs-out (waiter .operation) ticks in
+    let last = last-behind parting goes in
+    let alone = with-threads t (set (t .threads) (at - 1) (waiter-after waiter ticks goes)) in
+    part-waiters left t parting at
+    ≡ part-waiters (left - 1)
+    (with-threads alone (set (alone .threads) (thread-place last) (linked-to last (getD (alone .threads) (thread-place last) no-thread) at)))
+    (passed parting goes at) (waiter .next)
+part-passes at left test t parting =
+    let some = passes-some at left test in
+    let high = passes-inside at left test in
+    let read = thread-in t at (λ none. omega (arith, none, some)) high in
+    let waiter = getD (t .threads) (at - 1) no-thread in
+    let ticks = ticks-after (waiter .ticks) in
+    let goes = runs-out (waiter .operation) ticks in
+    let last = last-behind parting goes in
+    let alone = with-threads t (set (t .threads) (at - 1) (waiter-after waiter ticks goes)) in
+    part-step (passes-more at left test) t parting at (both-second (ltb 0 left) _ test)
+    ∙ (ap
+    (λ (own : ThreadRecord).
+    let ticks = ticks-after (own .ticks) in
+    let goes = runs-out (own .operation) ticks in
+    let last = last-behind parting goes in
+    let alone = set-thread t at (waiter-after own ticks goes) in
+    part-waiters (left - 1) (set-thread alone last (with-next (thread-at alone last) at)) (passed parting goes at) (own .next)) read
+    ∙ (ap
+    (λ (alone : Table). part-waiters (left - 1) (set-thread alone last (with-next (thread-at alone last) at)) (passed parting goes at) (waiter .next))
+    (set-thread-in t at (waiter-after waiter ticks goes) (λ none. omega (arith, none, some)) high)
+    ∙ ap (λ (linked : Table). part-waiters (left - 1) linked (passed parting goes at) (waiter .next)) (sym (set-by-in-place alone last (λ there. with-next there at)))))
+
+pub part-stops : (at left : ℕ) → goes-on at left ≡ false → (t : Table) (parting : Parting) → part-waiters left t parting at ≡ record { table = t; parting = parting }
+unfolding part-waiters
+part-stops at left test t parting = by left test
+  where
+    by : (left : ℕ) → goes-on at left ≡ false → part-waiters left t parting at ≡ record { table = t; parting = parting }
+    by zero test = refl
+    by (suc left) test =
+        split (ltb 0 (suc left)) (λ more. rw (rw more at test) refl) (λ none. absurd (not-suc-le-zero (ltb-false 0 (suc left) none)))
+
+-- a monitor that nobody holds is handed to the first of the entry chain; one that somebody holds leaves every record
+pub handed-in-place : (t : Table) (monitor : Monitor)
+    → let place = thread-place (next-holder monitor) in
+    let handing = handed-if-free monitor (getD (t .threads) place no-thread) in
+    _≡_ {A = Monitored} (record { table = with-threads t (set (t .threads) place (handing .thread)); monitor = handing .monitor }) (hand-if-free t monitor)
+unfolding hand-if-free next-holder
+handed-in-place t monitor = at (eqb (monitor .holder) 0)
+  where
+    at : (free : Bool)
+        → let first = pick free (monitor .entry) 0 in
+        let there = getD (t .threads) (thread-place first) no-thread in
+        _≡_ {A = Monitored}
+        (record {
+          table = with-threads t (set (t .threads) (thread-place first) (if-record first (handed-of there) there));
+          monitor = pick free (hand-of monitor (if-record first there no-thread .next) .monitor) monitor;
+        })
+        (pick free (hand-over t monitor) (record { table = t; monitor = monitor }))
+    at true =
+        let first = monitor .entry in
+        λ j. record {
+          table = set-by-in-place t first handed-of j;
+          monitor = hand-of monitor (read-in-place t first j .next) .monitor;
+        }
+    at false = unfold place-within if-record in ap (λ (table : Table). record { table = table; monitor = monitor }) (ap (with-threads t) (set-getD (t .threads) 0 no-thread))
+
+-- an object on which somebody waits: what the code's locals are when its waiters are parted, the entry chain is hung together and the monitor is handed
+module _ (t : Table) (done : ℕ) (small : done < object-limit) where
+  abbrev number : ℕ
+  number = done + 1
+
+  abbrev after-hand : Monitored → ObjectRecord → Table
+  after-hand after object =
+      record {
+        threadcount = after .table .threadcount;
+        objectcount = after .table .objectcount;
+        threads = after .table .threads;
+        objects = set (after .table .objects) done (with-monitor object (after .monitor));
+      }
+
+  abbrev hung-behind : PartedWaiters → ObjectRecord → Table
+  hung-behind parted object = hang thread-limit (parted .table) (object .monitor .entry) (parted .parting .taken .first)
+
+  read-here : object-at t number ≡ getD (t .objects) done no-object
+  read-here =
+      let place : number - 1 ≡ done = omega arith in
+      object-in t number (λ none. omega (arith, none)) (omega (arith, small)) ∙ ap (λ (n : ℕ). getD (t .objects) n no-object) place
+
+  written-here : (after : Monitored) (object : ObjectRecord)
+      → set-object (after .table) number (with-monitor object (after .monitor)) ≡ after-hand after object
+  written-here after object =
+      let place : number - 1 ≡ done = omega arith in
+      set-object-in (after .table) number (with-monitor object (after .monitor)) (λ none. omega (arith, none)) (omega (arith, small))
+      ∙ ap
+      (λ (n : ℕ). record {
+        threadcount = after .table .threadcount;
+        objectcount = after .table .objectcount;
+        threads = after .table .threads;
+        objects = set (after .table .objects) n (with-monitor object (after .monitor));
+      })
+      place
+
+  by-definition : (object : ObjectRecord) → object ≡ object-at t number → (parted : PartedWaiters)
+      → parted ≡ part-waiters thread-limit t no-parting (object .monitor .waiting)
+      → after-hand (hand-if-free (hung-behind parted object) (moved-monitor (object .monitor) (parted .parting))) object ≡ tick-waited t number
+  by-definition object is parted parted-is =
+      sym (written-here (hand-if-free (hung-behind parted object) (moved-monitor (object .monitor) (parted .parting))) object) ∙ rw (parted-is, is) refl
+
+  pub waited-in-place : {object : ObjectRecord} {parted : PartedWaiters} {hung : Table} {monitor : Monitor} {place : ℕ} {handing : Handing} {written : ObjectRecord}
+      → object ≡ getD (t .objects) done no-object → parted ≡ part-waiters thread-limit t no-parting (object .monitor .waiting) → hung ≡ hung-behind parted object
+      → monitor ≡ moved-monitor (object .monitor) (parted .parting) → place ≡ thread-place (next-holder monitor)
+      → handing ≡ handed-if-free monitor (getD (hung .threads) place no-thread) → written ≡ with-monitor object (handing .monitor)
+      → record { threadcount = hung .threadcount; objectcount = hung .objectcount; threads = set (hung .threads) place (handing .thread); objects = set (hung .objects) done written }
+      ≡ tick-waited t number
+  waited-in-place {object} {parted} {hung} is parted-is hung-is monitor-is place-is handing-is written-is =
+      rw (written-is, handing-is, place-is, monitor-is, hung-is)
+      (ap (λ (after : Monitored). after-hand after object) (handed-in-place (hung-behind parted object) (moved-monitor (object .monitor) (parted .parting)))
+      ∙ by-definition object (is ∙ sym read-here) parted parted-is)
+
+-- the next object, on which nobody waits, and one on which somebody does
+pub tick-skips : (t : Table) (done : ℕ) → done < object-limit → getD (tick-to done t .objects) done no-object .monitor .waiting ≡ 0
+    → tick-to done t ≡ tick-to (done + 1) t
+unfolding tick-to tick-object
+tick-skips t done small none =
+    let read = object-in (tick-to done t) (suc done) (λ e. omega (arith, e)) (omega (arith, small)) in
+    let waiting : object-at (tick-to done t) (suc done) .monitor .waiting ≡ 0 =
+    ap (λ (object : ObjectRecord). object .monitor .waiting) read ∙ (rw sub-one none) in
+    rw (add-one done, eq-eqb _ 0 waiting) refl
+
+pub tick-takes : (t : Table) (done : ℕ) → done < object-limit → getD (tick-to done t .objects) done no-object .monitor .waiting ≢ 0
+    → tick-waited (tick-to done t) (done + 1) ≡ tick-to (done + 1) t
+unfolding tick-to tick-object
+tick-takes t done small some =
+    let read = object-in (tick-to done t) (suc done) (λ e. omega (arith, e)) (omega (arith, small)) in
+    let waiting : object-at (tick-to done t) (suc done) .monitor .waiting ≢ 0 =
+    λ none. some (sym (ap (λ (object : ObjectRecord). object .monitor .waiting) (rw sub-one at read)) ∙ none) in
+    rw (add-one done, ne-eqb _ 0 waiting) refl

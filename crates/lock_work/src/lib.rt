@@ -1,0 +1,13 @@
+// What an event leaves to be done to the table besides its two records: a rule's work on the chains of its object (document 01, "Steps"), or a tick of
+// the clock (document 02, L1), at which timed waits lose one tick each and those that run out move to the entry chain.
+mod settling;
+mod ticking;
+mod waiters;
+
+pub use settling::Work;
+pub use settling::WorkDone;
+pub use settling::work_done;
+pub use settling::work_stays;
+pub use ticking::Handing;
+pub use ticking::tick;
+pub use waiters::Parting;

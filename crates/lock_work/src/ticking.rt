@@ -1,0 +1,117 @@
+// A tick at each object: the waiters that run out join the entry chain, and a monitor that nobody holds is handed.
+use crate::waiters::Parting;
+use crate::waiters::last_behind;
+use crate::waiters::linked_to;
+use crate::waiters::no_parting;
+use crate::waiters::passed;
+use crate::waiters::runs_out;
+use crate::waiters::waiter_after;
+use chains::Chain;
+use lock_perform::goes_on;
+use lock_perform::hung;
+use lock_perform::if_record;
+use lock_table::Monitor;
+use lock_table::OBJECTS;
+use lock_table::THREADS;
+use lock_table::Table;
+use lock_table::ThreadRecord;
+use lock_table::handed;
+use lock_table::no_thread;
+use lock_table::thread_place;
+ghost use mathlib.Core.Path.{_≡_};
+ghost use Rattle.lock_work.specs.Tick.{moved-monitor, next-holder, handed-if-free, tick};
+
+// A monitor that was handed where nobody held it, and the record at the place of whom it went to.
+pub struct Handing {
+    pub thread: ThreadRecord,
+    pub monitor: Monitor,
+}
+
+// Those that ran out join the entry chain; the waiting chain is left to the others.
+fn moved_monitor(monitor: Monitor, parting: Parting) -> Monitor
+    ensures { λ r. ⌜ r ≡ moved-monitor monitor parting ⌝ }
+{
+    let left = parting.left;
+    let taken = parting.taken;
+    monitor
+        .with_first(Chain::Waiting, left.first)
+        .join(Chain::Entry, taken.first)
+}
+
+// Whom a monitor is handed to: the first of its entry chain where nobody holds it, else nobody.
+fn next_holder(monitor: Monitor) -> u8
+    ensures { λ r. ⌜ r ≡ next-holder monitor ⌝ }
+{
+    if monitor.holder == 0 {
+        return monitor.entry;
+    }
+    0
+}
+
+fn handed_if_free(monitor: Monitor, there: ThreadRecord) -> Handing
+    ensures { λ r. ⌜ r ≡ handed-if-free monitor there ⌝ }
+{
+    let first = next_holder(monitor);
+    let thread = if_record(first, handed(there), there);
+    if monitor.holder == 0 {
+        let before = if_record(first, there, no_thread());
+        let after = monitor.hand(before.next);
+        let handed = after.monitor;
+        return Handing {
+            thread: thread,
+            monitor: handed,
+        };
+    }
+    Handing {
+        thread: thread,
+        monitor: monitor,
+    }
+}
+
+// All objects, rising. Where nobody waits nobody moves, and a monitor that nobody holds has nobody to be handed to. The table stands in this function
+// alone: the waiters are parted, those that go are hung behind the entry chain, and its first is handed the monitor.
+pub fn tick(table: Table) -> Table
+    ensures { λ r. ⌜ r ≡ tick table ⌝ }
+{
+    let mut changed = table;
+    let mut done: u8 = 0;
+    while done < OBJECTS {
+        let home = done as usize;
+        let object = changed.objects[home];
+        done = done + 1;
+        if object.monitor.waiting != 0 {
+            let mut parting = no_parting();
+            let mut at = object.monitor.waiting;
+            let mut left = THREADS;
+            while goes_on(at, left) {
+                let spot = (at as usize) - 1;
+                let waiter = changed.threads[spot];
+                let goes = runs_out(waiter);
+                changed.threads[spot] = waiter_after(waiter, goes);
+                let last = last_behind(parting, goes);
+                let place = thread_place(last);
+                changed.threads[place] = linked_to(last, changed.threads[place], at);
+                parting = passed(parting, goes, at);
+                at = waiter.next;
+                left = left - 1;
+            }
+            at = object.monitor.entry;
+            left = THREADS;
+            while goes_on(at, left) {
+                let spot = (at as usize) - 1;
+                let queued = changed.threads[spot];
+                changed.threads[spot] = hung(queued, parting.taken.first);
+                at = queued.next;
+                left = left - 1;
+            }
+            let monitor = moved_monitor(object.monitor, parting);
+            let place = thread_place(next_holder(monitor));
+            let handing = handed_if_free(monitor, changed.threads[place]);
+            let thread = handing.thread;
+            changed.threads[place] = thread;
+            let handed = handing.monitor;
+            changed.objects[home] = object.with_monitor(handed);
+        }
+    }
+    changed
+}
