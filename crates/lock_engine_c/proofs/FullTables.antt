@@ -10,13 +10,14 @@ use Rattle.lock_table.specs.Limits.{thread-limit, object-limit}
 use Rattle.lock_table.specs.declared.record.Table.{Table}
 use Rattle.lock_engine.specs.Handle.{handle}
 use Rattle.lock_engine.proofs.Full.{Full, full-handle}
-use Rattle.table_bytes.specs.Reading.{is-table, table-of, thread-from, object-from}
+use Rattle.table_bytes.specs.Reading.{enough, is-table, table-of, thread-from, object-from}
 use Rattle.table_bytes.proofs.ReadBack.{bytes-table, read-back}
 use Rattle.lock_engine_c.specs.Calls.{event-bytes}
 
 -- what bytes say is full
 pub read-full : (bytes : List ℕ) → Full (table-of bytes)
-read-full bytes = record { threads = tabulate-length thread-limit (thread-from bytes); objects = tabulate-length object-limit (object-from bytes) }
+read-full bytes =
+    record { threads = tabulate-length thread-limit (thread-from (enough bytes)); objects = tabulate-length object-limit (object-from (enough bytes)) }
 
 -- the bytes after an event on a table: a table, which is that of the engine
 pub record ReadsAs (bytes : List ℕ) (table : Table) : Type 0 where

@@ -8,14 +8,14 @@ use native.Mathlib.Omega.{arith}
 use lib.Dec.{eqb, ltb}
 use Rattle.laws.specs.Choice.{either}
 use Rattle.laws.proofs.Choice.{split, by-test, false≢true}
-use Rattle.laws.proofs.Sequence.{tabulate-length, tabulate-every}
+use Rattle.laws.proofs.Sequence.{tabulate-every}
 use Rattle.lock_rules.specs.Numbers.{refusal-number}
 use Rattle.lock_rules.specs.Gate.{gate, event-thread}
 use Rattle.lock_rules.specs.declared.event.{Event.Event, Gate.Gate, Refusal.Refusal}
 use Rattle.lock_rules.specs.declared.event.Event.the-variants.{Begin, Step, Tick}
 use Rattle.lock_rules.specs.declared.event.Gate.the-variants.{Open, Shut}
 use Rattle.lock_rules.specs.declared.Answer.the-variants.{GoneOn, Finished, Parked, NotOwner, TooDeep, NoRule}
-use Rattle.lock_table.specs.Limits.{thread-limit, object-limit}
+use Rattle.lock_table.specs.Limits.{object-limit}
 use Rattle.lock_word.specs.Depth.{depth-limit}
 use Rattle.lock_table.specs.Record.{no-object, idle}
 use Rattle.lock_table.specs.Access.{thread-at, object-at, set-thread}
@@ -36,10 +36,11 @@ use Rattle.lock_engine.specs.declared.outcome.Reply.the-variants.{Accepted, Ref
 use Rattle.lock_refusals.specs.Demand.{returned, left-by}
 use Rattle.lock_refusals.proofs.Theorem.{demand-one}
 use Rattle.table_bytes.specs.Layout.{object-start}
-use Rattle.table_bytes.specs.Reading.{AreBytes, thread-from, object-from, table-of, is-table}
+use Rattle.table_bytes.specs.Reading.{AreBytes, object-from, enough, table-of, is-table}
 use Rattle.table_bytes.specs.Writing.{bytes-of, write-thread}
 use Rattle.table_bytes.proofs.Written.{kept-is, table-long}
 use Rattle.table_bytes.proofs.SameBytes.{bytes-back}
+use Rattle.table_bytes.proofs.Enough.{enough-bytes}
 use Rattle.table_bytes.proofs.SetRecords.{thread-written, object-written}
 use Rattle.lock_engine_c.proofs.FullTables.{read-full}
 use Rattle.lock_engine_c.specs.Calls.{packed-of, returned-in, outcome-answer, event-answer, event-bytes, left-bytes, RefusedLeaves, begun-on, ticked-on}
@@ -80,16 +81,18 @@ DepthFits object = object .monitor .depth ≤ depth-limit
 pub read-well-typed : (bytes : List ℕ) → AreBytes bytes → WellTyped (table-of bytes)
 unfolding object-at
 read-well-typed bytes small =
-    let depth : (place : ℕ) → DepthFits (object-from bytes place) = λ place.
-    let low = small (object-start place + 6) in
-    let high = small (object-start place + 7) in omega (arith, low, high) in
+    let said = enough bytes in
+    let fits = enough-bytes bytes small in
+    let depth : (place : ℕ) → DepthFits (object-from said place) = λ place.
+    let low = fits (object-start place + 6) in
+    let high = fits (object-start place + 7) in omega (arith, low, high) in
     record {
-      threads = tabulate-length thread-limit (thread-from bytes);
-      objects = tabulate-length object-limit (object-from bytes);
+      threads = read-full bytes .threads;
+      objects = read-full bytes .objects;
       depths = λ o.
           by-test DepthFits (eqb o 0) (λ none. omega arith)
           (λ some. by-test DepthFits (ltb object-limit o) (λ past. omega arith)
-          (λ inside. tabulate-every object-limit (object-from bytes) DepthFits depth no-object (omega arith) (o - 1)));
+          (λ inside. tabulate-every object-limit (object-from said) DepthFits depth no-object (omega arith) (o - 1)));
     }
 
 -- a reply that goes with no change is a refusal, and not 18 or 19; every number fits a byte

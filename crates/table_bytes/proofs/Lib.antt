@@ -4,6 +4,7 @@ pub mod Parts
 pub mod Written
 pub mod ThreadBytes
 pub mod ObjectBytes
+pub mod Enough
 pub mod ReadBack
 pub mod SameBytes
 pub mod SetRecords

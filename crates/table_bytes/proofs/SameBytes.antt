@@ -3,6 +3,7 @@ use Prim.Native.Nat.{ℕ, _+_, _*_}
 use mathlib.Core.Path.{_≡_, refl, ap, sym, _∙_}
 use mathlib.Core.Bool.{Bool, true}
 use mathlib.Core.List.{List, [], _∷_, _++_}
+use native.Mathlib.Omega.{arith}
 use lib.Dec.{eqb}
 use lib.ListN.{length}
 use Rattle.laws.specs.{Choice.both, Every.all-below, Sequence.tabulate}
@@ -13,9 +14,9 @@ use Rattle.lock_table.specs.Record.{no-thread, no-object}
 use Rattle.table_bytes.specs.ThreadBytes.{thread-layout, thread-of, thread-known}
 use Rattle.table_bytes.specs.ObjectBytes.{object-layout, object-of, object-known}
 use Rattle.table_bytes.specs.Layout.{thread-size, object-size, threads-start, objects-start, table-size}
-use Rattle.table_bytes.specs.Reading.{AreBytes, byte-at, thread-numbers, object-numbers, table-of, is-table}
+use Rattle.table_bytes.specs.Reading.{AreBytes, byte-at, thread-numbers, object-numbers, table-said, table-of, is-table}
 use Rattle.table_bytes.specs.Writing.{bytes-of}
-use Rattle.table_bytes.proofs.{Rows.tabulate-more, Parts.area-same, ThreadBytes.thread-same, ObjectBytes.object-same, Written.table-long}
+use Rattle.table_bytes.proofs.{Rows.tabulate-more, Parts.area-same, ThreadBytes.thread-same, ObjectBytes.object-same, Written.table-long, Enough.enough-is}
 
 run-of-two : (f : ℕ → ℕ) → f 0 ∷ f 1 ∷ [] ≡ tabulate 2 f
 unfolding tabulate
@@ -34,7 +35,8 @@ module _ (bytes : List ℕ) (small : AreBytes bytes) (known : is-table bytes ≡
 
   pub bytes-back : bytes-of (table-of bytes) ≡ bytes
   bytes-back =
-      rw (
+      ap (λ (b : List ℕ). bytes-of (table-said b)) (enough-is bytes (omega (arith, table-long bytes known)))
+      ∙ rw (
         area-same thread-layout no-thread thread-of thread-known thread-same thread-limit threads-start bytes small (both-first all-threads all-objects records-known),
         area-same object-layout no-object object-of object-known object-same object-limit objects-start bytes small (both-second all-threads all-objects records-known),
       )

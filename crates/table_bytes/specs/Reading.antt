@@ -1,10 +1,10 @@
 -- What bytes say of a table, and whether they are one.
 use Prim.Native.Nat.{ℕ, _+_, _<_}
 use mathlib.Core.Bool.{Bool}
-use mathlib.Core.List.{List}
-use lib.Dec.{eqb}
+use mathlib.Core.List.{List, []}
+use lib.Dec.{eqb, ltb}
 use lib.ListN.{length, getD}
-use Rattle.laws.specs.Choice.{both}
+use Rattle.laws.specs.Choice.{pick, both}
 use Rattle.laws.specs.Every.{all-below}
 use Rattle.laws.specs.Sequence.{tabulate}
 use Rattle.lock_table.specs.Limits.{thread-limit, object-limit}
@@ -37,14 +37,22 @@ thread-from bytes place = thread-of (thread-numbers bytes place)
 abbrev pub object-from : List ℕ → ℕ → ObjectRecord
 object-from bytes place = object-of (object-numbers bytes place)
 
--- the table that the bytes say
-abbrev pub table-of : List ℕ → Table
-table-of bytes = record {
+-- the table that enough bytes say
+abbrev pub table-said : List ℕ → Table
+table-said bytes = record {
   threadcount = byte-at bytes threadcount-at;
   objectcount = byte-at bytes objectcount-at;
   threads = tabulate thread-limit (thread-from bytes);
   objects = tabulate object-limit (object-from bytes);
 }
+
+-- bytes that are too few for a table are as none
+unfoldable pub enough : List ℕ → List ℕ
+enough bytes = pick (ltb (length bytes) table-size) [] bytes
+
+-- the table that the bytes say; too few say the empty table (proofs/Enough.antt)
+abbrev pub table-of : List ℕ → Table
+table-of bytes = table-said (enough bytes)
 
 -- the bytes are a table: as many as it has, and each operation, phase, carried phase and flag one that there is
 unfoldable pub is-table : List ℕ → Bool

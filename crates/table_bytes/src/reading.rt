@@ -1,5 +1,4 @@
-// A table read from its bytes, and whether bytes are a table.
-use crate::copying::put;
+// A table read from its bytes, whole or one record of it, and whether bytes are a table.
 use crate::layout::OBJECTCOUNT_AT;
 use crate::layout::OBJECTS_START;
 use crate::layout::TABLE_SIZE;
@@ -11,7 +10,9 @@ use crate::object_bytes::object_of;
 use crate::thread_bytes::THREAD_SIZE;
 use crate::thread_bytes::thread_known;
 use crate::thread_bytes::thread_of;
+use lock_table::OBJECTS;
 use lock_table::ObjectRecord;
+use lock_table::THREADS;
 use lock_table::Table;
 use lock_table::ThreadRecord;
 use lock_table::no_object;
@@ -20,8 +21,8 @@ ghost use mathlib.Core.Path.{_≡_};
 ghost use Prim.Native.Nat.{_≤_, _<_};
 ghost use lib.ListN.{length};
 ghost use Rattle.lock_table.specs.Limits.{thread-limit, object-limit};
+ghost use Rattle.lock_table.specs.Access.{thread-at, object-at};
 ghost use Rattle.laws.specs.Every.{all-below};
-ghost use Rattle.laws.specs.Sequence.{tabulate};
 ghost use Rattle.table_bytes.specs.ThreadBytes.{thread-known};
 ghost use Rattle.table_bytes.specs.ObjectBytes.{object-known};
 ghost use Rattle.table_bytes.specs.Layout.{table-size};
@@ -43,54 +44,65 @@ fn object_from(bytes: &[u8], place: usize) -> ObjectRecord
     object_of(&bytes[at..])
 }
 
-fn threads_from(bytes: &[u8]) -> [ThreadRecord; 32]
-    requires { ⌜ table-size ≤ length (now bytes) ⌝ }
-    ensures { λ r. ⌜ r ≡ tabulate thread-limit (thread-from (now (bytes .entry))) ⌝ }
-{
-    let mut threads = [no_thread(); 32];
-    let mut place: usize = 0;
-    while place < 32 {
-        threads[place] = thread_from(bytes, place);
-        place = place + 1;
-    }
-    threads
-}
-
-fn objects_from(bytes: &[u8]) -> [ObjectRecord; 64]
-    requires { ⌜ table-size ≤ length (now bytes) ⌝ }
-    ensures { λ r. ⌜ r ≡ tabulate object-limit (object-from (now (bytes .entry))) ⌝ }
-{
-    let mut objects = [no_object(); 64];
-    let mut place: usize = 0;
-    while place < 64 {
-        objects[place] = object_from(bytes, place);
-        place = place + 1;
-    }
-    objects
-}
-
-fn table_from(bytes: &[u8]) -> Table
-    requires { ⌜ table-size ≤ length (now bytes) ⌝ }
-    ensures { λ r. ⌜ r ≡ table-of (now (bytes .entry)) ⌝ }
-{
-    Table {
-        threadcount: bytes[THREADCOUNT_AT],
-        objectcount: bytes[OBJECTCOUNT_AT],
-        threads: threads_from(bytes),
-        objects: objects_from(bytes),
-    }
-}
-
-// The table that the bytes say; past their end there are zeros.
+// The table that the bytes say; too few say the empty table. It is filled where it lies: each array or table in a local of its own would be as much
+// stack again.
 pub fn read_table(bytes: &[u8]) -> Table
     ensures { λ r. ⌜ r ≡ table-of (now (bytes .entry)) ⌝ }
 {
-    if TABLE_SIZE <= bytes.len() {
-        return table_from(bytes);
+    let mut table = Table {
+        threadcount: 0,
+        objectcount: 0,
+        threads: [no_thread(); 32],
+        objects: [no_object(); 64],
+    };
+    if bytes.len() < TABLE_SIZE {
+        return table;
     }
-    let mut longer = [0u8; TABLE_SIZE];
-    put(&mut longer, 0, bytes);
-    table_from(&longer)
+    table.threadcount = bytes[THREADCOUNT_AT];
+    table.objectcount = bytes[OBJECTCOUNT_AT];
+    let mut thread: usize = 0;
+    while thread < 32 {
+        table.threads[thread] = thread_from(bytes, thread);
+        thread = thread + 1;
+    }
+    let mut object: usize = 0;
+    while object < 64 {
+        table.objects[object] = object_from(bytes, object);
+        object = object + 1;
+    }
+    table
+}
+
+// One thread's record of the table that the bytes say.
+pub fn read_thread(bytes: &[u8], number: u8) -> ThreadRecord
+    ensures { λ r. ⌜ r ≡ thread-at (table-of (now (bytes .entry))) number ⌝ }
+{
+    if bytes.len() < TABLE_SIZE {
+        return no_thread();
+    }
+    if number == 0 {
+        return no_thread();
+    }
+    if THREADS < number {
+        return no_thread();
+    }
+    thread_from(bytes, (number as usize) - 1)
+}
+
+// One object's record of the table that the bytes say.
+pub fn read_object(bytes: &[u8], number: u8) -> ObjectRecord
+    ensures { λ r. ⌜ r ≡ object-at (table-of (now (bytes .entry))) number ⌝ }
+{
+    if bytes.len() < TABLE_SIZE {
+        return no_object();
+    }
+    if number == 0 {
+        return no_object();
+    }
+    if OBJECTS < number {
+        return no_object();
+    }
+    object_from(bytes, (number as usize) - 1)
 }
 
 fn threads_known(bytes: &[u8]) -> bool

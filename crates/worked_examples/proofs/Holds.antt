@@ -13,6 +13,7 @@ use Rattle.lock_table.specs.{Fresh.first-word, Fresh.fresh-of, Fresh.fresh-obje
 use Rattle.lock_perform.specs.Moving.{thread-set}
 use Rattle.sound_records.specs.Records.{names-chain, unused-fits, saves-depth, ticks-fit}
 use Rattle.lock_rules.specs.Rules.{exit-tell}
+use Rattle.table_bytes.specs.Reading.{enough}
 use Rattle.replay_lines.specs.Number.{is-digit, read-digits, read-number, read-field}
 use Rattle.replay_lines.specs.Grammar.{end-line, read-step, read-begin-limit, read-begin-object, read-begin, operation-of, read-line}
 use Rattle.replay_text.specs.Digits.{digit-byte, digits}
@@ -35,7 +36,7 @@ word-examples =
     }
 
 pub record-examples : RecordExamples
-unfolding tabulate object-at fresh-of fresh-object first-word operation-number phase-number chain-named names-chain unused-fits saves-depth thread-set
+unfolding tabulate object-at fresh-of fresh-object first-word operation-number phase-number chain-named names-chain unused-fits saves-depth thread-set enough
 record-examples =
     record {
       free = refl;

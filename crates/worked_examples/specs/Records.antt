@@ -1,9 +1,8 @@
 -- Examples of records: the words of a fresh table, what soundness asks of a thread's record, a monitor that is handed on, and a field in bytes.
 use mathlib.Core.Path.{_≡_}
 use mathlib.Core.Bool.{Bool, true, false}
-use mathlib.Core.List.{[], _∷_, _++_}
 use Prim.Native.Nat.{ℕ, _+_}
-use lib.ListN.{replicate}
+use lib.ListN.{replicate, set}
 use Rattle.chains.specs.declared.named.Chain.{Chain}
 use Rattle.lock_table.specs.Record.{no-thread, with-activity, with-next}
 use Rattle.lock_table.specs.Access.{object-at}
@@ -17,7 +16,7 @@ use Rattle.lock_table.specs.declared.record.ThreadRecord.{ThreadRecord}
 use Rattle.lock_table.specs.declared.record.Monitor.{Monitor}
 use Rattle.lock_perform.specs.Moving.{joining, plan-hand}
 use Rattle.sound_records.specs.Records.{names-chain, unused-fits}
-use Rattle.table_bytes.specs.Layout.{objects-start}
+use Rattle.table_bytes.specs.Layout.{objects-start, table-size}
 use Rattle.table_bytes.specs.Reading.{table-of}
 
 -- an enter at object 1 with this kept word and in this phase
@@ -32,9 +31,9 @@ fresh-word reserved = object-at (fresh-of (sized-request 1 1 reserved) .table) 1
 abbrev pub held : Monitor
 held = record { depth = 1; holder = 1; entry = 2; contention = 0; waiting = 0 }
 
--- who holds object 1, by bytes of which the one at this place is 3 and those before it 0
+-- who holds object 1, by as many bytes as a table has, of which the one at this place is 3 and all others 0
 abbrev pub holder-by : ℕ → ℕ
-holder-by place = object-at (table-of (replicate place 0 ++ (3 ∷ []))) 1 .monitor .holder
+holder-by place = object-at (table-of (set (replicate table-size 0) place 3)) 1 .monitor .holder
 
 pub record RecordExamples : Type 0 where
   -- the words of a fresh table: free, and anonymously reserved

@@ -1,56 +1,103 @@
--- `table_bytes::reading::read_table` meets its contract: with zeros behind them, bytes say the same table.
-use Prim.Native.Nat.{ℕ, zero, suc, _+_}
-use mathlib.Core.Path.{_≡_, refl, ap, _∙_}
-use mathlib.Core.List.{List, [], _∷_, _++_}
+-- `table_bytes::reading::read_table` meets its contract: the places passed are read, and in the end there are no others.
+use Prim.Native.Nat.{ℕ, _+_, _-_, _≤_}
+use mathlib.Core.Path.{_≡_, ap, sym, _∙_}
+use mathlib.Core.List.{List}
+use native.Mathlib.Omega.{arith}
 use borrow.Author.Needs.{needs}
-use lib.ListN.{length, drop, replicate}
-use lib.Seq.{getD-drop}
-use Rattle.laws.specs.Sequence.{tabulate}
-use Rattle.lock_table.specs.Limits.{thread-limit, object-limit}
-use Rattle.table_bytes.specs.Rows.{numbers-in, overwritten}
-use Rattle.table_bytes.specs.ThreadBytes.{thread-layout, thread-of}
-use Rattle.table_bytes.specs.ObjectBytes.{object-layout, object-of}
-use Rattle.table_bytes.specs.Layout.{table-size, threadcount-at, objectcount-at, thread-start, object-start}
-use Rattle.table_bytes.specs.Reading.{byte-at, table-of}
+use lib.ListN.{length, set, length-replicate}
+use Rattle.laws.specs.Sequence.{patched}
+use Rattle.laws.proofs.Sequence.{patched-none, patched-next-front, patched-all}
+use Rattle.lock_table.specs.Record.{no-thread, no-object}
+use Rattle.lock_table.specs.declared.record.{ThreadRecord.ThreadRecord, ObjectRecord.ObjectRecord, Table.Table}
+use Rattle.table_bytes.specs.Layout.{threadcount-at, objectcount-at, table-size}
+use Rattle.table_bytes.specs.Reading.{byte-at, thread-from, object-from, table-said, table-of}
+use Rattle.table_bytes.proofs.Enough.{enough-is, empty-table, empty-said}
 use Rattle.table_bytes.proofs.reading.read_table.Statement.{statement}
 use Rattle.table_bytes.proofs.reading.read_table.Tie as tie
 
-abbrev zeros : ℕ → List ℕ
-zeros n = replicate n 0
+module _ (bytes : List ℕ) where
+  abbrev table-with : List ThreadRecord → List ObjectRecord → Table
+  table-with threads objects =
+      record { threadcount = byte-at bytes threadcount-at; objectcount = byte-at bytes objectcount-at; threads = threads; objects = objects }
 
-zero-at : (n i : ℕ) → byte-at (zeros n) i ≡ 0
-zero-at zero i = refl
-zero-at (suc n) zero = refl
-zero-at (suc n) (suc i) = zero-at n i
+  abbrev threads-read : ℕ → List ThreadRecord
+  threads-read n = patched 0 n (thread-from bytes) (empty-table .threads)
 
--- zeros behind bytes read as nothing does
-before-zeros : (bytes rest : List ℕ) → ((i : ℕ) → byte-at rest i ≡ 0) → (i : ℕ) → byte-at (bytes ++ rest) i ≡ byte-at bytes i
-before-zeros [] rest none i = none i
-before-zeros (byte ∷ bytes) rest none zero = refl
-before-zeros (byte ∷ bytes) rest none (suc i) = before-zeros bytes rest none i
+  abbrev objects-read : ℕ → List ObjectRecord
+  objects-read n = patched 0 n (object-from bytes) (empty-table .objects)
 
-module _ (bytes : List ℕ) (n : ℕ) where
-  abbrev longer : List ℕ
-  longer = overwritten 0 bytes (zeros n)
+  -- the table with so many of its records read
+  abbrev read-so-far : ℕ → ℕ → Table
+  read-so-far threads objects = table-with (threads-read threads) (objects-read objects)
 
-  same-byte : (i : ℕ) → byte-at longer i ≡ byte-at bytes i
-  same-byte =
-      before-zeros bytes (drop (0 + length bytes) (zeros n))
-      (λ i. getD-drop (0 + length bytes) (zeros n) i 0 ∙ zero-at n (0 + length bytes + i))
+  none-read : table-with (empty-table .threads) (empty-table .objects) ≡ read-so-far 0 0
+  none-read =
+      λ j. table-with (patched-none 0 (thread-from bytes) (empty-table .threads) j) (patched-none 0 (object-from bytes) (empty-table .objects) j)
 
-  same-table : table-of longer ≡ table-of bytes
-  same-table =
-      λ k. record {
-        threadcount = same-byte threadcount-at k;
-        objectcount = same-byte objectcount-at k;
-        threads = tabulate thread-limit (λ place. thread-of (numbers-in thread-layout (λ i. same-byte (thread-start place + i) k)));
-        objects = tabulate object-limit (λ place. object-of (numbers-in object-layout (λ i. same-byte (object-start place + i) k)));
-      }
+  thread-read : (n : ℕ) → table-with (set (threads-read n) n (thread-from bytes n)) (objects-read 0) ≡ read-so-far (n + 1) 0
+  thread-read n = λ j. table-with (patched-next-front (thread-from bytes) (empty-table .threads) n j) (objects-read 0)
+
+  object-read : (n : ℕ) → table-with (threads-read 32) (set (objects-read n) n (object-from bytes n)) ≡ read-so-far 32 (n + 1)
+  object-read n = λ j. table-with (threads-read 32) (patched-next-front (object-from bytes) (empty-table .objects) n j)
+
+  all-read : table-size ≤ length bytes → read-so-far 32 64 ≡ table-of bytes
+  all-read all =
+      (λ j. table-with (patched-all 32 (thread-from bytes) no-thread (empty-table .threads) (length-replicate 32 no-thread) j)
+      (patched-all 64 (object-from bytes) no-object (empty-table .objects) (length-replicate 64 no-object) j))
+      ∙ sym (ap table-said (enough-is bytes all))
+
+abbrev Inv-loop : tie.InvT-loop
+Inv-loop bytes table₀ thread₀ table thread = (thread ≤ 32) × (table ≡ read-so-far bytes thread 0)
+
+abbrev μ-loop : tie.MeasureT-loop
+μ-loop bytes table₀ thread₀ table thread = 32 - thread
+
+abbrev Inv-loop2 : tie.InvT-loop2
+Inv-loop2 bytes table₀ thread object₀ table object = (object ≤ 64) × (table ≡ read-so-far bytes 32 object)
+
+abbrev μ-loop2 : tie.MeasureT-loop2
+μ-loop2 bytes table₀ thread object₀ table object = 64 - object
+
+returns : tie.Need-returns Inv-loop μ-loop Inv-loop2 μ-loop2
+returns c =
+    let made = c .before in
+    rw (made .before .no-thread .ensures, made .no-object .ensures) (empty-said (made .before .before .before .args .bytes .now) (c .if1 .taken))
+
+loop-holds : tie.Need-loop-holds Inv-loop μ-loop Inv-loop2 μ-loop2
+loop-holds c =
+    let made = c .before .before .before in
+    (omega arith, rw (made .before .no-thread .ensures, made .no-object .ensures) (none-read (made .before .before .before .args .bytes .now)))
+
+loop-again : tie.Need-loop-again Inv-loop μ-loop Inv-loop2 μ-loop2
+loop-again c =
+    let loop = c .before .before in
+    let bytes = loop .before .before .before .before .before .before .before .args .bytes .now in
+    (omega arith, rw (c .thread-from .ensures, loop .loop .inv .1) (thread-read bytes (loop .loop .thread)))
+
+loop2-holds : tie.Need-loop2-holds Inv-loop μ-loop Inv-loop2 μ-loop2
+loop2-holds c =
+    let loop = c .before in
+    let bytes = loop .before .before .before .before .before .before .before .args .bytes .now in
+    let all : loop .loop .thread ≡ 32 = omega (arith, loop .loop .inv .0, c .loop-test .left) in
+    (omega arith, loop .loop .inv .1 ∙ ap (λ (n : ℕ). read-so-far bytes n 0) all)
+
+loop2-again : tie.Need-loop2-again Inv-loop μ-loop Inv-loop2 μ-loop2
+loop2-again c =
+    let loop = c .before .before in
+    let bytes = loop .before .before .before .before .before .before .before .before .before .args .bytes .now in
+    (omega arith, rw (c .object-from .ensures, loop .loop2 .inv .1) (object-read bytes (loop .loop2 .object)))
+
+returns-2 : tie.Need-returns-2 Inv-loop μ-loop Inv-loop2 μ-loop2
+returns-2 c =
+    let loop = c .before in
+    let test = loop .before .before .before .before .before in
+    let bytes = test .before .before .before .before .args .bytes .now in
+    let all : loop .loop2 .object ≡ 64 = omega (arith, loop .loop2 .inv .0, c .loop2-test .left) in
+    loop .loop2 .inv .1 ∙ ap (read-so-far bytes 32) all ∙ all-read bytes (test .if1 .left)
 
 pub read-table-spec : {M : Type 1} → statement M
 read-table-spec =
     tie.close
-    (tie.spec (λ c κs. search needs) (λ c. c .table-from .ensures) (λ c. search needs) (λ c κs. search needs) (λ c. search needs)
-    (λ c κs. search needs)
-    (λ c. let copied = c .before .before .before in
-    c .table-from2 .ensures ∙ ap table-of (copied .put .ensures) ∙ same-table (copied .before .before .before .before .args .bytes .now) table-size))
+    (tie.spec Inv-loop μ-loop Inv-loop2 μ-loop2 (λ c κs. tt) (λ c κs. tt) returns (λ c. search needs) (λ c. search needs) loop-holds
+    (λ c κs. search needs) (λ c. search needs) (λ c. search needs) (λ c. search needs) (λ c. search needs) loop-again loop2-holds
+    (λ c κs. search needs) (λ c. search needs) (λ c. search needs) (λ c. search needs) (λ c. search needs) loop2-again returns-2)
