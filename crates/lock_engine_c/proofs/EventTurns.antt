@@ -14,8 +14,8 @@ use Rattle.lock_engine.specs.declared.turning.Turn.{Turn}
 use Rattle.lock_engine_c.specs.Calls.{packed-of, outcome-answer, reply-changes, event-number, event-turn, store-turn}
 
 module _ (event : Event) {first table : Table} {thread number : ℕ} {own : ThreadRecord} {object : ObjectRecord} {issound : Bool} {turn : Turn}
-    (table-is : table ≡ first) (thread-is : thread ≡ event-thread event) (own-is : own ≡ thread-at table thread)
-    (number-is : number ≡ event-object event (own .object)) (object-is : object ≡ object-at table number) (sound-is : issound ≡ sound-of table)
+    (table-is : table ≡ first) (thread-is : thread ≡ event-thread event) (own-is : own ≡ thread-at first thread)
+    (number-is : number ≡ event-object event (own .object)) (object-is : object ≡ object-at first number) (sound-is : issound ≡ sound-of table)
     (turn-is : turn ≡ turn-with table event issound own object) where
   pub turn-answers : packed-of (reply-returned (turn .reply)) (reply-woken (turn .reply)) (turn .commits) ≡ outcome-answer (handle first event)
   unfolding handle handle-trusting

@@ -1,6 +1,5 @@
 // The calls that change a table: a fresh one, a begin, a timed wait, a step, a tick. Each reads the bytes, asks the engine and writes what it gave back.
 use lock_engine::Reply;
-use lock_engine::Turn;
 use lock_engine::refusal_number;
 use lock_engine::returned;
 use lock_engine::turn_with;
@@ -18,14 +17,14 @@ use lock_table::Table;
 use lock_table::fresh;
 use lock_table::fresh_returned;
 use lock_table::narrow;
-use lock_table::object_at;
 use lock_table::sized_request;
-use lock_table::thread_at;
 use lock_work::work_done;
 use lock_work::work_stays;
 use table_bytes::TABLE_SIZE;
 use table_bytes::is_table;
+use table_bytes::read_object;
 use table_bytes::read_table;
+use table_bytes::read_thread;
 use table_bytes::write_object;
 use table_bytes::write_table;
 use table_bytes::write_thread;
@@ -86,28 +85,8 @@ pub(crate) fn store(bytes: &mut [u8], table: Table, changed: bool)
     }
 }
 
-// Nothing is stored where nothing changed, so that a refused event can be tried on memory that may only be read; and no more than the two records where
-// there is no more work.
-fn store_turn(bytes: &mut [u8], table: Table, thread: u8, number: u8, turn: Turn, changed: bool)
-    ensures { λ _. ⌜ now (bytes .exit) ≡ store-turn (now (bytes .entry)) table thread number turn changed ⌝ }
-{
-    if changed {
-        let own = turn.own;
-        let object = turn.object;
-        let work = turn.work;
-        if work_stays(work) {
-            write_thread(bytes, thread, own);
-            write_object(bytes, number, object);
-            return;
-        }
-        write_table(
-            bytes,
-            work_done(table, thread, number, own, object, work).table,
-        );
-    }
-}
-
-// On bytes that are a table, the event on the table that they say.
+// On bytes that are a table, the event on the table that they say. Nothing is stored where nothing changed, so that a refused event can be tried on
+// memory that may only be read; and no more than the two records where there is no more work.
 fn handle_if_table(bytes: &mut [u8], event: Event, istable: bool) -> u32
     ensures { λ r. ⌜ r ≡ event-answer istable (handle (table-of (now (bytes .entry))) event) ⌝ }
     ensures { λ _. ⌜ now (bytes .exit) ≡ event-over istable (now (bytes .entry)) (table-of (now (bytes .entry))) event ⌝ }
@@ -116,13 +95,25 @@ fn handle_if_table(bytes: &mut [u8], event: Event, istable: bool) -> u32
         let table = read_table(bytes);
         let issound = sound(table);
         let thread = event_thread(event);
-        let own = thread_at(table, thread);
+        let own = read_thread(bytes, thread);
         let number = event_object(event, own.object);
-        let object = object_at(table, number);
+        let object = read_object(bytes, number);
         let turn = turn_with(table, event, issound, own, object);
         let reply = turn.reply;
-        let changed = reply_changes(reply);
-        store_turn(bytes, table, thread, number, turn, changed);
+        let work = turn.work;
+        if reply_changes(reply) {
+            let ownafter = turn.own;
+            let objectafter = turn.object;
+            if work_stays(work) {
+                write_thread(bytes, thread, ownafter);
+                write_object(bytes, number, objectafter);
+            } else {
+                write_table(
+                    bytes,
+                    work_done(table, thread, number, ownafter, objectafter, work).table,
+                );
+            }
+        }
         return packed(returned(reply), woken(reply), turn.commits);
     }
     refusal_number(Refusal::NotSound) as u32

@@ -1,6 +1,6 @@
 -- Bytes that are enough for a table say what they are; too few say the empty table.
 use Prim.Native.Nat.{ℕ, _-_, _≤_, _<_}
-use mathlib.Core.Path.{_≡_, refl, ap, sym, _∙_}
+use mathlib.Core.Path.{_≡_, refl, ap, sym}
 use mathlib.Core.Logic.{_≢_}
 use mathlib.Core.List.{List, []}
 use native.Mathlib.Omega.{arith}
@@ -17,7 +17,7 @@ use Rattle.lock_table.specs.Record.{no-thread, no-object}
 use Rattle.lock_table.specs.declared.record.Table.{Table}
 use Rattle.table_bytes.specs.ThreadBytes.{phase-from, later-phase-from}
 use Rattle.table_bytes.specs.Layout.{table-size}
-use Rattle.table_bytes.specs.Reading.{AreBytes, byte-at, thread-from, object-from, table-said, enough, table-of}
+use Rattle.table_bytes.specs.Reading.{AreBytes, thread-from, object-from, table-said, enough, table-of}
 
 module _ (bytes : List ℕ) where
   pub enough-is : table-size ≤ length bytes → enough bytes ≡ bytes
