@@ -10,14 +10,15 @@ use Rattle.lock_work.specs.Tick.{hand-if-free, tick-object}
 use Rattle.event_bytes.specs.Encoding.{event-from, limit-from}
 use Rattle.lock_rules.specs.Limits.{one-less, no-ticks, run-out}
 use Rattle.lock_table.specs.{Fresh.first-word, Fresh.fresh-of, Fresh.fresh-object, Operation.operation-number, Phase.phase-number, Parked.chain-named}
+use Rattle.lock_gate.specs.Status.{thread-status}
 use Rattle.lock_perform.specs.Moving.{thread-set}
 use Rattle.sound_records.specs.Records.{names-chain, unused-fits, saves-depth, ticks-fit}
-use Rattle.lock_rules.specs.Rules.{exit-tell}
+use Rattle.lock_rules.specs.Rules.{exit-tell, enter-try}
 use Rattle.table_bytes.specs.Reading.{enough}
 use Rattle.replay_lines.specs.Number.{is-digit, read-digits, read-number, read-field}
 use Rattle.replay_lines.specs.Grammar.{end-line, read-step, read-begin-limit, read-begin-object, read-begin, operation-of, read-line}
-use Rattle.replay_text.specs.Digits.{digit-byte, digits}
-use Rattle.replay_text.specs.Text.{word-text}
+use Rattle.replay_text.specs.Digits.{digit-byte, digits, places-of, decimal}
+use Rattle.replay_text.specs.Text.{field-text, word-text, answer-line, answer-text}
 use Rattle.worked_examples.specs.{Words.WordExamples, Records.RecordExamples, Rules.RuleExamples, Ticks.TickExamples, Lines.LineExamples}
 
 pub word-examples : WordExamples
@@ -33,10 +34,12 @@ word-examples =
       owned = refl;
       held-only = refl;
       held-by-nobody = refl;
+      reserved-in = refl;
+      unreserved = refl;
     }
 
 pub record-examples : RecordExamples
-unfolding tabulate object-at fresh-of fresh-object first-word operation-number phase-number chain-named names-chain unused-fits saves-depth thread-set enough
+unfolding tabulate object-at fresh-of fresh-object first-word operation-number phase-number chain-named names-chain unused-fits saves-depth thread-status thread-set enough
 record-examples =
     record {
       free = refl;
@@ -46,6 +49,7 @@ record-examples =
       own-chain = refl;
       other-object = refl;
       other-chain = refl;
+      parked = refl;
       handed-holder = refl;
       handed-entry = refl;
       handed-set = refl;
@@ -56,8 +60,8 @@ record-examples =
     }
 
 pub rule-examples : RuleExamples
-unfolding exit-tell
-rule-examples = record { deflated = refl; inflated = refl; told = refl }
+unfolding exit-tell enter-try
+rule-examples = record { deflated = refl; inflated = refl; told = refl; flag-down = refl }
 
 pub tick-examples : TickExamples
 unfolding thread-at set-thread object-at set-object hang moved-phase runs-out waiter-after last-behind passed part-waiters hand-if-free tick-object ticks-fit event-from limit-from one-less no-ticks run-out
@@ -86,5 +90,18 @@ tick-examples =
     }
 
 pub line-examples : LineExamples
-unfolding is-digit read-digits read-number read-field end-line read-step read-begin-limit read-begin-object read-begin operation-of read-line digit-byte digits word-text
-line-examples = record { step = refl; unended = refl; leading-zero = refl; tab = refl; timed = refl; tick = refl; tick-spaced = refl; word = refl }
+unfolding is-digit read-digits read-number read-field end-line read-step read-begin-limit read-begin-object read-begin operation-of read-line digit-byte digits places-of decimal field-text word-text answer-line answer-text
+line-examples =
+    record {
+      step = refl;
+      unended = refl;
+      leading-zero = refl;
+      tab = refl;
+      largest = refl;
+      too-large = refl;
+      timed = refl;
+      tick = refl;
+      tick-spaced = refl;
+      word = refl;
+      answer = refl;
+    }

@@ -3,7 +3,8 @@ use mathlib.Core.Path.{_≡_}
 use mathlib.Core.List.{[], _∷_}
 use Rattle.replay_lines.specs.Grammar.{read-line}
 use Rattle.replay_lines.specs.declared.reading.Line.the-variants.{Begin, Step, Tick, Malformed}
-use Rattle.replay_text.specs.Text.{word-text}
+use Rattle.replay_text.specs.Text.{word-text, answer-text}
+use Rattle.replay_text.specs.declared.answer.Answer.the-variants.{Accepted}
 
 pub record LineExamples : Type 0 where
   -- `S 1` and a newline
@@ -12,9 +13,14 @@ pub record LineExamples : Type 0 where
   pub unended : read-line (83 ∷ 32 ∷ 49 ∷ []) ≡ Malformed
   pub leading-zero : read-line (83 ∷ 32 ∷ 48 ∷ 49 ∷ 10 ∷ []) ≡ Malformed
   pub tab : read-line (83 ∷ 9 ∷ 49 ∷ 10 ∷ []) ≡ Malformed
+  -- 65,535 and 65,536
+  pub largest : read-line (83 ∷ 32 ∷ 54 ∷ 53 ∷ 53 ∷ 51 ∷ 53 ∷ 10 ∷ []) ≡ Step 65535
+  pub too-large : read-line (83 ∷ 32 ∷ 54 ∷ 53 ∷ 53 ∷ 51 ∷ 54 ∷ 10 ∷ []) ≡ Malformed
   -- `V 1 1 7`: a timed wait with its limit; `C` alone is a tick, and with a space behind it nothing
   pub timed : read-line (86 ∷ 32 ∷ 49 ∷ 32 ∷ 49 ∷ 32 ∷ 55 ∷ 10 ∷ []) ≡ Begin 6 1 1 7
   pub tick : read-line (67 ∷ 10 ∷ []) ≡ Tick
   pub tick-spaced : read-line (67 ∷ 32 ∷ 10 ∷ []) ≡ Malformed
   -- the word 00010a: six digits, lower-case, and a newline
   pub word : word-text 0x00010a ≡ 48 ∷ 48 ∷ 48 ∷ 49 ∷ 48 ∷ 97 ∷ 10 ∷ []
+  -- `1 2 3 00010a`: a space behind each field but the last
+  pub answer : answer-text (Accepted 1 2 3 0x00010a) ≡ 49 ∷ 32 ∷ 50 ∷ 32 ∷ 51 ∷ 32 ∷ word-text 0x00010a

@@ -10,10 +10,12 @@ use Rattle.lock_table.specs.Fresh.{sized-request, fresh-of}
 use Rattle.lock_table.specs.Monitor.{hand-of}
 use Rattle.lock_table.specs.declared.operation.Operation.the-variants.{Enter}
 use Rattle.lock_table.specs.declared.phase.Phase.{Phase}
-use Rattle.lock_table.specs.declared.phase.Phase.the-variants.{Look, Queued}
+use Rattle.lock_table.specs.declared.phase.Phase.the-variants.{Look, Queued, Waiting}
 use Rattle.lock_table.specs.declared.phase.Onward.the-variants.{ToCheck}
 use Rattle.lock_table.specs.declared.record.ThreadRecord.{ThreadRecord}
 use Rattle.lock_table.specs.declared.record.Monitor.{Monitor}
+use Rattle.lock_rules.specs.declared.event.ThreadStatus.the-variants.{Parked}
+use Rattle.lock_gate.specs.Status.{thread-status}
 use Rattle.lock_perform.specs.Moving.{joining, plan-hand}
 use Rattle.sound_records.specs.Records.{names-chain, unused-fits}
 use Rattle.table_bytes.specs.Layout.{objects-start, table-size}
@@ -46,6 +48,8 @@ pub record RecordExamples : Type 0 where
   pub own-chain : names-chain 1 1 (entering 0 (Queued ToCheck)) ≡ true
   pub other-object : names-chain 2 1 (entering 0 (Queued ToCheck)) ≡ false
   pub other-chain : names-chain 1 2 (entering 0 (Queued ToCheck)) ≡ false
+  -- a waiting thread is parked, so a step of it is refused
+  pub parked : thread-status Waiting ≡ Parked
   -- the monitor is handed to thread 2, behind which thread 3 stands
   pub handed-holder : hand-of held 3 .monitor .holder ≡ 2
   pub handed-entry : hand-of held 3 .monitor .entry ≡ 3

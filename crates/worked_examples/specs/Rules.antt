@@ -2,16 +2,17 @@
 use mathlib.Core.Path.{_≡_}
 use mathlib.Core.Bool.{Bool, true, false}
 use Rattle.chains.specs.declared.named.Chain.{Chain}
-use Rattle.lock_rules.specs.Rules.{deflation, exit-tell}
+use Rattle.lock_rules.specs.Rules.{deflation, exit-tell, enter-try}
 use Rattle.lock_rules.specs.Actions.{keep-object}
 use Rattle.lock_rules.specs.declared.Doing.the-variants.{ExitLeave}
-use Rattle.lock_rules.specs.declared.ThreadState.the-variants.{Running}
-use Rattle.lock_rules.specs.declared.WordChange.the-variants.{Unchanged, Freed}
+use Rattle.lock_rules.specs.declared.ThreadState.the-variants.{Idle, Running}
+use Rattle.lock_rules.specs.declared.WordChange.the-variants.{Unchanged, Freed, Inflated}
 use Rattle.lock_rules.specs.declared.Sight.{Sight}
-use Rattle.lock_rules.specs.declared.Taken.the-variants.{First}
+use Rattle.lock_rules.specs.declared.Taken.the-variants.{First, All}
 use Rattle.lock_rules.specs.declared.ChainWork.the-variants.{Move}
-use Rattle.lock_rules.specs.declared.Answer.the-variants.{GoneOn}
-use Rattle.lock_word.specs.declared.meaning.WordSeen.the-variants.{Fat}
+use Rattle.lock_rules.specs.declared.Answer.the-variants.{GoneOn, Finished}
+use Rattle.lock_rules.specs.declared.Action.the-variants.{Do}
+use Rattle.lock_word.specs.declared.meaning.WordSeen.the-variants.{Free, Fat}
 
 -- a monitor that thread 1 holds at depth 1, its flag up, nobody queued or waiting, with contenders or without
 abbrev pub seen : Bool → Sight
@@ -32,3 +33,16 @@ pub record RuleExamples : Type 0 where
   pub inflated : deflation (seen false) ≡ Unchanged
   -- an exit tells the first contender
   pub told : exit-tell (seen false) ≡ keep-object (seen false) (Move Chain.Contention First) (Running ExitLeave) GoneOn false
+  -- a contender that finds the word free inflates it, and takes the flag down
+  pub flag-down : enter-try 1 (seen false) Free
+      ≡ Do
+      (record {
+        work = Move Chain.Contention All;
+        state = Idle;
+        word = Inflated;
+        flag = false;
+        holder = 1;
+        depth = 1;
+        answer = Finished 0;
+        commits = true;
+      })
