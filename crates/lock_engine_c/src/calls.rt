@@ -12,7 +12,7 @@ use lock_rules::Event;
 use lock_rules::Refusal;
 use lock_soundness::sound;
 use lock_table::FreshAnswer;
-use lock_table::FreshTable;
+use lock_table::FreshRequest;
 use lock_table::Table;
 use lock_table::fresh;
 use lock_table::fresh_returned;
@@ -33,11 +33,12 @@ ghost use Prim.Native.Nat.{_≤_};
 ghost use Rattle.lock_rules.specs.Numbers.{first-refusal};
 ghost use Rattle.lock_rules.specs.Operations.{timed-wait};
 ghost use Rattle.lock_engine.specs.Handle.{handle};
+ghost use Rattle.lock_table.specs.Fresh.{fresh-of};
 ghost use Rattle.table_bytes.specs.Layout.{table-size};
 ghost use Rattle.table_bytes.specs.Reading.{is-table, table-of};
 ghost use Rattle.lock_engine_c.specs.Calls.{packed-of, returned-in, event-answer, event-bytes, RefusedLeaves};
 ghost use Rattle.lock_engine_c.specs.Calls.{answer-changes, reply-changes, stored-over, store-turn, event-over};
-ghost use Rattle.lock_engine_c.specs.Calls.{begun-on, stepped-on, ticked-on, fresh-on, has-size, keep-made, fresh-answer, fresh-bytes, fresh-if-sized};
+ghost use Rattle.lock_engine_c.specs.Calls.{begun-on, stepped-on, ticked-on, fresh-on, has-size, fresh-answer, fresh-bytes, fresh-if-sized};
 
 const WOKEN_UNIT: u32 = 256;
 
@@ -119,23 +120,18 @@ fn handle_if_table(bytes: &mut [u8], event: Event, istable: bool) -> u32
     refusal_number(Refusal::NotSound) as u32
 }
 
-fn keep_made(bytes: &mut [u8], answer: FreshAnswer, table: Table)
-    ensures { λ _. ⌜ now (bytes .exit) ≡ keep-made (now (bytes .entry)) answer table ⌝ }
-{
-    match answer {
-        FreshAnswer::Made => write_table(bytes, table),
-        FreshAnswer::SizeOutOfRange => {}
-    }
-}
-
-fn fresh_if_sized(bytes: &mut [u8], made: FreshTable, fits: bool) -> u32
-    ensures { λ r. ⌜ r ≡ fresh-answer fits made ⌝ }
-    ensures { λ _. ⌜ now (bytes .exit) ≡ fresh-if-sized fits (now (bytes .entry)) made ⌝ }
+// With the right number of bytes, a fresh table as asked.
+fn fresh_if_sized(bytes: &mut [u8], request: FreshRequest, fits: bool) -> u32
+    ensures { λ r. ⌜ r ≡ fresh-answer fits (fresh-of request) ⌝ }
+    ensures { λ _. ⌜ now (bytes .exit) ≡ fresh-if-sized fits (now (bytes .entry)) (fresh-of request) ⌝ }
 {
     if fits {
+        let made = fresh(request);
         let answer = made.answer;
-        let table = made.table;
-        keep_made(bytes, answer, table);
+        match answer {
+            FreshAnswer::Made => write_table(bytes, made.table),
+            FreshAnswer::SizeOutOfRange => {}
+        }
         return fresh_returned(answer) as u32;
     }
     refusal_number(Refusal::NotSound) as u32
@@ -161,12 +157,12 @@ pub extern "C" fn duskclamp_fresh(
     ensures { λ _. ⌜ now (bytes .exit) ≡ fresh-bytes (has-size (now (bytes .entry))) (now (bytes .entry)) (fresh-on threads objects reserved) ⌝ }
 {
     let fits = bytes.len() == TABLE_SIZE;
-    let made = fresh(sized_request(
+    let request = sized_request(
         narrow(threads) as u16,
         narrow(objects) as u16,
         reserved != 0,
-    ));
-    fresh_if_sized(bytes, made, fits)
+    );
+    fresh_if_sized(bytes, request, fits)
 }
 
 // The thread begins the operation with this number on the object, without a limit. Refused, it leaves every byte.

@@ -1,6 +1,6 @@
 -- A fresh table, record by record.
 use Prim.Native.Nat.{ℕ, _-_, _≤_, _<_}
-use mathlib.Core.Path.{_≡_, refl, _∙_}
+use mathlib.Core.Path.{_≡_, refl, sym, _∙_}
 use mathlib.Core.Logic.{_⊎_, inl, inr}
 use mathlib.Core.Bool.{Bool, true, false}
 use native.Mathlib.Omega.{arith}
@@ -13,7 +13,7 @@ use Rattle.laws.proofs.Sequence.{tabulate-at}
 use Rattle.lock_table.specs.Limits.{thread-limit, object-limit}
 use Rattle.lock_table.specs.Record.{no-thread, no-object, with-word}
 use Rattle.lock_table.specs.Access.{thread-at, object-at}
-use Rattle.lock_table.specs.Fresh.{first-word, fresh-thread, fresh-object, table-of, refused-of, InRange, fresh-of}
+use Rattle.lock_table.specs.Fresh.{first-word, fresh-thread, fresh-object, table-of, refused-of, InRange, fresh-of, made-answer, made-of}
 use Rattle.lock_table.specs.declared.fresh_table.FreshRequest.{FreshRequest}
 use Rattle.lock_table.specs.declared.fresh_table.FreshAnswer.the-variants.{Made}
 use Rattle.lock_table.proofs.Records.{object-in, object-beyond}
@@ -28,6 +28,12 @@ module _ (request : FreshRequest) where
         ne-eqb (request .objects) 0 (λ e. omega (arith, e, some)),
         le-ltb object-limit (request .objects) fewer,
       )
+
+  pub made-asked : InRange request → fresh-of request ≡ made-of request
+  unfolding made-answer
+  made-asked in-range =
+      let some : made-answer request ≡ Made = rw (ne-eqb (request .threads) 0 (λ e. omega (arith, e, in-range .0))) refl in
+      fresh-made in-range ∙ λ j. record { answer = sym some j; table = table-of request }
 
   -- what cannot be made is refused
   pub fresh-either : InRange request ⊎ (fresh-of request ≡ refused-of)

@@ -56,6 +56,13 @@ fresh-of request =
     (pick (eqb (request .objects) 0) refused-of
     (pick (ltb object-limit (request .objects)) refused-of (record { answer = Made; table = table-of request }))))
 
+-- the same as the code does it: nothing is made of a request that is refused, and no table that was made is without threads
+unfoldable pub made-answer : FreshRequest → FreshAnswer
+made-answer made = pick (eqb (made .threads) 0) SizeOutOfRange Made
+
+abbrev pub made-of : FreshRequest → FreshTable
+made-of made = record { answer = made-answer made; table = table-of made }
+
 -- document 01's number for the answer
 unfoldable pub fresh-returned : FreshAnswer → ℕ
 fresh-returned Made = 0

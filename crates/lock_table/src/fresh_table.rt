@@ -10,7 +10,7 @@ ghost use mathlib.Core.Path.{_≡_};
 ghost use Prim.Native.Nat.{_≤_};
 ghost use Rattle.laws.specs.Sequence.{tabulate};
 ghost use Rattle.lock_table.specs.Limits.{thread-limit, object-limit};
-ghost use Rattle.lock_table.specs.Fresh.{sized-request, first-word, fresh-thread, fresh-object, table-of, refused-of, fresh-of, fresh-returned};
+ghost use Rattle.lock_table.specs.Fresh.{sized-request, first-word, fresh-thread, fresh-object, table-of, fresh-of, made-answer, made-of, fresh-returned};
 
 // What a fresh table is asked to be.
 pub struct FreshRequest {
@@ -106,34 +106,44 @@ fn table_of(request: FreshRequest) -> Table
     }
 }
 
-fn refused() -> FreshTable
-    ensures { λ r. ⌜ r ≡ refused-of ⌝ }
+// What is made of a request: what it asks for, or nothing where that cannot be made. So `fresh` makes its table in one place, and has room on the stack
+// for one.
+fn made_request(request: FreshRequest) -> FreshRequest
+    ensures { λ r. ⌜ (r .threads ≤ thread-limit) × (r .objects ≤ object-limit) × (fresh-of request ≡ made-of r) ⌝ }
 {
-    FreshTable {
-        answer: FreshAnswer::SizeOutOfRange,
-        table: table_of(sized_request(0, 0, false)),
+    let nothing = sized_request(0, 0, false);
+    if request.threads == 0 {
+        return nothing;
     }
+    if (THREADS as u16) < request.threads {
+        return nothing;
+    }
+    if request.objects == 0 {
+        return nothing;
+    }
+    if (OBJECTS as u16) < request.objects {
+        return nothing;
+    }
+    request
+}
+
+fn made_answer(made: FreshRequest) -> FreshAnswer
+    ensures { λ r. ⌜ r ≡ made-answer made ⌝ }
+{
+    if made.threads == 0 {
+        return FreshAnswer::SizeOutOfRange;
+    }
+    FreshAnswer::Made
 }
 
 // A fresh table as asked, or 22.
 pub fn fresh(request: FreshRequest) -> FreshTable
     ensures { λ r. ⌜ r ≡ fresh-of request ⌝ }
 {
-    if request.threads == 0 {
-        return refused();
-    }
-    if (THREADS as u16) < request.threads {
-        return refused();
-    }
-    if request.objects == 0 {
-        return refused();
-    }
-    if (OBJECTS as u16) < request.objects {
-        return refused();
-    }
+    let made = made_request(request);
     FreshTable {
-        answer: FreshAnswer::Made,
-        table: table_of(request),
+        answer: made_answer(made),
+        table: table_of(made),
     }
 }
 
