@@ -22,8 +22,8 @@
  *     DUSKCLAMP_RETURNED(answer) == DUSKCLAMP_FINISHED
  * and never `answer == DUSKCLAMP_FINISHED`.
  *
- * Stack: a step, a tick and a run need up to 12.1 KB, a begin 6.8 KB, a fresh table and a question 6.6 KB, beside what memcpy and memset need. So
- * measured by bench/stack.c, on a stack filled with a pattern, over a long schedule; no function calls itself.
+ * Stack: a run needs up to 7.0 KB, a step and a tick 5.6 KB, a begin and a question 5.4 KB, a fresh table 4.8 KB, beside what memcpy and memset
+ * need. So measured by bench/stack.c, on a stack filled with a pattern, over a long schedule; no function calls itself.
  */
 #ifndef DUSKCLAMP_H
 #define DUSKCLAMP_H
