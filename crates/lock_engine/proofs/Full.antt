@@ -16,7 +16,7 @@ use Rattle.lock_table.proofs.Records.{thread-beside, object-beside}
 use Rattle.lock_perform.specs.Moving.{CarriedOut, relink, moved-whole, after-whole, carry-out}
 use Rattle.lock_soundness.specs.Sound.{sound-of}
 use Rattle.lock_work.specs.Waiters.{PartedWaiters, no-parting, part-waiters}
-use Rattle.lock_work.specs.Tick.{Monitored, hand-if-free, tick-object, tick-to, tick}
+use Rattle.lock_work.specs.Tick.{handing, hand-if-free, tick-object, tick-to, tick}
 use Rattle.lock_work.specs.declared.waiters.Parting.{Parting}
 use Rattle.lock_work.specs.Work.{work-stays, work-done}
 use Rattle.lock_engine.specs.Handle.{turn-with, outcome-of, handle-trusting, handle}
@@ -74,8 +74,7 @@ full-parted (suc fuel) table parting at full =
 
 full-handed : (table : Table) (monitor : Monitor) → Full table → Full (hand-if-free table monitor .table)
 unfolding hand-if-free
-full-handed table monitor full =
-    by-test (λ (after : Monitored). Full (after .table)) (eqb (monitor .holder) 0) (λ free. full-thread _ _ full) (λ held. full)
+full-handed table monitor full = full-relink monitor (handing monitor) 0 0 full
 
 full-object-ticked : (table : Table) (number : ℕ) → Full table → Full (tick-object table number)
 unfolding tick-object

@@ -87,7 +87,8 @@ pub(crate) fn store(bytes: &mut [u8], table: Table, changed: bool)
 }
 
 // On bytes that are a table, the event on the table that they say. Nothing is stored where nothing changed, so that a refused event can be tried on
-// memory that may only be read; and no more than the two records where there is no more work.
+// memory that may only be read; and no more than the two records where there is no more work. These are read from the bytes: to read them from the
+// table would copy it.
 fn handle_if_table(bytes: &mut [u8], event: Event, istable: bool) -> u32
     ensures { λ r. ⌜ r ≡ event-answer istable (handle (table-of (now (bytes .entry))) event) ⌝ }
     ensures { λ _. ⌜ now (bytes .exit) ≡ event-over istable (now (bytes .entry)) (table-of (now (bytes .entry))) event ⌝ }

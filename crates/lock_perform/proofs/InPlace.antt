@@ -117,6 +117,19 @@ relinked t m work thread object =
     carried-out (hang thread-limit (set-thread t number (planned .changed)) (planned .front) (planned .back)) planned)
     (read-in-place t number))
 
+-- the same of a work by which nobody joins a chain
+pub relinked-alone : (t : Table) (m : Monitor) (work : ChainWork) (thread object : ℕ)
+    → let place = thread-place (touched work m) in
+    let planned = plan-at work m thread object (getD (t .threads) place no-thread) in
+    planned .front ≡ 0 → carried-out (with-threads t (set (t .threads) place (planned .changed))) planned ≡ relink t m work thread object
+relinked-alone t m work thread object none =
+    let place = thread-place (touched work m) in
+    let planned = plan-at work m thread object (getD (t .threads) place no-thread) in
+    let changed = with-threads t (set (t .threads) place (planned .changed)) in
+    sym
+    (relinked t m work thread object ∙ ap (λ (front : ℕ). carried-out (hang thread-limit changed front (planned .back)) planned) none
+    ∙ ap (λ (after : Table). carried-out after planned) (hang-none thread-limit changed (planned .back)))
+
 -- of an empty chain nobody moves, so that the walk may be made of any
 pub after-whole-walk : (t : Table) (whole : ℕ) (m : Monitor) (work : ChainWork) (thread object : ℕ)
     → after-whole t whole m work thread object ≡ relink (move-all thread-limit t whole) m work thread object

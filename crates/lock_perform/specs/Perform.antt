@@ -50,15 +50,15 @@ stays (Move from which) = false
 stays (SendBack owner) = false
 
 -- the work on the chains, then both records: the thread's with the next index and the object's with the chains that the work gave
-abbrev pub chains-done : Table → ℕ → ℕ → ThreadRecord → ObjectRecord → ChainWork → Table
-chains-done table thread number own object work =
+abbrev pub worked : Table → ℕ → ℕ → ThreadRecord → ObjectRecord → ChainWork → Table
+worked table thread number own object work =
     let carried = carry-out table (object .monitor) work thread number in
     set-object (set-thread (carried .table) thread (with-next own (next-of (carried .table) thread))) number (with-monitor object (carried .monitor))
 
 -- where there is no such work, both records are written as they are
 abbrev pub settled : Table → ℕ → ℕ → ThreadRecord → ObjectRecord → ChainWork → Table
 settled table thread number own object work =
-    pick (stays work) (set-object (set-thread table thread own) number object) (chains-done table thread number own object work)
+    pick (stays work) (set-object (set-thread table thread own) number object) (worked table thread number own object work)
 
 -- The same as the code does it, one record at a time: what is written at the places of the two, where `there` is what stood there after the work.
 abbrev pub own-written : ℕ → ThreadRecord → ThreadRecord → ThreadRecord

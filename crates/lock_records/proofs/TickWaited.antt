@@ -23,6 +23,7 @@ use Rattle.lock_rules.specs.PlainMonitor.{above-zero}
 use Rattle.lock_rules.specs.Limits.{ticked, at-zero}
 use Rattle.lock_rules.specs.declared.{Suspension.Suspension, ThreadState.ThreadState}
 use Rattle.lock_rules.specs.declared.ThreadState.the-variants.{Idle, Waiting}
+use Rattle.lock_rules.specs.declared.ChainWork.the-variants.{Hand, Stay}
 use Rattle.lock_rules.proofs.Changes.{moved, handed}
 use Rattle.lock_rules.proofs.Each.{each-chain}
 use Rattle.lock_rules.proofs.Objects.{ListObject, chain-of}
@@ -34,12 +35,14 @@ use Rattle.lock_rules.proofs.ListChains.{member-at, member-in, short}
 use Rattle.lock_rules.proofs.Tables.{ListThread, ListTable, states-at, seen-here}
 use Rattle.lock_table.specs.Limits.{thread-limit}
 use Rattle.lock_table.specs.Record.{with-next, with-monitor}
-use Rattle.lock_table.specs.Access.{set-object, next-of}
+use Rattle.lock_table.specs.Access.{thread-at, set-thread, set-object, next-of}
 use Rattle.lock_table.specs.Chain.{hang, handed-of}
 use Rattle.lock_table.specs.Monitor.{hand-of, join}
 use Rattle.lock_table.specs.declared.record.{ThreadRecord.ThreadRecord, ObjectRecord.ObjectRecord, Monitor.Monitor, Table.Table}
+use Rattle.lock_table.proofs.Walks.{hang-none}
+use Rattle.lock_perform.specs.Moving.{CarriedOut, plan-hand, carried-out, relink}
 use Rattle.lock_work.specs.Waiters.{PartedWaiters, no-parting, part-waiters}
-use Rattle.lock_work.specs.Tick.{Monitored, moved-monitor, hand-over, hand-if-free, tick-waited}
+use Rattle.lock_work.specs.Tick.{moved-monitor, handing, hand-if-free, tick-waited}
 use Rattle.lock_work.specs.declared.waiters.Parting.{Parting}
 use Rattle.lock_records.proofs.Numbering.{number, place-of, lists-of, list-at, update-number, lists-replaced, chain-handed, entered-all, first-is-head}
 use Rattle.lock_records.proofs.Represents.{monitor-record, object-record, Represents, next-is}
@@ -261,8 +264,13 @@ module _ (threads objects : ℕ) (t : Table) (lists : ListTable) (represents : R
       (λ at-o. idle-changed moved refl (aged states here) (parting states here .gone) 0
       (idle-changed one-tick-less refl states (here .waiting) 0 (sound .sound o .nobody))) (λ away. nobody threads objects lists sound)
 
-  abbrev freed : Monitored
-  freed = hand-over hung (monitor-record o links (here .holder) (here .depth))
+  abbrev at-hand : Monitor
+  at-hand = monitor-record o links (here .holder) (here .depth)
+
+  abbrev freed : CarriedOut
+  freed =
+      let first = thread-at hung handed-first in
+      carried-out (set-thread hung handed-first (handed-of first)) (plan-hand at-hand first)
 
   free-moves : Moves given t (freed .table) (placed o (lists .threads) (handed-states (result .states) (result .object))) (left-links .next)
   free-moves =
@@ -307,15 +315,28 @@ module _ (threads objects : ℕ) (t : Table) (lists : ListTable) (represents : R
   abbrev at-object : Ticked
   at-object = handed-if-free states here result
 
+  freed-is : relink hung at-hand Hand 0 0 ≡ freed
+  freed-is =
+      let first = thread-at hung handed-first in
+      λ j. carried-out (hang-none thread-limit (set-thread hung handed-first (handed-of first)) 0 j) (plan-hand at-hand first)
+
+  held-is : relink hung at-hand Stay 0 0 ≡ record { table = hung; monitor = at-hand; unparked = 0 }
+  unfolding set-thread
+  held-is = λ j. record { table = hang-none thread-limit hung 0 j; monitor = at-hand; unparked = 0 }
+
+  abbrev Handed : CarriedOut → Ticked → Type 0
+  Handed handed after =
+      Represents threads objects (set-object (handed .table) o (with-monitor before (handed .monitor)))
+      (record { threads = placed o (lists .threads) (after .states); objects = update (lists .objects) o (after .object) })
+
   pub waited-represents : Represents threads objects (tick-waited t o)
       (record { threads = placed o (lists .threads) (at-object .states); objects = update (lists .objects) o (at-object .object) })
-  unfolding hand-if-free
+  unfolding handing hand-if-free
   waited-represents = rw finishes (at (eqb (here .holder) 0))
     where
-      at : (b : Bool)
-          → let handed : Monitored = pick b freed (record { table = hung; monitor = monitor-record o links (here .holder) (here .depth) }) in
-          let after : Ticked = pick b (record { states = handed-states (result .states) (result .object); object = handed-object (result .object) }) result in
-          Represents threads objects (set-object (handed .table) o (with-monitor before (handed .monitor)))
-          (record { threads = placed o (lists .threads) (after .states); objects = update (lists .objects) o (after .object) })
-      at true = free-represents
-      at false = held-represents
+      free : Ticked
+      free = record { states = handed-states (result .states) (result .object); object = handed-object (result .object) }
+
+      at : (b : Bool) → Handed (relink hung at-hand (pick b Hand Stay) 0 0) (pick b free result)
+      at true = subst (λ (handed : CarriedOut). Handed handed free) (sym freed-is) free-represents
+      at false = subst (λ (handed : CarriedOut). Handed handed result) (sym held-is) held-represents

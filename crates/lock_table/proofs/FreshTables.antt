@@ -4,16 +4,16 @@ use mathlib.Core.Path.{_≡_, refl, sym, _∙_}
 use mathlib.Core.Logic.{_⊎_, inl, inr}
 use mathlib.Core.Bool.{Bool, true, false}
 use native.Mathlib.Omega.{arith}
-use lib.Dec.{eqb, ltb}
+use lib.Dec.{eqb, ltb, leb}
 use lib.ListN.{getD}
-use borrow.Author.Tests.{ne-eqb, le-ltb, lt-ltb, eqb-false, ltb-false}
-use Rattle.laws.specs.{Choice.pick, Sequence.tabulate}
-use Rattle.laws.proofs.Choice.{Equal, equal, Below, below, split}
+use borrow.Author.Tests.{ne-eqb, le-ltb, lt-ltb, le-leb, leb-true, eqb-false, ltb-false}
+use Rattle.laws.specs.{Choice.pick, Choice.within, Sequence.tabulate}
+use Rattle.laws.proofs.Choice.{Equal, equal, Below, below, split, either-way, both-first, both-second, false≢true}
 use Rattle.laws.proofs.Sequence.{tabulate-at}
 use Rattle.lock_table.specs.Limits.{thread-limit, object-limit}
 use Rattle.lock_table.specs.Record.{no-thread, no-object, with-word}
 use Rattle.lock_table.specs.Access.{thread-at, object-at}
-use Rattle.lock_table.specs.Fresh.{first-word, fresh-thread, fresh-object, table-of, refused-of, InRange, fresh-of, made-answer, made-of}
+use Rattle.lock_table.specs.Fresh.{first-word, fresh-thread, fresh-object, table-of, refused-of, InRange, fresh-of, in-range, met-request, met-answer}
 use Rattle.lock_table.specs.declared.fresh_table.FreshRequest.{FreshRequest}
 use Rattle.lock_table.specs.declared.fresh_table.FreshAnswer.the-variants.{Made}
 use Rattle.lock_table.proofs.Records.{object-in, object-beyond}
@@ -29,12 +29,6 @@ module _ (request : FreshRequest) where
         le-ltb object-limit (request .objects) fewer,
       )
 
-  pub made-asked : InRange request → fresh-of request ≡ made-of request
-  unfolding made-answer
-  made-asked in-range =
-      let some : made-answer request ≡ Made = rw (ne-eqb (request .threads) 0 (λ e. omega (arith, e, in-range .0))) refl in
-      fresh-made in-range ∙ λ j. record { answer = sym some j; table = table-of request }
-
   -- what cannot be made is refused
   pub fresh-either : InRange request ⊎ (fresh-of request ≡ refused-of)
   unfolding fresh-of
@@ -47,6 +41,34 @@ module _ (request : FreshRequest) where
       let threads = eqb-false (request .threads) 0 some in
       let objects = eqb-false (request .objects) 0 real in
       inl (omega (arith, threads), ltb-false thread-limit (request .threads) few, omega (arith, objects), ltb-false object-limit (request .objects) fewer)))))
+
+  in-range-so : InRange request → in-range request ≡ true
+  unfolding in-range
+  in-range-so (one, few, some, fewer) =
+      simp (le-leb 1 (request .threads) one, le-leb (request .threads) thread-limit few, le-leb 1 (request .objects) some, le-leb (request .objects) object-limit fewer)
+
+  range-of : in-range request ≡ true → InRange request
+  unfolding in-range
+  range-of fits =
+      let threads = both-first (within 1 thread-limit (request .threads)) _ fits in
+      let objects = both-second (within 1 thread-limit (request .threads)) _ fits in (
+        leb-true 1 (request .threads) (both-first (leb 1 (request .threads)) _ threads),
+        leb-true (request .threads) thread-limit (both-second (leb 1 (request .threads)) _ threads),
+        leb-true 1 (request .objects) (both-first (leb 1 (request .objects)) _ objects),
+        leb-true (request .objects) object-limit (both-second (leb 1 (request .objects)) _ objects),
+      )
+
+  -- one table is made either way
+  pub fresh-met : fresh-of request ≡ record { answer = met-answer (in-range request); table = table-of (met-request (in-range request) request) }
+  unfolding met-answer met-request
+  fresh-met =
+      split (in-range request) (λ fits. rw fits (fresh-made (range-of fits)))
+      (λ outside. rw outside (either-way fresh-either (λ fits. false≢true (sym outside ∙ in-range-so fits)) (λ refused. refused)))
+
+  pub met-fits : let met = met-request (in-range request) request in (met .threads ≤ thread-limit) × (met .objects ≤ object-limit)
+  unfolding met-request
+  met-fits =
+      split (in-range request) (λ fits. let (one, few, some, fewer) = range-of fits in rw fits (few, fewer)) (λ outside. rw outside (omega arith, omega arith))
 
   -- every thread is idle
   pub fresh-thread-at : (n : ℕ) → thread-at (table-of request) n ≡ no-thread

@@ -2,7 +2,7 @@
 use Prim.Native.Nat.{ℕ, _≤_}
 use mathlib.Core.Bool.{Bool, false}
 use lib.Dec.{eqb, ltb}
-use Rattle.laws.specs.Choice.{pick}
+use Rattle.laws.specs.Choice.{pick, both, within}
 use Rattle.laws.specs.Sequence.{tabulate}
 use Rattle.lock_word.specs.Write.{free-word, anonymous-word}
 use Rattle.lock_table.specs.Limits.{thread-limit, object-limit}
@@ -56,12 +56,16 @@ fresh-of request =
     (pick (eqb (request .objects) 0) refused-of
     (pick (ltb object-limit (request .objects)) refused-of (record { answer = Made; table = table-of request }))))
 
--- the same as the code does it: nothing is made of a request that is refused, and no table that was made is without threads
-unfoldable pub made-answer : FreshRequest → FreshAnswer
-made-answer made = pick (eqb (made .threads) 0) SizeOutOfRange Made
+-- The same as the code does it, which makes one table either way: whether the request can be met, the request that is met, and the answer.
+unfoldable pub in-range : FreshRequest → Bool
+in-range request =
+    both (within 1 thread-limit (request .threads)) (within 1 object-limit (request .objects))
 
-abbrev pub made-of : FreshRequest → FreshTable
-made-of made = record { answer = made-answer made; table = table-of made }
+unfoldable pub met-request : Bool → FreshRequest → FreshRequest
+met-request met request = pick met request (sized-request 0 0 false)
+
+unfoldable pub met-answer : Bool → FreshAnswer
+met-answer met = pick met Made SizeOutOfRange
 
 -- document 01's number for the answer
 unfoldable pub fresh-returned : FreshAnswer → ℕ

@@ -10,7 +10,7 @@ ghost use mathlib.Core.Path.{_≡_};
 ghost use Prim.Native.Nat.{_≤_};
 ghost use Rattle.laws.specs.Sequence.{tabulate};
 ghost use Rattle.lock_table.specs.Limits.{thread-limit, object-limit};
-ghost use Rattle.lock_table.specs.Fresh.{sized-request, first-word, fresh-thread, fresh-object, table-of, fresh-of, made-answer, made-of, fresh-returned};
+ghost use Rattle.lock_table.specs.Fresh.{sized-request, first-word, fresh-thread, fresh-object, table-of, fresh-of, in-range, met-request, met-answer, fresh-returned};
 
 // What a fresh table is asked to be.
 pub struct FreshRequest {
@@ -106,44 +106,40 @@ fn table_of(request: FreshRequest) -> Table
     }
 }
 
-// What is made of a request: what it asks for, or nothing where that cannot be made. So `fresh` makes its table in one place, and has room on the stack
-// for one.
-fn made_request(request: FreshRequest) -> FreshRequest
-    ensures { λ r. ⌜ (r .threads ≤ thread-limit) × (r .objects ≤ object-limit) × (fresh-of request ≡ made-of r) ⌝ }
+fn in_range(request: FreshRequest) -> bool
+    ensures { λ r. ⌜ r ≡ in-range request ⌝ }
 {
-    let nothing = sized_request(0, 0, false);
-    if request.threads == 0 {
-        return nothing;
-    }
-    if (THREADS as u16) < request.threads {
-        return nothing;
-    }
-    if request.objects == 0 {
-        return nothing;
-    }
-    if (OBJECTS as u16) < request.objects {
-        return nothing;
-    }
-    request
+    ((1 <= request.threads) & (request.threads <= (THREADS as u16)))
+        & ((1 <= request.objects) & (request.objects <= (OBJECTS as u16)))
 }
 
-fn made_answer(made: FreshRequest) -> FreshAnswer
-    ensures { λ r. ⌜ r ≡ made-answer made ⌝ }
+// The request, or one of nothing where it cannot be met.
+fn met_request(met: bool, request: FreshRequest) -> FreshRequest
+    ensures { λ r. ⌜ r ≡ met-request met request ⌝ }
 {
-    if made.threads == 0 {
-        return FreshAnswer::SizeOutOfRange;
+    if met {
+        return request;
     }
-    FreshAnswer::Made
+    sized_request(0, 0, false)
 }
 
-// A fresh table as asked, or 22.
+fn met_answer(met: bool) -> FreshAnswer
+    ensures { λ r. ⌜ r ≡ met-answer met ⌝ }
+{
+    if met {
+        return FreshAnswer::Made;
+    }
+    FreshAnswer::SizeOutOfRange
+}
+
+// A fresh table as asked, or 22. One table is made either way, so that there is room for no more than one on the stack.
 pub fn fresh(request: FreshRequest) -> FreshTable
     ensures { λ r. ⌜ r ≡ fresh-of request ⌝ }
 {
-    let made = made_request(request);
+    let met = in_range(request);
     FreshTable {
-        answer: made_answer(made),
-        table: table_of(made),
+        answer: met_answer(met),
+        table: table_of(met_request(met, request)),
     }
 }
 

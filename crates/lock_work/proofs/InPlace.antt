@@ -1,4 +1,5 @@
--- One turn of the walk along the waiters, and its end, for the loop of the code, which reads and writes records where they are in their array.
+-- A tick as the code does it, with records read and written where they are in their array: one turn of the walk along the waiters and its end, the
+-- handing, an object on which somebody waits, and the loop over the objects.
 use Prim.Native.Nat.{ℕ, zero, suc, _+_, _-_, _<_}
 use mathlib.Core.Logic.{_≢_}
 use mathlib.Core.Path.{_≡_, refl, sym, ap, _∙_}
@@ -8,24 +9,24 @@ use native.Mathlib.Numerals.{add-one, sub-one}
 use native.Mathlib.Omega.{arith}
 use lib.Dec.{eqb, ltb}
 use lib.ListN.{getD, set}
-use lib.Seq.{set-getD}
 use borrow.Author.Tests.{eq-eqb, ne-eqb, ltb-false}
 use Rattle.laws.specs.Choice.{pick, within}
 use Rattle.laws.proofs.Choice.{split, both-second}
+use Rattle.lock_rules.specs.declared.ChainWork.{ChainWork}
+use Rattle.lock_rules.specs.declared.ChainWork.the-variants.{Hand, Stay}
 use Rattle.lock_table.specs.Limits.{thread-limit, object-limit}
 use Rattle.lock_table.specs.Record.{no-thread, no-object, with-next, with-monitor}
-use Rattle.lock_table.specs.Access.{thread-at, set-thread, object-at, set-object, next-of}
-use Rattle.lock_table.specs.Chain.{hang, handed-of}
-use Rattle.lock_table.specs.Monitor.{hand-of}
-use Rattle.lock_table.specs.Place.{place-within, thread-place}
+use Rattle.lock_table.specs.Access.{thread-at, set-thread, object-at, set-object}
+use Rattle.lock_table.specs.Chain.{hang}
+use Rattle.lock_table.specs.Place.{thread-place}
 use Rattle.lock_table.specs.declared.record.{ThreadRecord.ThreadRecord, ObjectRecord.ObjectRecord, Monitor.Monitor, Table.Table}
 use Rattle.lock_table.proofs.Records.{thread-in, set-thread-in, object-in, set-object-in}
-use Rattle.lock_perform.specs.Moving.{if-record, goes-on}
-use Rattle.lock_perform.proofs.InPlace.{with-threads, read-in-place, set-by-in-place, passes-some, passes-inside, passes-more}
+use Rattle.lock_perform.specs.Moving.{CarriedOut, touched, carried-out, relink, plan-at, goes-on}
+use Rattle.lock_perform.specs.declared.moving.ChainPlan.{ChainPlan}
+use Rattle.lock_perform.proofs.InPlace.{with-threads, set-by-in-place, relinked-alone, passes-some, passes-inside, passes-more}
 use Rattle.lock_work.specs.Waiters.{PartedWaiters, ticks-after, runs-out, waiter-after, no-parting, last-behind, passed, part-waiters, linked-to}
-use Rattle.lock_work.specs.Tick.{Monitored, moved-monitor, hand-over, hand-if-free, next-holder, handed-if-free, tick-waited, tick-object, tick-to}
+use Rattle.lock_work.specs.Tick.{moved-monitor, handing, hand-if-free, tick-waited, tick-object, tick-to}
 use Rattle.lock_work.specs.declared.waiters.Parting.{Parting}
-use Rattle.lock_work.specs.declared.ticking.Handing.{Handing}
 
 part-step : {left : ℕ} → 0 < left → (t : Table) (parting : Parting) (at : ℕ) → within 1 thread-limit at ≡ true
     → let waiter = thread-at t at in
@@ -83,35 +84,27 @@ part-stops at left test t parting = by left test
 
 -- a monitor that nobody holds is handed to the first of the entry chain; one that somebody holds leaves every record
 pub handed-in-place : (t : Table) (monitor : Monitor)
-    → let place = thread-place (next-holder monitor) in
-    let handing = handed-if-free monitor (getD (t .threads) place no-thread) in
-    _≡_ {A = Monitored} (record { table = with-threads t (set (t .threads) place (handing .thread)); monitor = handing .monitor }) (hand-if-free t monitor)
-unfolding hand-if-free next-holder
+    → let work = handing monitor in
+    let place = thread-place (touched work monitor) in
+    let planned = plan-at work monitor 0 0 (getD (t .threads) place no-thread) in
+    carried-out (with-threads t (set (t .threads) place (planned .changed))) planned ≡ hand-if-free t monitor
+unfolding handing hand-if-free
 handed-in-place t monitor = at (eqb (monitor .holder) 0)
   where
     at : (free : Bool)
-        → let first = pick free (monitor .entry) 0 in
-        let there = getD (t .threads) (thread-place first) no-thread in
-        _≡_ {A = Monitored}
-        (record {
-          table = with-threads t (set (t .threads) (thread-place first) (if-record first (handed-of there) there));
-          monitor = pick free (hand-of monitor (if-record first there no-thread .next) .monitor) monitor;
-        })
-        (pick free (hand-over t monitor) (record { table = t; monitor = monitor }))
-    at true =
-        let first = monitor .entry in
-        λ j. record {
-          table = set-by-in-place t first handed-of j;
-          monitor = hand-of monitor (read-in-place t first j .next) .monitor;
-        }
-    at false = unfold place-within if-record in ap (λ (table : Table). record { table = table; monitor = monitor }) (ap (with-threads t) (set-getD (t .threads) 0 no-thread))
+        → let work = pick free Hand Stay in
+        let place = thread-place (touched work monitor) in
+        let planned = plan-at work monitor 0 0 (getD (t .threads) place no-thread) in
+        carried-out (with-threads t (set (t .threads) place (planned .changed))) planned ≡ relink t monitor work 0 0
+    at true = relinked-alone t monitor Hand 0 0 refl
+    at false = relinked-alone t monitor Stay 0 0 refl
 
 -- an object on which somebody waits: what the code's locals are when its waiters are parted, the entry chain is hung together and the monitor is handed
 module _ (t : Table) (done : ℕ) (small : done < object-limit) where
   abbrev number : ℕ
   number = done + 1
 
-  abbrev after-hand : Monitored → ObjectRecord → Table
+  abbrev after-hand : CarriedOut → ObjectRecord → Table
   after-hand after object =
       record {
         threadcount = after .table .threadcount;
@@ -128,7 +121,7 @@ module _ (t : Table) (done : ℕ) (small : done < object-limit) where
       let place : number - 1 ≡ done = omega arith in
       object-in t number (λ none. omega (arith, none)) (omega (arith, small)) ∙ ap (λ (n : ℕ). getD (t .objects) n no-object) place
 
-  written-here : (after : Monitored) (object : ObjectRecord)
+  written-here : (after : CarriedOut) (object : ObjectRecord)
       → set-object (after .table) number (with-monitor object (after .monitor)) ≡ after-hand after object
   written-here after object =
       let place : number - 1 ≡ done = omega arith in
@@ -148,15 +141,16 @@ module _ (t : Table) (done : ℕ) (small : done < object-limit) where
   by-definition object is parted parted-is =
       sym (written-here (hand-if-free (hung-behind parted object) (moved-monitor (object .monitor) (parted .parting))) object) ∙ rw (parted-is, is) refl
 
-  pub waited-in-place : {object : ObjectRecord} {parted : PartedWaiters} {hung : Table} {monitor : Monitor} {place : ℕ} {handing : Handing} {written : ObjectRecord}
+  pub waited-in-place : {object : ObjectRecord} {parted : PartedWaiters} {hung : Table} {monitor : Monitor} {work : ChainWork} {heir place : ℕ} {planned : ChainPlan}
+      {written : ObjectRecord}
       → object ≡ getD (t .objects) done no-object → parted ≡ part-waiters thread-limit t no-parting (object .monitor .waiting) → hung ≡ hung-behind parted object
-      → monitor ≡ moved-monitor (object .monitor) (parted .parting) → place ≡ thread-place (next-holder monitor)
-      → handing ≡ handed-if-free monitor (getD (hung .threads) place no-thread) → written ≡ with-monitor object (handing .monitor)
-      → record { threadcount = hung .threadcount; objectcount = hung .objectcount; threads = set (hung .threads) place (handing .thread); objects = set (hung .objects) done written }
+      → monitor ≡ moved-monitor (object .monitor) (parted .parting) → work ≡ handing monitor → heir ≡ touched work monitor → place ≡ thread-place heir
+      → planned ≡ plan-at work monitor 0 0 (getD (hung .threads) place no-thread) → written ≡ with-monitor object (planned .monitor)
+      → record { threadcount = hung .threadcount; objectcount = hung .objectcount; threads = set (hung .threads) place (planned .changed); objects = set (hung .objects) done written }
       ≡ tick-waited t number
-  waited-in-place {object} {parted} {hung} is parted-is hung-is monitor-is place-is handing-is written-is =
-      rw (written-is, handing-is, place-is, monitor-is, hung-is)
-      (ap (λ (after : Monitored). after-hand after object) (handed-in-place (hung-behind parted object) (moved-monitor (object .monitor) (parted .parting)))
+  waited-in-place {object} {parted} {hung} is parted-is hung-is monitor-is work-is heir-is place-is planned-is written-is =
+      rw (written-is, planned-is, place-is, heir-is, work-is, monitor-is, hung-is)
+      (ap (λ (after : CarriedOut). after-hand after object) (handed-in-place (hung-behind parted object) (moved-monitor (object .monitor) (parted .parting)))
       ∙ by-definition object (is ∙ sym read-here) parted parted-is)
 
 -- the next object, on which nobody waits, and one on which somebody does

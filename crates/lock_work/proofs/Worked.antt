@@ -13,8 +13,7 @@ use Rattle.lock_perform.specs.Moving.{CarriedOut, touched, plan-at, moved-whole
 use Rattle.lock_perform.specs.Perform.{own-written, object-written}
 use Rattle.lock_perform.specs.declared.moving.ChainPlan.{ChainPlan}
 use Rattle.lock_perform.proofs.InPlace.{with-threads, set-both-in-place, relinked, after-whole-walk}
-use Rattle.lock_work.specs.Work.{work-done}
-use Rattle.lock_work.specs.declared.settling.Work.the-variants.{Chains}
+use Rattle.lock_work.specs.Work.{chains-done}
 use Rattle.lock_work.specs.declared.settling.WorkDone.{WorkDone}
 
 -- the whole chain moved, one record changed, and one chain hung behind another
@@ -52,8 +51,7 @@ module _ (t : Table) (thread number : ℕ) (own : ThreadRecord) (object : Object
             (object-written number object (planned .monitor) (getD (after .objects) (object-place number) no-object));
         unparked = planned .unparked;
       })
-      (work-done (Chains work) t thread number own object)
-  unfolding work-done
+      (chains-done t thread number own object work)
   done =
       let moved = move-all thread-limit t first in
       let planned = plan-in moved in
@@ -75,6 +73,6 @@ module _ (t : Table) (thread number : ℕ) (own : ThreadRecord) (object : Object
       → after ≡ relinked-in moved planned place → own-place ≡ thread-place thread
       → own-after ≡ own-written thread own (getD (after .threads) own-place no-thread) → home ≡ object-place number
       → object-after ≡ object-written number object (planned .monitor) (getD (after .objects) home no-object)
-      → record { table = both-in after own-place home own-after object-after; unparked = planned .unparked } ≡ work-done (Chains work) t thread number own object
+      → record { table = both-in after own-place home own-after object-after; unparked = planned .unparked } ≡ chains-done t thread number own object work
   work-in-place whole-is moved-is touches-are place-is planned-is after-is own-place-is own-is home-is object-is =
       rw (object-is, home-is, own-is, own-place-is, after-is, planned-is, place-is, touches-are, moved-is, whole-is) done

@@ -8,6 +8,4 @@ pub use settling::Work;
 pub use settling::WorkDone;
 pub use settling::work_done;
 pub use settling::work_stays;
-pub use ticking::Handing;
-pub use ticking::tick;
 pub use waiters::Parting;

@@ -18,15 +18,14 @@ use lock_table::moved;
 use lock_table::object_place;
 use lock_table::thread_place;
 ghost use mathlib.Core.Path.{_≡_};
-ghost use Rattle.lock_work.specs.declared.settling.Work.the-variants.{Chains};
-ghost use Rattle.lock_work.specs.Work.{work-stays, work-done};
+ghost use Rattle.lock_work.specs.Work.{work-stays, chains-done, work-done};
 
 pub enum Work {
     Chains(ChainWork), // a rule's, on the chains of its object
     Tick, // on every waiting chain
 }
 
-// Whether the two records of the turn are all that it changes.
+// Whether the two records of the event are all that it changes.
 pub fn work_stays(work: Work) -> bool
     ensures { λ r. ⌜ r ≡ work-stays work ⌝ }
 {
@@ -52,7 +51,7 @@ fn chains_done(
     object: ObjectRecord,
     work: ChainWork,
 ) -> WorkDone
-    ensures { λ r. ⌜ r ≡ work-done (Chains work) table thread number own object ⌝ }
+    ensures { λ r. ⌜ r ≡ chains-done table thread number own object work ⌝ }
 {
     let mut changed = table;
     let start = object.monitor;
@@ -89,7 +88,7 @@ fn chains_done(
     }
 }
 
-// The work of a turn that leaves some.
+// The work of an event that leaves some.
 pub fn work_done(
     table: Table,
     thread: u8,

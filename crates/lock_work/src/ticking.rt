@@ -9,23 +9,16 @@ use crate::waiters::waiter_after;
 use chains::Chain;
 use lock_perform::goes_on;
 use lock_perform::hung;
-use lock_perform::if_record;
+use lock_perform::plan_at;
+use lock_perform::touched;
+use lock_rules::ChainWork;
 use lock_table::Monitor;
 use lock_table::OBJECTS;
 use lock_table::THREADS;
 use lock_table::Table;
-use lock_table::ThreadRecord;
-use lock_table::handed;
-use lock_table::no_thread;
 use lock_table::thread_place;
 ghost use mathlib.Core.Path.{_≡_};
-ghost use Rattle.lock_work.specs.Tick.{moved-monitor, next-holder, handed-if-free, tick};
-
-// A monitor that was handed where nobody held it, and the record at the place of whom it went to.
-pub struct Handing {
-    pub thread: ThreadRecord,
-    pub monitor: Monitor,
-}
+ghost use Rattle.lock_work.specs.Tick.{moved-monitor, handing, tick};
 
 // Those that ran out join the entry chain; the waiting chain is left to the others.
 fn moved_monitor(monitor: Monitor, parting: Parting) -> Monitor
@@ -38,39 +31,19 @@ fn moved_monitor(monitor: Monitor, parting: Parting) -> Monitor
         .join(Chain::Entry, taken.first)
 }
 
-// Whom a monitor is handed to: the first of its entry chain where nobody holds it, else nobody.
-fn next_holder(monitor: Monitor) -> u8
-    ensures { λ r. ⌜ r ≡ next-holder monitor ⌝ }
+// The work that hands a monitor which nobody holds.
+fn handing(monitor: Monitor) -> ChainWork
+    ensures { λ r. ⌜ r ≡ handing monitor ⌝ }
 {
     if monitor.holder == 0 {
-        return monitor.entry;
+        return ChainWork::Hand;
     }
-    0
-}
-
-fn handed_if_free(monitor: Monitor, there: ThreadRecord) -> Handing
-    ensures { λ r. ⌜ r ≡ handed-if-free monitor there ⌝ }
-{
-    let first = next_holder(monitor);
-    let thread = if_record(first, handed(there), there);
-    if monitor.holder == 0 {
-        let before = if_record(first, there, no_thread());
-        let after = monitor.hand(before.next);
-        let handed = after.monitor;
-        return Handing {
-            thread: thread,
-            monitor: handed,
-        };
-    }
-    Handing {
-        thread: thread,
-        monitor: monitor,
-    }
+    ChainWork::Stay
 }
 
 // All objects, rising. Where nobody waits nobody moves, and a monitor that nobody holds has nobody to be handed to. The table stands in this function
 // alone: the waiters are parted, those that go are hung behind the entry chain, and its first is handed the monitor.
-pub fn tick(table: Table) -> Table
+pub(crate) fn tick(table: Table) -> Table
     ensures { λ r. ⌜ r ≡ tick table ⌝ }
 {
     let mut changed = table;
@@ -105,11 +78,12 @@ pub fn tick(table: Table) -> Table
                 left = left - 1;
             }
             let monitor = moved_monitor(object.monitor, parting);
-            let place = thread_place(next_holder(monitor));
-            let handing = handed_if_free(monitor, changed.threads[place]);
-            let thread = handing.thread;
-            changed.threads[place] = thread;
-            let handed = handing.monitor;
+            let work = handing(monitor);
+            let place = thread_place(touched(work, monitor));
+            let planned = plan_at(work, monitor, 0, 0, changed.threads[place]);
+            let heir = planned.changed;
+            changed.threads[place] = heir;
+            let handed = planned.monitor;
             changed.objects[home] = object.with_monitor(handed);
         }
     }

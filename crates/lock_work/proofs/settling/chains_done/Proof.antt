@@ -14,14 +14,14 @@ use Rattle.lock_work.proofs.settling.chains_done.Statement.{statement}
 use Rattle.lock_work.proofs.settling.chains_done.Tie as tie
 
 abbrev Inv-loop : tie.InvT-loop
-Inv-loop thread number own object work changed₀ start at₀ left₀ changed at left = move-all 32 changed₀ at₀ ≡ move-all left changed at
+Inv-loop thread number own object work changed₀ start at₀ left₀ changed at left = move-all thread-limit changed₀ at₀ ≡ move-all left changed at
 
 abbrev μ-loop : tie.MeasureT-loop
 μ-loop thread number own object work changed₀ start at₀ left₀ changed at left = left
 
 abbrev Inv-loop2 : tie.InvT-loop2
 Inv-loop2 thread number own object changed₀ at₀ left₀ place planned changed at left =
-    hang 32 changed₀ at₀ (planned .back) ≡ hang left changed at (planned .back)
+    hang thread-limit changed₀ at₀ (planned .back) ≡ hang left changed at (planned .back)
 
 abbrev μ-loop2 : tie.MeasureT-loop2
 μ-loop2 thread number own object changed₀ at₀ left₀ place planned changed at left = left

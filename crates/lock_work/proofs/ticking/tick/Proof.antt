@@ -7,7 +7,6 @@ use native.Mathlib.Omega.{arith}
 use borrow.Author.Needs.{needs}
 use Rattle.lock_table.specs.Limits.{thread-limit, object-limit}
 use Rattle.lock_table.specs.Chain.{hang}
-use Rattle.lock_table.specs.Place.{thread-place}
 use Rattle.lock_table.specs.declared.record.Table.{Table}
 use Rattle.lock_table.proofs.Places.{place-inside}
 use Rattle.lock_perform.specs.Moving.{goes-on}
@@ -96,29 +95,34 @@ loop3-again c =
     rw (c .hung .ensures) (loop .inv ∙ hang-passes (loop .at) (loop .left) (passing-3 test) (loop .changed) (parting .taken .first))
 
 -- the place of whom the monitor is handed to
-heir-in : tie.Need-element-copy-out-handed-if-free Inv-loop2 μ-loop2 Inv-loop3 μ-loop3 Inv-loop μ-loop
+heir-in : tie.Need-element-copy-out-plan-at Inv-loop2 μ-loop2 Inv-loop3 μ-loop3 Inv-loop μ-loop
 heir-in c = rw (c .thread-place2 .ensures) (place-inside thread-limit _ (omega arith))
+
+-- where the object's turn began
+abbrev begun : tie.After-with-monitor Inv-loop2 μ-loop2 Inv-loop3 μ-loop3 Inv-loop μ-loop → tie.In-loop Inv-loop2 μ-loop2 Inv-loop3 μ-loop3 Inv-loop μ-loop
+begun c = c .before .before .before .before .before .before .before .before .before .before .before .before .before .before .before .before .before .before .before
 
 loop-again : tie.Need-loop-again Inv-loop2 μ-loop2 Inv-loop3 μ-loop3 Inv-loop μ-loop
 loop-again c =
-    let handed = c .before .before .before in
-    let place = handed .before .before in
+    let planned = c .before .before .before in
+    let place = planned .before .before in
     let heir = place .before in
-    let monitor = heir .before in
+    let work = heir .before in
+    let monitor = work .before in
     let hung = monitor .before in
     let walked = hung .before .before in
     let parted = walked .before in
     let waiting = parted .before .before in
     let turn = waiting .before .before in
-    let here = turn .before .before .before in
+    let here = begun c in
     let loop = here .before .loop in
     let table = here .before .before .args .table in
     let small = here .loop-test .taken in
     let parted-is = sym (waiting .loop2 .inv ∙ part-stops (waiting .loop2 .at) (waiting .loop2 .left) (sym (parted .before .goes-on .ensures) ∙ parted .if2 .left) (waiting .loop2 .changed) (waiting .loop2 .parting)) in
     let hung-is = sym (walked .loop3 .inv ∙ hang-stops (walked .loop3 .at) (walked .loop3 .left) (sym (hung .before .goes-on2 .ensures) ∙ hung .if3 .left) (walked .loop3 .changed) (waiting .loop2 .parting .taken .first)) in (
       omega (arith, small),
-      waited-in-place (loop .changed) (loop .done) small refl parted-is hung-is (monitor .moved-monitor .ensures)
-          (place .thread-place2 .ensures ∙ ap (λ n. thread-place n) (heir .next-holder .ensures)) (handed .handed-if-free .ensures) (c .with-monitor .ensures)
+      waited-in-place (loop .changed) (loop .done) small refl parted-is hung-is (monitor .moved-monitor .ensures) (work .handing .ensures)
+          (heir .touched .ensures) (place .thread-place2 .ensures) (planned .plan-at .ensures) (c .with-monitor .ensures)
           ∙ (ap (λ (t : Table). tick-waited t (loop .done + 1)) (loop .inv .1)
           ∙ tick-takes table (loop .done) small (rw (loop .inv .1) at (turn .if1 .taken))),
     )
@@ -183,15 +187,16 @@ tick-spec =
     (λ c κs. tt)
     (λ c κs. tt)
     (λ c κs. tt)
+    (λ c κs. tt)
     (λ c. omega (arith, heir-in c))
     heir-in
     (λ c κs. tt)
     (λ c. omega (arith, heir-in (c .before .before .before)))
     (λ c. heir-in (c .before .before .before))
     (λ c κs. tt)
-    (λ c. omega (arith, c .before .before .before .before .before .before .before .before .before .before .before .before .before .before .before .before .before .before .loop-test .taken))
-    (λ c. omega (arith, c .before .before .before .before .before .before .before .before .before .before .before .before .before .before .before .before .before .before .loop-test .taken))
-    (λ c. omega (arith, c .before .before .before .before .before .before .before .before .before .before .before .before .before .before .before .before .before .before .loop-test .taken))
+    (λ c. omega (arith, begun c .loop-test .taken))
+    (λ c. omega (arith, begun c .loop-test .taken))
+    (λ c. omega (arith, begun c .loop-test .taken))
     loop-again
     (λ c. omega (arith, c .before .before .before .loop-test .taken))
     loop-again-2
