@@ -20,7 +20,7 @@
 //! ```
 //!
 //! What the calls answer is proved of the library that this crate links; the declarations in [`raw`] are not checked against its source. The crate needs
-//! `core` alone. A call takes up to 7.0 KB of stack.
+//! `core` alone. A call takes up to 7.1 KB of stack.
 
 #![no_std]
 #![deny(missing_docs)]
