@@ -19,8 +19,8 @@ use Rattle.lock_table.specs.Chain.{hang, moved, move-all}
 use Rattle.lock_table.specs.Place.{place-within, thread-place, object-place}
 use Rattle.lock_table.specs.declared.record.{ThreadRecord.ThreadRecord, ObjectRecord.ObjectRecord, Monitor.Monitor, Table.Table}
 use Rattle.lock_table.proofs.Walks.{move-all-turn, move-all-end, move-all-past, move-none, hang-turn, hang-last, hang-end, hang-past, hang-none}
-use Rattle.lock_perform.specs.Moving.{CarriedOut, touched, plan, if-record, carried-out, relink, after-whole, plan-at, goes-on, hung}
-use Rattle.lock_perform.specs.Perform.{own-written, if-object, object-written}
+use Rattle.lock_perform.specs.Moving.{CarriedOut, touched, plan, carried-out, relink, after-whole}
+use Rattle.lock_perform.specs.InPlace.{if-record, plan-at, goes-on, hung, own-written, if-object, object-written}
 
 pub read-in-place : (t : Table) (n : ℕ) → if-record n (getD (t .threads) (thread-place n) no-thread) no-thread ≡ thread-at t n
 unfolding place-within if-record thread-at

@@ -3,3 +3,4 @@ pub mod State
 pub mod Sight
 pub mod Moving
 pub mod Perform
+pub mod InPlace

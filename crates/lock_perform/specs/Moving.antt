@@ -1,15 +1,14 @@
 -- What the work of a rule on chains does to the table's threads and to the monitor of the step's object (document 01, "Steps").
 use Prim.Native.Nat.{ℕ, _-_, _^_}
-use mathlib.Core.Bool.{Bool}
 use lib.Dec.{eqb, ltb}
-use Rattle.laws.specs.Choice.{pick, both, within}
+use Rattle.laws.specs.Choice.{pick}
 use Rattle.chains.specs.declared.named.Chain.{Chain}
 use Rattle.lock_rules.specs.declared.Taken.{Taken}
 use Rattle.lock_rules.specs.declared.Taken.the-variants.{First, All}
 use Rattle.lock_rules.specs.declared.ChainWork.{ChainWork}
 use Rattle.lock_rules.specs.declared.ChainWork.the-variants.{Stay, Join, JoinAndHand, Hand, Move, SendBack}
 use Rattle.lock_table.specs.Limits.{thread-limit}
-use Rattle.lock_table.specs.Record.{no-thread, with-next, with-activity}
+use Rattle.lock_table.specs.Record.{with-next, with-activity}
 use Rattle.lock_table.specs.Access.{thread-at, set-thread}
 use Rattle.lock_table.specs.Monitor.{hand-of, first-in, with-first, join, move-to-entry}
 use Rattle.lock_table.specs.Chain.{hang, handed-of, moved, move-all}
@@ -113,10 +112,6 @@ plan Hand monitor thread object before = plan-hand monitor before
 plan (Move from which) monitor thread object before = plan-move monitor before from which
 plan (SendBack owner) monitor thread object before = unlinked (sent-back-of object before) monitor 0
 
--- what is read and written for a number: number 0 and numbers past the end have no record
-unfoldable pub if-record : ℕ → ThreadRecord → ThreadRecord → ThreadRecord
-if-record number there other = pick (eqb number 0) other (pick (ltb thread-limit number) other there)
-
 -- the table and the monitor after a work, and the set of threads that it unparked
 pub record CarriedOut : Type 0 where
   pub table : Table
@@ -155,25 +150,3 @@ after-whole table whole monitor work thread object =
 -- the work of `thread` at `object` carried out
 abbrev pub carry-out : Table → Monitor → ChainWork → ℕ → ℕ → CarriedOut
 carry-out table monitor work thread object = after-whole table (moved-whole work monitor) monitor work thread object
-
--- The same as the code does it, one record at a time.
--- the plan by the record that is at the place of the changed one; where nobody's changes, that record stays
-abbrev pub plan-at : ChainWork → Monitor → ℕ → ℕ → ThreadRecord → ChainPlan
-plan-at work monitor thread object there =
-    let number = touched work monitor in
-    let planned = plan work monitor thread object (if-record number there no-thread) in
-    record {
-      changed = if-record number (planned .changed) there;
-      monitor = planned .monitor;
-      unparked = planned .unparked;
-      front = planned .front;
-      back = planned .back;
-    }
-
--- a walk along a chain goes on with this thread: there is one, and no more were passed than there are
-abbrev pub goes-on : ℕ → ℕ → Bool
-goes-on at left = both (ltb 0 left) (within 1 thread-limit at)
-
--- a thread of a chain behind which another is hung
-unfoldable pub hung : ThreadRecord → ℕ → ThreadRecord
-hung thread back = pick (eqb (thread .next) 0) (with-next thread back) thread

@@ -1,6 +1,5 @@
 -- What an effect does to the two records that it is about, and how they and its work on the chains go into the table.
 use Prim.Native.Nat.{ℕ}
-use lib.Dec.{eqb, ltb}
 use mathlib.Core.Bool.{Bool, true, false}
 use Rattle.laws.specs.Choice.{pick}
 use Rattle.lock_word.specs.Write.{free-word, flat-word, reserved-word, fat-word}
@@ -10,7 +9,6 @@ use Rattle.lock_rules.specs.declared.WordChange.the-variants.{Unchanged, Freed,
 use Rattle.lock_rules.specs.declared.ChainWork.{ChainWork}
 use Rattle.lock_rules.specs.declared.ChainWork.the-variants.{Stay, Join, JoinAndHand, Hand, Move, SendBack}
 use Rattle.lock_rules.specs.declared.Effect.{Effect}
-use Rattle.lock_table.specs.Limits.{object-limit}
 use Rattle.lock_table.specs.Access.{set-thread, set-object, next-of}
 use Rattle.lock_table.specs.Record.{with-next, with-word, with-flag, with-monitor}
 use Rattle.lock_table.specs.Monitor.{held-by, with-depth}
@@ -18,7 +16,7 @@ use Rattle.lock_table.specs.declared.record.Monitor.{Monitor}
 use Rattle.lock_table.specs.declared.record.ThreadRecord.{ThreadRecord}
 use Rattle.lock_table.specs.declared.record.ObjectRecord.{ObjectRecord}
 use Rattle.lock_table.specs.declared.record.Table.{Table}
-use Rattle.lock_perform.specs.Moving.{if-record, carry-out}
+use Rattle.lock_perform.specs.Moving.{carry-out}
 
 -- the word after a change by `thread` at `object`
 unfoldable pub word-after : ℕ → ℕ → ℕ → WordChange → ℕ
@@ -59,13 +57,3 @@ worked table thread number own object work =
 abbrev pub settled : Table → ℕ → ℕ → ThreadRecord → ObjectRecord → ChainWork → Table
 settled table thread number own object work =
     pick (stays work) (set-object (set-thread table thread own) number object) (worked table thread number own object work)
-
--- The same as the code does it, one record at a time: what is written at the places of the two, where `there` is what stood there after the work.
-abbrev pub own-written : ℕ → ThreadRecord → ThreadRecord → ThreadRecord
-own-written thread own there = if-record thread (with-next own (there .next)) there
-
-unfoldable pub if-object : ℕ → ObjectRecord → ObjectRecord → ObjectRecord
-if-object number there other = pick (eqb number 0) other (pick (ltb object-limit number) other there)
-
-abbrev pub object-written : ℕ → ObjectRecord → Monitor → ObjectRecord → ObjectRecord
-object-written number object monitor there = if-object number (with-monitor object monitor) there

@@ -13,7 +13,8 @@ use lock_table::narrow;
 use lock_table::no_thread;
 ghost use mathlib.Core.Path.{_≡_};
 ghost use Rattle.lock_perform.specs.Moving.{look-again, back-from, sent-back-of, touched-by-move, touched, thread-set, unlinked, joining, moving};
-ghost use Rattle.lock_perform.specs.Moving.{plan-hand, plan-join-and-hand, plan-move, plan, if-record, plan-at, whole-move, moved-whole, goes-on, hung};
+ghost use Rattle.lock_perform.specs.Moving.{plan-hand, plan-join-and-hand, plan-move, plan, whole-move, moved-whole};
+ghost use Rattle.lock_perform.specs.InPlace.{if-record, plan-at, goes-on, hung};
 
 // What a work does: the record that it changes as it is then, the monitor after it, whom it unparks, and which chain is hung behind which; 0 for
 // nobody.

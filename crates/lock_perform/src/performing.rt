@@ -9,7 +9,8 @@ use lock_table::ObjectRecord;
 use lock_table::ThreadRecord;
 use lock_word::Depth;
 ghost use mathlib.Core.Path.{_≡_};
-ghost use Rattle.lock_perform.specs.Perform.{word-after, begun-monitor, object-after, stays, own-written, if-object, object-written};
+ghost use Rattle.lock_perform.specs.Perform.{word-after, begun-monitor, object-after, stays};
+ghost use Rattle.lock_perform.specs.InPlace.{own-written, if-object, object-written};
 
 fn word_after(thread: u8, object: u8, word: u32, change: WordChange) -> u32
     ensures { λ r. ⌜ r ≡ word-after thread object word change ⌝ }

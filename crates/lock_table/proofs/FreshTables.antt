@@ -13,7 +13,8 @@ use Rattle.laws.proofs.Sequence.{tabulate-at}
 use Rattle.lock_table.specs.Limits.{thread-limit, object-limit}
 use Rattle.lock_table.specs.Record.{no-thread, no-object, with-word}
 use Rattle.lock_table.specs.Access.{thread-at, object-at}
-use Rattle.lock_table.specs.Fresh.{first-word, fresh-thread, fresh-object, table-of, refused-of, InRange, fresh-of, in-range, met-request, met-answer}
+use Rattle.lock_table.specs.Fresh.{first-word, fresh-thread, fresh-object, table-of, refused-of, InRange, fresh-of}
+use Rattle.lock_table.specs.MetRequest.{in-range, met-request, met-answer}
 use Rattle.lock_table.specs.declared.fresh_table.FreshRequest.{FreshRequest}
 use Rattle.lock_table.specs.declared.fresh_table.FreshAnswer.the-variants.{Made}
 use Rattle.lock_table.proofs.Records.{object-in, object-beyond}

@@ -2,7 +2,7 @@
 use Prim.Native.Nat.{ℕ, _≤_}
 use mathlib.Core.Bool.{Bool, false}
 use lib.Dec.{eqb, ltb}
-use Rattle.laws.specs.Choice.{pick, both, within}
+use Rattle.laws.specs.Choice.{pick}
 use Rattle.laws.specs.Sequence.{tabulate}
 use Rattle.lock_word.specs.Write.{free-word, anonymous-word}
 use Rattle.lock_table.specs.Limits.{thread-limit, object-limit}
@@ -55,17 +55,6 @@ fresh-of request =
     (pick (ltb thread-limit (request .threads)) refused-of
     (pick (eqb (request .objects) 0) refused-of
     (pick (ltb object-limit (request .objects)) refused-of (record { answer = Made; table = table-of request }))))
-
--- The same as the code does it, which makes one table either way: whether the request can be met, the request that is met, and the answer.
-unfoldable pub in-range : FreshRequest → Bool
-in-range request =
-    both (within 1 thread-limit (request .threads)) (within 1 object-limit (request .objects))
-
-unfoldable pub met-request : Bool → FreshRequest → FreshRequest
-met-request met request = pick met request (sized-request 0 0 false)
-
-unfoldable pub met-answer : Bool → FreshAnswer
-met-answer met = pick met Made SizeOutOfRange
 
 -- document 01's number for the answer
 unfoldable pub fresh-returned : FreshAnswer → ℕ

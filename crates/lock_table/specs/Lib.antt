@@ -10,5 +10,6 @@ pub mod Parked
 pub mod Monitor
 pub mod Chain
 pub mod Fresh
+pub mod MetRequest
 pub mod Narrow
 pub mod Ownership

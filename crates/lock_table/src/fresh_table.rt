@@ -10,7 +10,8 @@ ghost use mathlib.Core.Path.{_≡_};
 ghost use Prim.Native.Nat.{_≤_};
 ghost use Rattle.laws.specs.Sequence.{tabulate};
 ghost use Rattle.lock_table.specs.Limits.{thread-limit, object-limit};
-ghost use Rattle.lock_table.specs.Fresh.{sized-request, first-word, fresh-thread, fresh-object, table-of, fresh-of, in-range, met-request, met-answer, fresh-returned};
+ghost use Rattle.lock_table.specs.Fresh.{sized-request, first-word, fresh-thread, fresh-object, table-of, fresh-of, fresh-returned};
+ghost use Rattle.lock_table.specs.MetRequest.{in-range, met-request, met-answer};
 
 // What a fresh table is asked to be.
 pub struct FreshRequest {

@@ -21,10 +21,12 @@ use Rattle.lock_table.specs.Chain.{hang}
 use Rattle.lock_table.specs.Place.{thread-place}
 use Rattle.lock_table.specs.declared.record.{ThreadRecord.ThreadRecord, ObjectRecord.ObjectRecord, Monitor.Monitor, Table.Table}
 use Rattle.lock_table.proofs.Records.{thread-in, set-thread-in, object-in, set-object-in}
-use Rattle.lock_perform.specs.Moving.{CarriedOut, touched, carried-out, relink, plan-at, goes-on}
+use Rattle.lock_perform.specs.Moving.{CarriedOut, touched, carried-out, relink}
+use Rattle.lock_perform.specs.InPlace.{plan-at, goes-on}
 use Rattle.lock_perform.specs.declared.moving.ChainPlan.{ChainPlan}
 use Rattle.lock_perform.proofs.InPlace.{with-threads, set-by-in-place, relinked-alone, passes-some, passes-inside, passes-more}
-use Rattle.lock_work.specs.Waiters.{PartedWaiters, ticks-after, runs-out, waiter-after, no-parting, last-behind, passed, part-waiters, linked-to}
+use Rattle.lock_work.specs.Waiters.{PartedWaiters, ticks-after, runs-out, waiter-after, no-parting, last-behind, passed, part-waiters}
+use Rattle.lock_work.specs.InPlace.{linked-to}
 use Rattle.lock_work.specs.Tick.{moved-monitor, handing, hand-if-free, tick-waited, tick-object, tick-to}
 use Rattle.lock_work.specs.declared.waiters.Parting.{Parting}
 

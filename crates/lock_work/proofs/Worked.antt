@@ -9,8 +9,8 @@ use Rattle.lock_table.specs.Access.{set-thread, set-object, next-of}
 use Rattle.lock_table.specs.Chain.{hang, move-all}
 use Rattle.lock_table.specs.Place.{thread-place, object-place}
 use Rattle.lock_table.specs.declared.record.{ThreadRecord.ThreadRecord, ObjectRecord.ObjectRecord, Table.Table}
-use Rattle.lock_perform.specs.Moving.{CarriedOut, touched, plan-at, moved-whole, carried-out, carry-out}
-use Rattle.lock_perform.specs.Perform.{own-written, object-written}
+use Rattle.lock_perform.specs.Moving.{CarriedOut, touched, moved-whole, carried-out, carry-out}
+use Rattle.lock_perform.specs.InPlace.{plan-at, own-written, object-written}
 use Rattle.lock_perform.specs.declared.moving.ChainPlan.{ChainPlan}
 use Rattle.lock_perform.proofs.InPlace.{with-threads, set-both-in-place, relinked, after-whole-walk}
 use Rattle.lock_work.specs.Work.{chains-done}

@@ -2,3 +2,4 @@
 pub mod Waiters
 pub mod Tick
 pub mod Work
+pub mod InPlace

@@ -13,7 +13,6 @@ use Rattle.lock_table.specs.declared.operation.Operation.{Operation}
 use Rattle.lock_table.specs.declared.operation.Operation.the-variants.{Idle, Enter, Exit, Wait, Notify, NotifyAll, TimedWait}
 use Rattle.lock_table.specs.declared.record.ThreadRecord.{ThreadRecord}
 use Rattle.lock_table.specs.declared.record.Table.{Table}
-use Rattle.lock_perform.specs.Moving.{if-record}
 use Rattle.lock_work.specs.declared.waiters.Parting.{Parting}
 
 -- "loses one"; a wait without a limit has none to lose
@@ -63,7 +62,3 @@ part-waiters (suc fuel) table parting at =
     pick (within 1 thread-limit at)
     (part-waiters fuel (set-thread alone last (with-next (thread-at alone last) at)) (passed parting goes at) (waiter .next))
     (record { table = table; parting = parting })
-
--- The same as the code does it: what is written at the place of the last thread, where `there` is what stood there.
-abbrev pub linked-to : ℕ → ThreadRecord → ℕ → ThreadRecord
-linked-to last there thread = if-record last (with-next there thread) there

@@ -7,7 +7,8 @@ use lock_table::ThreadRecord;
 use lock_table::moved;
 use lock_word::Ticks;
 ghost use mathlib.Core.Path.{_≡_};
-ghost use Rattle.lock_work.specs.Waiters.{ticks-after, runs-out, waiter-after, no-parting, last-behind, passed, linked-to};
+ghost use Rattle.lock_work.specs.Waiters.{ticks-after, runs-out, waiter-after, no-parting, last-behind, passed};
+ghost use Rattle.lock_work.specs.InPlace.{linked-to};
 
 // The two chains that the waiters are parted into: those that wait on, and those that are taken to the entry chain.
 pub struct Parting {

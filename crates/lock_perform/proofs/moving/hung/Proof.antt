@@ -1,6 +1,6 @@
 -- `lock_perform::moving::hung` meets its contract: each way through the code is that of the definition.
 use borrow.Author.Tests.{eq-eqb, ne-eqb}
-use Rattle.lock_perform.specs.Moving.{hung}
+use Rattle.lock_perform.specs.InPlace.{hung}
 use Rattle.lock_perform.proofs.moving.hung.Statement.{statement}
 use Rattle.lock_perform.proofs.moving.hung.Tie as tie
 

@@ -1,6 +1,6 @@
 -- `lock_perform::moving::if_record` meets its contract: each way through the code is that of the definition.
 use borrow.Author.Tests.{eq-eqb, le-ltb, lt-ltb, ne-eqb}
-use Rattle.lock_perform.specs.Moving.{if-record}
+use Rattle.lock_perform.specs.InPlace.{if-record}
 use Rattle.lock_perform.proofs.moving.if_record.Statement.{statement}
 use Rattle.lock_perform.proofs.moving.if_record.Tie as tie
 

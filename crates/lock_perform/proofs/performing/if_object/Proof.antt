@@ -1,6 +1,6 @@
 -- `lock_perform::performing::if_object` meets its contract: each way through the code is that of the definition.
 use borrow.Author.Tests.{eq-eqb, le-ltb, lt-ltb, ne-eqb}
-use Rattle.lock_perform.specs.Perform.{if-object}
+use Rattle.lock_perform.specs.InPlace.{if-object}
 use Rattle.lock_perform.proofs.performing.if_object.Statement.{statement}
 use Rattle.lock_perform.proofs.performing.if_object.Tie as tie
 

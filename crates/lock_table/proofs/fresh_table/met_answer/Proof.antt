@@ -1,5 +1,5 @@
 -- `lock_table::fresh_table::met_answer` meets its contract: each way through the code is that of the definition.
-use Rattle.lock_table.specs.Fresh.{met-answer}
+use Rattle.lock_table.specs.MetRequest.{met-answer}
 use Rattle.lock_table.proofs.fresh_table.met_answer.Statement.{statement}
 use Rattle.lock_table.proofs.fresh_table.met_answer.Tie as tie
 

@@ -1,5 +1,5 @@
 -- `lock_table::fresh_table::met_request` meets its contract: each way through the code is that of the definition.
-use Rattle.lock_table.specs.Fresh.{met-request}
+use Rattle.lock_table.specs.MetRequest.{met-request}
 use Rattle.lock_table.proofs.fresh_table.met_request.Statement.{statement}
 use Rattle.lock_table.proofs.fresh_table.met_request.Tie as tie
 

@@ -7,7 +7,7 @@ use borrow.Author.Needs.{needs}
 use Rattle.lock_table.specs.Limits.{thread-limit, object-limit}
 use Rattle.lock_table.specs.Chain.{hang, move-all}
 use Rattle.lock_table.proofs.Places.{place-inside}
-use Rattle.lock_perform.specs.Moving.{goes-on}
+use Rattle.lock_perform.specs.InPlace.{goes-on}
 use Rattle.lock_perform.proofs.InPlace.{passes-more, passes-some, passes-inside, move-passes, move-stops, hang-passes, hang-stops}
 use Rattle.lock_work.proofs.Worked.{work-in-place}
 use Rattle.lock_work.proofs.settling.chains_done.Statement.{statement}

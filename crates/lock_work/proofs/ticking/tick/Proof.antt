@@ -9,7 +9,7 @@ use Rattle.lock_table.specs.Limits.{thread-limit, object-limit}
 use Rattle.lock_table.specs.Chain.{hang}
 use Rattle.lock_table.specs.declared.record.Table.{Table}
 use Rattle.lock_table.proofs.Places.{place-inside}
-use Rattle.lock_perform.specs.Moving.{goes-on}
+use Rattle.lock_perform.specs.InPlace.{goes-on}
 use Rattle.lock_perform.proofs.InPlace.{passes-more, passes-some, passes-inside, hang-passes, hang-stops}
 use Rattle.lock_work.specs.Waiters.{no-parting, part-waiters}
 use Rattle.lock_work.specs.Tick.{tick-waited, tick-to}
