@@ -1,9 +1,9 @@
--- The links of all chains and the lists that they stand for: threads leave, join, move and part on both alike.
--- Every action on the chains of a table is one of these five or a few of them in a row.
+-- The links of all chains and the lists that they stand for: threads leave, join, move, part and drop out on both alike.
+-- Every action on the chains of a table is one of these six or a few of them in a row.
 use Prim.Native.Nat.{ℕ, _≤_}
 use mathlib.Core.Path.{_≡_, refl, sym, ap, _∙_, subst, fun-ext}
 use mathlib.Core.Logic.{_≢_}
-use mathlib.Core.Bool.{Bool}
+use mathlib.Core.Bool.{Bool, true, false}
 use native.Mathlib.Omega.{arith}
 use mathlib.Core.List.{List, [], _∷_, _++_, tail, append-nil}
 use lib.ListN.{length, take}
@@ -16,7 +16,7 @@ use Rattle.chains.proofs.Family.{Chains, chains-zero}
 use Rattle.laws.specs.Filter.{failing}
 use Rattle.laws.proofs.Filter.{passing}
 use Rattle.chains.proofs.Relink.{chains-join, chains-leave, chains-left, chains-move, aside-join-other}
-use Rattle.chains.proofs.Parting.{part, chains-part}
+use Rattle.chains.proofs.Parting.{part, chains-part, chains-part-out}
 
 -- the threads' next indexes, and the first thread of each chain by the chain's number
 pub record Links : Type 0 where
@@ -71,7 +71,7 @@ move-lists from to list = let rest = update list from [] in update rest to (rest
 -- the threads of a chain that pass a test move, in order, to the end of another; the rest stay in order
 abbrev pub part-links : ℕ → (ℕ → Bool) → ℕ → ℕ → Links → Links
 part-links fuel test from to links =
-    let p = part fuel test (links .next) no-ends no-ends (links .first from) in
+    let p = part fuel true test (links .next) no-ends no-ends (links .first from) in
     record {
       next = linked fuel (p .next) (links .first to) (p .taken .first);
       first = update (update (links .first) from (p .left .first)) to (first-with (links .first to) (p .taken .first));
@@ -79,6 +79,15 @@ part-links fuel test from to links =
 
 abbrev pub part-lists : (ℕ → Bool) → ℕ → ℕ → (ℕ → List ℕ) → ℕ → List ℕ
 part-lists test from to list = update (update list from (failing test (list from))) to (list to ++ passing test (list from))
+
+-- the threads of a chain that pass a test drop out of it, and each is in no chain; the rest stay in order
+abbrev pub drop-links : ℕ → (ℕ → Bool) → ℕ → Links → Links
+drop-links fuel test c links =
+    let p = part fuel false test (links .next) no-ends no-ends (links .first c) in
+    record { next = p .next; first = update (links .first) c (p .left .first) }
+
+abbrev pub drop-lists : (ℕ → Bool) → ℕ → (ℕ → List ℕ) → ℕ → List ℕ
+drop-lists test c list = update list c (failing test (list c))
 
 -- a place emptied and filled again
 update-back : {A : Type 0} (f : ℕ → A) (place : ℕ) (value : A) → update (update f place value) place (f place) ≡ f
@@ -187,7 +196,11 @@ module _ (links : Links) (list : ℕ → List ℕ) (represented : LinksRepresent
   pub represent-part : (fuel : ℕ) (test : ℕ → Bool) (from to : ℕ) → from ≢ to → length (list from) ≤ fuel → length (list to) ≤ fuel
       → LinksRepresent (part-links fuel test from to links) (part-lists test from to list)
   represent-part fuel test from to apart short-from short-to =
-      let p = part fuel test (links .next) no-ends no-ends (links .first from) in
+      let p = part fuel true test (links .next) no-ends no-ends (links .first from) in
       let (aside, leave) = chains-part (links .next) (links .first) list represented from fuel test short-from in
       aside-join-other (p .next) (links .first) list from (p .left .first) (failing test (list from)) (passing test (list from)) aside fuel to (p .taken .first)
       leave apart short-to
+
+  -- or drop out
+  pub represent-drop : (fuel : ℕ) (test : ℕ → Bool) (c : ℕ) → length (list c) ≤ fuel → LinksRepresent (drop-links fuel test c links) (drop-lists test c list)
+  represent-drop fuel test c = chains-part-out (links .next) (links .first) list represented c fuel test

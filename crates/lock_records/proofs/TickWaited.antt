@@ -153,7 +153,7 @@ module _ (threads objects : ℕ) (t : Table) (lists : ListTable) (represents : R
   walked = part-waiters thread-limit t no-parting (first Chain.Waiting)
 
   abbrev p : Parted
-  p = part thread-limit (due states here) (old .next) no-ends no-ends (first Chain.Waiting)
+  p = part thread-limit true (due states here) (old .next) no-ends no-ends (first Chain.Waiting)
 
   abbrev placed-after : ℕ → ListThread
   placed-after = placed o (lists .threads) (result .states)
@@ -169,7 +169,7 @@ module _ (threads objects : ℕ) (t : Table) (lists : ListTable) (represents : R
       placed-all o (lists .threads) ticked-by (old .next) list thread-limit (first Chain.Waiting) chain (brief Chain.Waiting) (member-at threads objects lists sound Chain.Waiting o)
       ∙ ap (placed o (lists .threads)) (ticked-alike states here) in
       let (moves, parted) = walk-moves given t (old .next) (due states here) list thread-limit (first Chain.Waiting) chain (brief Chain.Waiting) (inside Chain.Waiting)
-      t (lists .threads) (old .next) no-ends no-ends [] [] begun (part-start (old .next) (first Chain.Waiting) list chain) none none waits in
+      t (lists .threads) (old .next) no-ends no-ends [] [] begun (part-start true (old .next) (first Chain.Waiting) list chain) none none waits in
       (subst (λ after. Moves given t (walked .table) after (p .next)) same moves, parted)
 
   -- those that ran out join the entry chain

@@ -96,17 +96,17 @@ module _ (given : ℕ → ThreadRecord) (before : Table) where
   Waits threads due list = (n : ℕ) → 0 < count n list → (saved : Suspension) × (threads n .state ≡ Waiting saved) × (due n ≡ at-zero (ticked saved))
 
   -- the last thread of either chain so far is 0 or has a record
-  ends-in : {next : ℕ → ℕ} {at : ℕ} {list : List ℕ} (left taken : Ends) (lefts takens : List ℕ) → Midway next left taken at lefts takens list → Inside lefts
+  ends-in : {next : ℕ → ℕ} {at : ℕ} {list : List ℕ} (left taken : Ends) (lefts takens : List ℕ) → Midway true next left taken at lefts takens list → Inside lefts
       → Inside takens → (b : Bool) → let last = last-behind (record { left = left; taken = taken }) b in (last ≡ 0) ⊎ ((0 < last) × (last ≤ thread-limit))
   unfolding last-behind
-  ends-in left taken lefts takens midway left-in taken-in true = rw (midway .leave .ended) (end-in takens taken-in)
+  ends-in left taken lefts takens midway left-in taken-in true = rw (midway .leave .chained .ended) (end-in takens taken-in)
   ends-in left taken lefts takens midway left-in taken-in false = rw (midway .stay .ended) (end-in lefts left-in)
 
   -- what is shown of a walk from `at` on
   abbrev Walked : (ℕ → ℕ) → (ℕ → Bool) → ℕ → ℕ → Table → (ℕ → ListThread) → (ℕ → ℕ) → Ends → Ends → Type 0
   Walked next₀ due fuel at t threads next left taken =
       let walked = part-waiters fuel t (record { left = left; taken = taken }) at in
-      let p = part fuel due next left taken at in
+      let p = part fuel true due next left taken at in
       Moves given before (walked .table) (walk fuel next₀ (change ticked-by) threads at) (p .next) × (walked .parting ≡ record { left = p .left; taken = p .taken })
 
   -- one turn, either way
@@ -126,7 +126,7 @@ module _ (given : ℕ → ThreadRecord) (before : Table) where
       → (Moves given before (linked-after t x left taken false) after (behind next (left .last) x)
       → Walked next₀ due fuel (next x) (linked-after t x left taken false) after (behind next (left .last) x) (grown left x) taken)
       → let walked = part-waiters fuel (linked-after t x left taken b) (passed parting b x) here in
-      let p = pick b (part fuel due (behind next (taken .last) x) left (grown taken x) (next x)) (part fuel due (behind next (left .last) x) (grown left x) taken (next x)) in
+      let p = pick b (part fuel true due (behind next (taken .last) x) left (grown taken x) (next x)) (part fuel true due (behind next (left .last) x) (grown left x) taken (next x)) in
       Moves given before (walked .table) (walk fuel next₀ (change ticked-by) after (next x)) (p .next) × (walked .parting ≡ record { left = p .left; taken = p .taken })
   unfolding last-behind passed
   at-due next₀ due fuel x here t threads next left taken true is moves goes stays = rw is (goes moves)
@@ -136,7 +136,7 @@ module _ (given : ℕ → ThreadRecord) (before : Table) where
   abbrev WalksOn : (ℕ → ℕ) → (ℕ → Bool) → List ℕ → ℕ → ℕ → Type 0
   WalksOn next₀ due list fuel at =
       (t : Table) (threads : ℕ → ListThread) (next : ℕ → ℕ) (left taken : Ends) (lefts takens : List ℕ) → Moves given before t threads next
-      → Midway next left taken at lefts takens list → Inside lefts → Inside takens → Waits threads due list
+      → Midway true next left taken at lefts takens list → Inside lefts → Inside takens → Waits threads due list
       → Walked next₀ due fuel at t threads next left taken
 
   -- the rest waits on
@@ -167,9 +167,9 @@ module _ (given : ℕ → ThreadRecord) (before : Table) where
       (waiter-moves t threads next moves x (last-behind (record { left = left; taken = taken }) (due x)) saved (due x) low high
       (ends-in left taken lefts takens midway left-in taken-in (due x)) is-waiting (sym is-due))
       (λ after. (rw same at on-rest) _ _ _ left (grown taken x) lefts (takens ++ (x ∷ [])) after
-      (midway-passes next left taken at lefts takens x rest midway) left-in (grown-in takens x taken-in (low, high)) rest-waits)
+      (midway-passes true next left taken at lefts takens x rest midway) left-in (grown-in takens x taken-in (low, high)) rest-waits)
       (λ after. (rw same at on-rest) _ _ _ (grown left x) taken (lefts ++ (x ∷ [])) takens after
-      (midway-fails next left taken at lefts takens x rest midway) (grown-in lefts x left-in (low, high)) taken-in rest-waits))
+      (midway-fails true next left taken at lefts takens x rest midway) (grown-in lefts x left-in (low, high)) taken-in rest-waits))
 
   -- the walk from `at` on, where the threads of two chains have joined them
   pub walk-moves : (next₀ : ℕ → ℕ) (due : ℕ → Bool) (list : List ℕ) (fuel at : ℕ) → Chain next₀ at list → length list ≤ fuel → Inside list
