@@ -1,4 +1,4 @@
--- Moving.antt and Perform.antt as the code does it, one record at a time, which it reads and writes at its place. Nothing of this is needed to say what
+-- Parting.antt, Moving.antt and Perform.antt as the code does it, one record at a time, which it reads and writes at its place. Nothing of this is needed to say what
 -- a step does.
 use Prim.Native.Nat.{ℕ}
 use mathlib.Core.Bool.{Bool}
@@ -37,6 +37,10 @@ goes-on at left = both (ltb 0 left) (within 1 thread-limit at)
 -- a thread of a chain behind which another is hung
 unfoldable pub hung : ThreadRecord → ℕ → ThreadRecord
 hung thread back = pick (eqb (thread .next) 0) (with-next thread back) thread
+
+-- what is written at the place of the last thread of a chain, where `there` is what stood there
+abbrev pub linked-to : ℕ → ThreadRecord → ℕ → ThreadRecord
+linked-to last there thread = if-record last (with-next there thread) there
 
 -- what is written at the places of the two records, where `there` is what stood there after the work
 abbrev pub own-written : ℕ → ThreadRecord → ThreadRecord → ThreadRecord

@@ -1,6 +1,6 @@
 -- What the work of a rule on chains does to the table's threads and to the monitor of the step's object (document 01, "Steps").
-use Prim.Native.Nat.{ℕ, _-_, _^_}
-use lib.Dec.{eqb, ltb}
+use Prim.Native.Nat.{ℕ}
+use lib.Dec.{eqb}
 use Rattle.laws.specs.Choice.{pick}
 use Rattle.chains.specs.declared.named.Chain.{Chain}
 use Rattle.lock_rules.specs.declared.Taken.{Taken}
@@ -20,6 +20,7 @@ use Rattle.lock_table.specs.declared.phase.Phase.the-variants.{GiveUp, Waiting,
 use Rattle.lock_table.specs.declared.record.ThreadRecord.{ThreadRecord}
 use Rattle.lock_table.specs.declared.record.Monitor.{Monitor}
 use Rattle.lock_table.specs.declared.record.Table.{Table}
+use Rattle.lock_perform.specs.Parting.{thread-set}
 use Rattle.lock_perform.specs.declared.moving.ChainPlan.{ChainPlan}
 
 -- cancel: the word's thread, if in phase 2 on this object, goes back to 1; its kept word falls out of use
@@ -60,10 +61,6 @@ touched (JoinAndHand chain) monitor = monitor .entry
 touched Hand monitor = monitor .entry
 touched (Move from which) monitor = touched-by-move monitor from which
 touched (SendBack owner) monitor = narrow-of owner
-
--- a set of threads has bit n - 1 for thread n: the set of one, of nobody for a number that has no record
-unfoldable pub thread-set : ℕ → ℕ
-thread-set thread = pick (eqb thread 0) 0 (pick (ltb thread-limit thread) 0 (2 ^ (thread - 1)))
 
 -- the record changes, and nobody joins a chain
 abbrev pub unlinked : ThreadRecord → Monitor → ℕ → ChainPlan

@@ -1,6 +1,7 @@
 // A step's action on records: threads read from and written to their records, what a rule sees of its object, and what an effect does to words,
 // monitors and the records of chains (document 01, "Steps").
 mod moving;
+mod parting;
 mod performing;
 mod sighting;
 mod state;
@@ -12,6 +13,11 @@ pub use moving::if_record;
 pub use moving::moved_whole;
 pub use moving::plan_at;
 pub use moving::touched;
+pub use parting::Parting;
+pub use parting::last_behind;
+pub use parting::linked_to;
+pub use parting::no_parting;
+pub use parting::passed;
 pub use performing::object_after;
 pub use performing::object_written;
 pub use performing::own_written;

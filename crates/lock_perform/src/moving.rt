@@ -1,5 +1,6 @@
 // What the work of a rule on chains does to thread records and to the monitor of the step's object. No table is looked at: the engine, which has it
 // in one local, goes along the chains and asks here what becomes of each record.
+use crate::parting::thread_set;
 use chains::Chain;
 use lock_rules::ChainWork;
 use lock_rules::Taken;
@@ -12,7 +13,7 @@ use lock_table::moved;
 use lock_table::narrow;
 use lock_table::no_thread;
 ghost use mathlib.Core.Path.{_≡_};
-ghost use Rattle.lock_perform.specs.Moving.{look-again, back-from, sent-back-of, touched-by-move, touched, thread-set, unlinked, joining, moving};
+ghost use Rattle.lock_perform.specs.Moving.{look-again, back-from, sent-back-of, touched-by-move, touched, unlinked, joining, moving};
 ghost use Rattle.lock_perform.specs.Moving.{plan-hand, plan-join-and-hand, plan-move, plan, whole-move, moved-whole};
 ghost use Rattle.lock_perform.specs.InPlace.{if-record, plan-at, goes-on, hung};
 
@@ -91,19 +92,6 @@ pub fn touched(work: ChainWork, monitor: Monitor) -> u8
         ChainWork::Move(from, taken) => touched_by_move(monitor, from, taken),
         ChainWork::SendBack(owner) => narrow(owner as u32),
     }
-}
-
-// A set of threads has bit n - 1 for thread n. This one has the one thread, or nobody for a number that has no record.
-fn thread_set(thread: u8) -> u32
-    ensures { λ r. ⌜ r ≡ thread-set thread ⌝ }
-{
-    if thread == 0 {
-        return 0;
-    }
-    if THREADS < thread {
-        return 0;
-    }
-    1u32 << ((thread as u32) - 1)
 }
 
 fn unlinked(changed: ThreadRecord, monitor: Monitor, unparked: u32) -> ChainPlan

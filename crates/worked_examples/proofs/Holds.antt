@@ -11,7 +11,7 @@ use Rattle.event_bytes.specs.Encoding.{event-from, limit-from}
 use Rattle.lock_rules.specs.Limits.{one-less, no-ticks, run-out}
 use Rattle.lock_table.specs.{Fresh.first-word, Fresh.fresh-of, Fresh.fresh-object, Operation.operation-number, Phase.phase-number, Parked.chain-named}
 use Rattle.lock_gate.specs.Status.{thread-status}
-use Rattle.lock_perform.specs.Moving.{thread-set}
+use Rattle.lock_perform.specs.Parting.{thread-set}
 use Rattle.sound_records.specs.Records.{names-chain, unused-fits, saves-depth, ticks-fit}
 use Rattle.lock_rules.specs.Rules.{exit-tell, enter-try}
 use Rattle.table_bytes.specs.Reading.{enough}

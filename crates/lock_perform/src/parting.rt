@@ -1,0 +1,86 @@
+// A chain parted in one pass: each of its threads stays in it or goes, and those that go are chained together or are in no chain. No table is looked at:
+// who has it in a local goes along the chain and asks here who stands behind whom.
+use crate::moving::if_record;
+use chains::Ends;
+use chains::no_ends;
+use lock_table::THREADS;
+use lock_table::ThreadRecord;
+ghost use mathlib.Core.Path.{_≡_};
+ghost use Rattle.lock_perform.specs.Parting.{thread-set, no-parting, last-behind, taken-with, passed};
+ghost use Rattle.lock_perform.specs.InPlace.{linked-to};
+
+// A set of threads has bit n - 1 for thread n. This one has the one thread, or nobody for a number that has no record.
+pub(crate) fn thread_set(thread: u8) -> u32
+    ensures { λ r. ⌜ r ≡ thread-set thread ⌝ }
+{
+    if thread == 0 {
+        return 0;
+    }
+    if THREADS < thread {
+        return 0;
+    }
+    1u32 << ((thread as u32) - 1)
+}
+
+// The chain of those that stay, that of those that go, if they go together, and the set of those that go.
+pub struct Parting {
+    pub left: Ends,
+    pub taken: Ends,
+    pub set: u32,
+}
+
+pub fn no_parting() -> Parting
+    ensures { λ r. ⌜ r ≡ no-parting ⌝ }
+{
+    Parting {
+        left: no_ends(),
+        taken: no_ends(),
+        set: 0,
+    }
+}
+
+// The last thread of the chain that a thread joins, 0 where it joins none or is the first.
+pub fn last_behind(parting: Parting, goes: bool) -> u8
+    ensures { λ r. ⌜ r ≡ last-behind parting goes ⌝ }
+{
+    if goes {
+        return parting.taken.last;
+    }
+    parting.left.last
+}
+
+fn taken_with(together: bool, taken: Ends, thread: u8) -> Ends
+    ensures { λ r. ⌜ r ≡ taken-with together taken thread ⌝ }
+{
+    if together {
+        return taken.grown(thread);
+    }
+    taken
+}
+
+// The parting with one more thread, which stays or goes.
+pub fn passed(together: bool, parting: Parting, goes: bool, thread: u8) -> Parting
+    ensures { λ r. ⌜ r ≡ passed together parting goes thread ⌝ }
+{
+    let left = parting.left;
+    let taken = parting.taken;
+    if goes {
+        return Parting {
+            left: left,
+            taken: taken_with(together, taken, thread),
+            set: parting.set | thread_set(thread),
+        };
+    }
+    Parting {
+        left: left.grown(thread),
+        taken: taken,
+        set: parting.set,
+    }
+}
+
+// The record at the place of the last thread of a chain, with this thread behind it; where the chain is empty, nobody's record is changed.
+pub fn linked_to(last: u8, there: ThreadRecord, thread: u8) -> ThreadRecord
+    ensures { λ r. ⌜ r ≡ linked-to last there thread ⌝ }
+{
+    if_record(last, there.with_next(thread), there)
+}
