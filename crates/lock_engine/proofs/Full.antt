@@ -1,6 +1,7 @@
 -- A table has thirty-two thread records and sixty-four object records, and every event keeps it so.
 use Prim.Native.Nat.{ℕ, zero, suc}
 use mathlib.Core.Path.{_≡_, ap, _∙_}
+use mathlib.Core.Bool.{Bool, true}
 use lib.Dec.{eqb}
 use lib.ListN.{length}
 use Rattle.laws.specs.Choice.{within}
@@ -14,10 +15,11 @@ use Rattle.lock_table.specs.Chain.{hang, moved, move-all}
 use Rattle.lock_table.specs.declared.record.{ThreadRecord.ThreadRecord, ObjectRecord.ObjectRecord, Monitor.Monitor, Table.Table}
 use Rattle.lock_table.proofs.Records.{thread-beside, object-beside}
 use Rattle.lock_perform.specs.Moving.{CarriedOut, relink, moved-whole, after-whole, carry-out}
+use Rattle.lock_perform.specs.Parting.{PartedChain, no-parting, part-chain}
+use Rattle.lock_perform.specs.declared.parting.Parting.{Parting}
 use Rattle.lock_soundness.specs.Sound.{sound-of}
-use Rattle.lock_work.specs.Waiters.{PartedWaiters, no-parting, part-waiters}
+use Rattle.lock_work.specs.Waiters.{waiter-goes, waiter-ticked}
 use Rattle.lock_work.specs.Tick.{handing, hand-if-free, tick-object, tick-to, tick}
-use Rattle.lock_work.specs.declared.waiters.Parting.{Parting}
 use Rattle.lock_work.specs.Work.{work-stays, work-done}
 use Rattle.lock_engine.specs.Handle.{turn-with, outcome-of, handle-trusting, handle}
 use Rattle.lock_work.specs.declared.settling.Work.{Work}
@@ -64,14 +66,16 @@ full-carried table monitor work thread number full =
     by-test (λ (after : CarriedOut). Full (after .table)) (eqb (moved-whole work monitor) 0) (λ none. full-relink monitor work thread number full)
     (λ some. full-relink monitor work thread number (full-move thread-limit table (moved-whole work monitor) full))
 
--- a tick: the waiters of each object parted, those that ran out hung behind the entry chain, and the monitor handed
-full-parted : (fuel : ℕ) (table : Table) (parting : Parting) (at : ℕ) → Full table → Full (part-waiters fuel table parting at .table)
-unfolding part-waiters
-full-parted zero table parting at full = full
-full-parted (suc fuel) table parting at full =
-    by-test (λ (parted : PartedWaiters). Full (parted .table)) (within 1 thread-limit at)
-    (λ inside. full-parted fuel _ _ _ (full-thread _ _ (full-thread _ _ full))) (λ outside. full)
+-- a chain parted
+full-parted : (goes : ThreadRecord → Bool) (after : ThreadRecord → Bool → ThreadRecord) (together : Bool) (fuel : ℕ) (table : Table) (parting : Parting) (at : ℕ)
+    → Full table → Full (part-chain goes after together fuel table parting at .table)
+unfolding part-chain
+full-parted goes after together zero table parting at full = full
+full-parted goes after together (suc fuel) table parting at full =
+    by-test (λ (parted : PartedChain). Full (parted .table)) (within 1 thread-limit at)
+    (λ inside. full-parted goes after together fuel _ _ _ (full-thread _ _ (full-thread _ _ full))) (λ outside. full)
 
+-- a tick: the waiters of each object parted, those that ran out hung behind the entry chain, and the monitor handed
 full-handed : (table : Table) (monitor : Monitor) → Full table → Full (hand-if-free table monitor .table)
 unfolding hand-if-free
 full-handed table monitor full = full-relink monitor (handing monitor) 0 0 full
@@ -80,7 +84,7 @@ full-object-ticked : (table : Table) (number : ℕ) → Full table → Full (tic
 unfolding tick-object
 full-object-ticked table number full =
     by-test Full (eqb (object-at table number .monitor .waiting) 0) (λ none. full)
-    (λ some. full-object _ _ (full-handed _ _ (full-hang thread-limit _ _ _ (full-parted thread-limit table no-parting _ full))))
+    (λ some. full-object _ _ (full-handed _ _ (full-hang thread-limit _ _ _ (full-parted waiter-goes waiter-ticked true thread-limit table no-parting _ full))))
 
 full-ticked-to : (number : ℕ) (table : Table) → Full table → Full (tick-to number table)
 unfolding tick-to

@@ -8,7 +8,8 @@ pub mod Moves
 pub mod Placing
 pub mod Actions
 pub mod Replaced
-pub mod WaitersWalk
+pub mod PartWalk
+pub mod WaiterTicked
 pub mod Performs
 pub mod TickWaited
 pub mod TickRepresents

@@ -9,7 +9,7 @@ use lib.Dec.{eqb}
 use lib.ListN.{length}
 use Rattle.laws.specs.{Choice.pick, Update.update, Count.count}
 use Rattle.laws.specs.Filter.{failing}
-use Rattle.laws.proofs.Count.{count-none, count-same}
+use Rattle.laws.proofs.Count.{count-same}
 use Rattle.laws.proofs.Filter.{count-passing}
 use Rattle.laws.proofs.Choice.{either-way, equal?, by-test}
 use Rattle.laws.proofs.Update.{update-other}
@@ -17,7 +17,7 @@ use Rattle.chains.specs.Joining.{no-ends, first-with}
 use Rattle.chains.specs.declared.named.Chain.{Chain}
 use Rattle.chains.proofs.Chain.{Chain as ChainOf, head}
 use Rattle.chains.proofs.Walk.{walk}
-use Rattle.chains.proofs.Parting.{Parted, part, part-start, chains-part}
+use Rattle.chains.proofs.Parting.{Parted, part, chains-part}
 use Rattle.chains.proofs.Links.{Links, LinksRepresent, part-links, part-lists, represent-part, first-head, leave-links, leave-lists, represent-leave}
 use Rattle.lock_rules.specs.PlainMonitor.{above-zero}
 use Rattle.lock_rules.specs.Limits.{ticked, at-zero}
@@ -41,9 +41,10 @@ use Rattle.lock_table.specs.Monitor.{hand-of, join}
 use Rattle.lock_table.specs.declared.record.{ThreadRecord.ThreadRecord, ObjectRecord.ObjectRecord, Monitor.Monitor, Table.Table}
 use Rattle.lock_table.proofs.Walks.{hang-none}
 use Rattle.lock_perform.specs.Moving.{CarriedOut, plan-hand, carried-out, relink}
-use Rattle.lock_work.specs.Waiters.{PartedWaiters, no-parting, part-waiters}
+use Rattle.lock_perform.specs.Parting.{PartedChain, no-parting}
+use Rattle.lock_perform.specs.declared.parting.Parting.{Parting}
+use Rattle.lock_work.specs.Waiters.{waiter-goes, waiter-ticked, part-waiters}
 use Rattle.lock_work.specs.Tick.{moved-monitor, handing, hand-if-free, tick-waited}
-use Rattle.lock_work.specs.declared.waiters.Parting.{Parting}
 use Rattle.lock_records.proofs.Numbering.{number, place-of, lists-of, list-at, update-number, lists-replaced, chain-handed, entered-all, first-is-head}
 use Rattle.lock_records.proofs.Represents.{monitor-record, object-record, Represents, next-is}
 use Rattle.lock_records.proofs.Written.{handed-written}
@@ -52,7 +53,8 @@ use Rattle.lock_records.proofs.Moves.{change, Moves, Inside, moves-hang
 use Rattle.lock_records.proofs.Placing.{placed, placed-all, placed-first}
 use Rattle.lock_records.proofs.Actions.{left-recorded, joined-recorded, handed-recorded}
 use Rattle.lock_records.proofs.Replaced.{replaced-represents}
-use Rattle.lock_records.proofs.WaitersWalk.{ticked-by, walk-moves}
+use Rattle.lock_records.proofs.PartWalk.{Told, walk-moves}
+use Rattle.lock_records.proofs.WaiterTicked.{ticked-by, waiter-told}
 
 -- those that lose their last tick move: told from each state alone, or from the two lists
 ticked-alike : (states : ℕ → ThreadState) (o : ListObject) → changed-states ticked-by states (o .waiting) ≡ expired states o .states
@@ -148,8 +150,13 @@ module _ (threads objects : ℕ) (t : Table) (lists : ListTable) (represents : R
           let (saved, is, once) = is-waiting (states n) k (sym p ∙ e) in
           (saved, sym (seen-here o (lists .threads n) (member-at threads objects lists sound Chain.Waiting o n h)) ∙ is, due-of n k saved e is)
 
+  told : Told waiter-goes waiter-ticked ticked-by given (lists .threads) (due states here) (here .waiting)
+  told n h link =
+      let (saved, is, is-due) = waits n h in
+      waiter-told n (lists .threads n) saved (due states here n) is is-due link (given n)
+
   -- the walk
-  abbrev walked : PartedWaiters
+  abbrev walked : PartedChain
   walked = part-waiters thread-limit t no-parting (first Chain.Waiting)
 
   abbrev p : Parted
@@ -158,19 +165,16 @@ module _ (threads objects : ℕ) (t : Table) (lists : ListTable) (represents : R
   abbrev placed-after : ℕ → ListThread
   placed-after = placed o (lists .threads) (result .states)
 
-  none : Inside []
-  none n h = absurd (omega (arith, h, count-none n))
-
-  the-walk : Moves given t (walked .table) placed-after (p .next) × (walked .parting ≡ record { left = p .left; taken = p .taken })
+  the-walk : Moves given t (walked .table) placed-after (p .next) × (walked .parting .left ≡ p .left) × (walked .parting .taken ≡ p .taken)
   the-walk =
       let list = here .waiting in
       let chain = chained threads objects t lists represents sound o Chain.Waiting in
       let same : walk thread-limit (old .next) (change ticked-by) (lists .threads) (first Chain.Waiting) ≡ placed-after =
       placed-all o (lists .threads) ticked-by (old .next) list thread-limit (first Chain.Waiting) chain (brief Chain.Waiting) (member-at threads objects lists sound Chain.Waiting o)
       ∙ ap (placed o (lists .threads)) (ticked-alike states here) in
-      let (moves, parted) = walk-moves given t (old .next) (due states here) list thread-limit (first Chain.Waiting) chain (brief Chain.Waiting) (inside Chain.Waiting)
-      t (lists .threads) (old .next) no-ends no-ends [] [] begun (part-start true (old .next) (first Chain.Waiting) list chain) none none waits in
-      (subst (λ after. Moves given t (walked .table) after (p .next)) same moves, parted)
+      let (moves, left, taken) = walk-moves waiter-goes waiter-ticked true ticked-by given t (old .next) (due states here) list thread-limit (first Chain.Waiting)
+      chain (brief Chain.Waiting) (inside Chain.Waiting) t (lists .threads) begun told in
+      (subst (λ after. Moves given t (walked .table) after (p .next)) same moves, left, taken)
 
   -- those that ran out join the entry chain
   abbrev links : Links
@@ -206,10 +210,16 @@ module _ (threads objects : ℕ) (t : Table) (lists : ListTable) (represents : R
   hung-moves =
       moves-hang given t (walked .table) placed-after (p .next) (the-walk .0) (here .entry) (first Chain.Entry) (p .taken .first) entry-stays (brief Chain.Entry) (inside Chain.Entry)
 
+  abbrev parted : Parting
+  parted = record { left = p .left; taken = p .taken; set = walked .parting .set }
+
+  parted-is : walked .parting ≡ parted
+  parted-is = let (moves, left, taken) = the-walk in λ j. record { left = left j; taken = taken j; set = walked .parting .set }
+
   abbrev monitor : Monitor
   monitor = monitor-record o old (here .holder) (here .depth)
 
-  moved-recorded : moved-monitor monitor (record { left = p .left; taken = p .taken }) ≡ monitor-record o links (here .holder) (here .depth)
+  moved-recorded : moved-monitor monitor parted ≡ monitor-record o links (here .holder) (here .depth)
   moved-recorded =
       let left : Links = record { next = old .next; first = update (old .first) (number o Chain.Waiting) (p .left .first) } in
       let entry-is : left .first (number o Chain.Entry) ≡ first Chain.Entry = update-number (old .first) o Chain.Waiting Chain.Entry (p .left .first) in
@@ -309,7 +319,7 @@ module _ (threads objects : ℕ) (t : Table) (lists : ListTable) (represents : R
       let after = hand-if-free hung (moved-monitor monitor (parted .parting)) in
       set-object (after .table) o (with-monitor object (after .monitor))) (represents .object-is o real small)
       ∙ (ap (λ (parting : Parting).
-      finished (hang thread-limit (walked .table) (first Chain.Entry) (parting .taken .first)) (moved-monitor monitor parting)) (the-walk .1)
+      finished (hang thread-limit (walked .table) (first Chain.Entry) (parting .taken .first)) (moved-monitor monitor parting)) parted-is
       ∙ ap (finished hung) moved-recorded)
 
   abbrev at-object : Ticked

@@ -1,88 +1,31 @@
--- A tick as the code does it, with records read and written where they are in their array: one turn of the walk along the waiters and its end, the
--- handing, an object on which somebody waits, and the loop over the objects.
-use Prim.Native.Nat.{ℕ, zero, suc, _+_, _-_, _<_}
+-- A tick as the code does it, with records read and written where they are in their array: the handing, an object on which somebody waits, and the loop
+-- over the objects.
+use Prim.Native.Nat.{ℕ, suc, _+_, _-_, _<_}
 use mathlib.Core.Logic.{_≢_}
 use mathlib.Core.Path.{_≡_, refl, sym, ap, _∙_}
 use mathlib.Core.Bool.{Bool, true, false}
-use native.Mathlib.Nat.{not-suc-le-zero}
 use native.Mathlib.Numerals.{add-one, sub-one}
 use native.Mathlib.Omega.{arith}
-use lib.Dec.{eqb, ltb}
+use lib.Dec.{eqb}
 use lib.ListN.{getD, set}
-use borrow.Author.Tests.{eq-eqb, ne-eqb, ltb-false}
-use Rattle.laws.specs.Choice.{pick, within}
-use Rattle.laws.proofs.Choice.{split, both-second}
+use borrow.Author.Tests.{eq-eqb, ne-eqb}
+use Rattle.laws.specs.Choice.{pick}
 use Rattle.lock_rules.specs.declared.ChainWork.{ChainWork}
 use Rattle.lock_rules.specs.declared.ChainWork.the-variants.{Hand, Stay}
 use Rattle.lock_table.specs.Limits.{thread-limit, object-limit}
-use Rattle.lock_table.specs.Record.{no-thread, no-object, with-next, with-monitor}
-use Rattle.lock_table.specs.Access.{thread-at, set-thread, object-at, set-object}
+use Rattle.lock_table.specs.Record.{no-thread, no-object, with-monitor}
+use Rattle.lock_table.specs.Access.{object-at, set-object}
 use Rattle.lock_table.specs.Chain.{hang}
 use Rattle.lock_table.specs.Place.{thread-place}
-use Rattle.lock_table.specs.declared.record.{ThreadRecord.ThreadRecord, ObjectRecord.ObjectRecord, Monitor.Monitor, Table.Table}
-use Rattle.lock_table.proofs.Records.{thread-in, set-thread-in, object-in, set-object-in}
+use Rattle.lock_table.specs.declared.record.{ObjectRecord.ObjectRecord, Monitor.Monitor, Table.Table}
+use Rattle.lock_table.proofs.Records.{object-in, set-object-in}
 use Rattle.lock_perform.specs.Moving.{CarriedOut, touched, carried-out, relink}
-use Rattle.lock_perform.specs.InPlace.{plan-at, goes-on}
+use Rattle.lock_perform.specs.Parting.{PartedChain, no-parting}
+use Rattle.lock_perform.specs.InPlace.{plan-at}
 use Rattle.lock_perform.specs.declared.moving.ChainPlan.{ChainPlan}
-use Rattle.lock_perform.proofs.InPlace.{with-threads, set-by-in-place, relinked-alone, passes-some, passes-inside, passes-more}
-use Rattle.lock_work.specs.Waiters.{PartedWaiters, ticks-after, runs-out, waiter-after, no-parting, last-behind, passed, part-waiters}
-use Rattle.lock_work.specs.InPlace.{linked-to}
+use Rattle.lock_perform.proofs.InPlace.{with-threads, relinked-alone}
+use Rattle.lock_work.specs.Waiters.{part-waiters}
 use Rattle.lock_work.specs.Tick.{moved-monitor, handing, hand-if-free, tick-waited, tick-object, tick-to}
-use Rattle.lock_work.specs.declared.waiters.Parting.{Parting}
-
-part-step : {left : ℕ} → 0 < left → (t : Table) (parting : Parting) (at : ℕ) → within 1 thread-limit at ≡ true
-    → let waiter = thread-at t at in
-    let ticks = ticks-after (waiter .ticks) in
-    let goes = runs-out (waiter .operation) ticks in
-    let last = last-behind parting goes in
-    let alone = set-thread t at (waiter-after waiter ticks goes) in
-    part-waiters left t parting at
-    ≡ part-waiters (left - 1) (set-thread alone last (with-next (thread-at alone last) at)) (passed parting goes at) (waiter .next)
-unfolding part-waiters
-part-step {left = zero} h t parting at inside = absurd (not-suc-le-zero h)
-part-step {left = suc left} h t parting at inside = let one : suc left - 1 ≡ left = omega arith in rw (inside, one) refl
-
--- what the code's locals are after one turn
-pub part-passes : (at left : ℕ) → goes-on at left ≡ true → (t : Table) (parting : Parting)
-    → let waiter = getD (t .threads) (at - 1) no-thread in
-    let ticks = ticks-after (waiter .ticks) in
-    let goes = runs-out (waiter .operation) ticks in
-    let last = last-behind parting goes in
-    let alone = with-threads t (set (t .threads) (at - 1) (waiter-after waiter ticks goes)) in
-    part-waiters left t parting at
-    ≡ part-waiters (left - 1)
-    (with-threads alone (set (alone .threads) (thread-place last) (linked-to last (getD (alone .threads) (thread-place last) no-thread) at)))
-    (passed parting goes at) (waiter .next)
-part-passes at left test t parting =
-    let some = passes-some at left test in
-    let high = passes-inside at left test in
-    let read = thread-in t at (λ none. omega (arith, none, some)) high in
-    let waiter = getD (t .threads) (at - 1) no-thread in
-    let ticks = ticks-after (waiter .ticks) in
-    let goes = runs-out (waiter .operation) ticks in
-    let last = last-behind parting goes in
-    let alone = with-threads t (set (t .threads) (at - 1) (waiter-after waiter ticks goes)) in
-    part-step (passes-more at left test) t parting at (both-second (ltb 0 left) _ test)
-    ∙ (ap
-    (λ (own : ThreadRecord).
-    let ticks = ticks-after (own .ticks) in
-    let goes = runs-out (own .operation) ticks in
-    let last = last-behind parting goes in
-    let alone = set-thread t at (waiter-after own ticks goes) in
-    part-waiters (left - 1) (set-thread alone last (with-next (thread-at alone last) at)) (passed parting goes at) (own .next)) read
-    ∙ (ap
-    (λ (alone : Table). part-waiters (left - 1) (set-thread alone last (with-next (thread-at alone last) at)) (passed parting goes at) (waiter .next))
-    (set-thread-in t at (waiter-after waiter ticks goes) (λ none. omega (arith, none, some)) high)
-    ∙ ap (λ (linked : Table). part-waiters (left - 1) linked (passed parting goes at) (waiter .next)) (sym (set-by-in-place alone last (λ there. with-next there at)))))
-
-pub part-stops : (at left : ℕ) → goes-on at left ≡ false → (t : Table) (parting : Parting) → part-waiters left t parting at ≡ record { table = t; parting = parting }
-unfolding part-waiters
-part-stops at left test t parting = by left test
-  where
-    by : (left : ℕ) → goes-on at left ≡ false → part-waiters left t parting at ≡ record { table = t; parting = parting }
-    by zero test = refl
-    by (suc left) test =
-        split (ltb 0 (suc left)) (λ more. rw (rw more at test) refl) (λ none. absurd (not-suc-le-zero (ltb-false 0 (suc left) none)))
 
 -- a monitor that nobody holds is handed to the first of the entry chain; one that somebody holds leaves every record
 pub handed-in-place : (t : Table) (monitor : Monitor)
@@ -115,7 +58,7 @@ module _ (t : Table) (done : ℕ) (small : done < object-limit) where
         objects = set (after .table .objects) done (with-monitor object (after .monitor));
       }
 
-  abbrev hung-behind : PartedWaiters → ObjectRecord → Table
+  abbrev hung-behind : PartedChain → ObjectRecord → Table
   hung-behind parted object = hang thread-limit (parted .table) (object .monitor .entry) (parted .parting .taken .first)
 
   read-here : object-at t number ≡ getD (t .objects) done no-object
@@ -137,13 +80,13 @@ module _ (t : Table) (done : ℕ) (small : done < object-limit) where
       })
       place
 
-  by-definition : (object : ObjectRecord) → object ≡ object-at t number → (parted : PartedWaiters)
+  by-definition : (object : ObjectRecord) → object ≡ object-at t number → (parted : PartedChain)
       → parted ≡ part-waiters thread-limit t no-parting (object .monitor .waiting)
       → after-hand (hand-if-free (hung-behind parted object) (moved-monitor (object .monitor) (parted .parting))) object ≡ tick-waited t number
   by-definition object is parted parted-is =
       sym (written-here (hand-if-free (hung-behind parted object) (moved-monitor (object .monitor) (parted .parting))) object) ∙ rw (parted-is, is) refl
 
-  pub waited-in-place : {object : ObjectRecord} {parted : PartedWaiters} {hung : Table} {monitor : Monitor} {work : ChainWork} {heir place : ℕ} {planned : ChainPlan}
+  pub waited-in-place : {object : ObjectRecord} {parted : PartedChain} {hung : Table} {monitor : Monitor} {work : ChainWork} {heir place : ℕ} {planned : ChainPlan}
       {written : ObjectRecord}
       → object ≡ getD (t .objects) done no-object → parted ≡ part-waiters thread-limit t no-parting (object .monitor .waiting) → hung ≡ hung-behind parted object
       → monitor ≡ moved-monitor (object .monitor) (parted .parting) → work ≡ handing monitor → heir ≡ touched work monitor → place ≡ thread-place heir

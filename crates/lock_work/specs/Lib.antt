@@ -2,4 +2,3 @@
 pub mod Waiters
 pub mod Tick
 pub mod Work
-pub mod InPlace

@@ -13,8 +13,9 @@ use Rattle.lock_table.specs.Chain.{hang}
 use Rattle.lock_table.specs.declared.record.Monitor.{Monitor}
 use Rattle.lock_table.specs.declared.record.Table.{Table}
 use Rattle.lock_perform.specs.Moving.{CarriedOut, relink}
-use Rattle.lock_work.specs.Waiters.{no-parting, part-waiters}
-use Rattle.lock_work.specs.declared.waiters.Parting.{Parting}
+use Rattle.lock_perform.specs.Parting.{no-parting}
+use Rattle.lock_perform.specs.declared.parting.Parting.{Parting}
+use Rattle.lock_work.specs.Waiters.{part-waiters}
 
 -- those that ran out join the entry chain; the waiting chain is left to the others
 abbrev pub moved-monitor : Monitor → Parting → Monitor

@@ -8,4 +8,3 @@ pub use settling::Work;
 pub use settling::WorkDone;
 pub use settling::work_done;
 pub use settling::work_stays;
-pub use waiters::Parting;

@@ -1,14 +1,14 @@
 // A tick at each object: the waiters that run out join the entry chain, and a monitor that nobody holds is handed.
-use crate::waiters::Parting;
-use crate::waiters::last_behind;
-use crate::waiters::linked_to;
-use crate::waiters::no_parting;
-use crate::waiters::passed;
 use crate::waiters::runs_out;
 use crate::waiters::waiter_after;
 use chains::Chain;
+use lock_perform::Parting;
 use lock_perform::goes_on;
 use lock_perform::hung;
+use lock_perform::last_behind;
+use lock_perform::linked_to;
+use lock_perform::no_parting;
+use lock_perform::passed;
 use lock_perform::plan_at;
 use lock_perform::touched;
 use lock_rules::ChainWork;
@@ -64,7 +64,7 @@ pub(crate) fn tick(table: Table) -> Table
                 let last = last_behind(parting, goes);
                 let place = thread_place(last);
                 changed.threads[place] = linked_to(last, changed.threads[place], at);
-                parting = passed(parting, goes, at);
+                parting = passed(true, parting, goes, at);
                 at = waiter.next;
                 left = left - 1;
             }

@@ -5,13 +5,13 @@ use Rattle.lock_word.specs.Meaning.{owned-by}
 use Rattle.laws.specs.Sequence.{tabulate}
 use Rattle.lock_table.specs.Access.{thread-at, set-thread, object-at, set-object}
 use Rattle.lock_table.specs.Chain.{hang, moved-phase}
-use Rattle.lock_work.specs.Waiters.{runs-out, waiter-after, last-behind, passed, part-waiters}
+use Rattle.lock_work.specs.Waiters.{runs-out, waiter-after}
 use Rattle.lock_work.specs.Tick.{handing, hand-if-free, tick-object}
 use Rattle.event_bytes.specs.Encoding.{event-from, limit-from}
 use Rattle.lock_rules.specs.Limits.{one-less, no-ticks, run-out}
 use Rattle.lock_table.specs.{Fresh.first-word, Fresh.fresh-of, Fresh.fresh-object, Operation.operation-number, Phase.phase-number, Parked.chain-named}
 use Rattle.lock_gate.specs.Status.{thread-status}
-use Rattle.lock_perform.specs.Parting.{thread-set}
+use Rattle.lock_perform.specs.Parting.{thread-set, last-behind, taken-with, passed, part-chain}
 use Rattle.sound_records.specs.Records.{names-chain, unused-fits, saves-depth, ticks-fit}
 use Rattle.lock_rules.specs.Rules.{exit-tell, enter-try}
 use Rattle.table_bytes.specs.Reading.{enough}
@@ -64,7 +64,7 @@ unfolding exit-tell enter-try
 rule-examples = record { deflated = refl; inflated = refl; told = refl; flag-down = refl }
 
 pub tick-examples : TickExamples
-unfolding thread-at set-thread object-at set-object hang moved-phase runs-out waiter-after last-behind passed part-waiters handing hand-if-free tick-object ticks-fit event-from limit-from one-less no-ticks run-out
+unfolding thread-at set-thread object-at set-object hang moved-phase runs-out waiter-after last-behind taken-with passed part-chain handing hand-if-free tick-object ticks-fit event-from limit-from one-less no-ticks run-out
 tick-examples =
     record {
       handed = refl;

@@ -9,11 +9,12 @@ use Rattle.lock_table.specs.Limits.{thread-limit, object-limit}
 use Rattle.lock_table.specs.Chain.{hang}
 use Rattle.lock_table.specs.declared.record.Table.{Table}
 use Rattle.lock_table.proofs.Places.{place-inside}
-use Rattle.lock_perform.specs.InPlace.{goes-on}
+use Rattle.lock_perform.specs.{Parting.no-parting, InPlace.goes-on}
 use Rattle.lock_perform.proofs.InPlace.{passes-more, passes-some, passes-inside, hang-passes, hang-stops}
-use Rattle.lock_work.specs.Waiters.{no-parting, part-waiters}
+use Rattle.lock_work.specs.Waiters.{waiter-goes, waiter-ticked, part-waiters}
 use Rattle.lock_work.specs.Tick.{tick-waited, tick-to}
-use Rattle.lock_work.proofs.InPlace.{part-passes, part-stops, waited-in-place, tick-skips, tick-takes}
+use Rattle.lock_perform.proofs.PartInPlace.{part-passes, part-stops}
+use Rattle.lock_work.proofs.InPlace.{waited-in-place, tick-skips, tick-takes}
 use Rattle.lock_work.proofs.ticking.tick.Statement.{statement}
 use Rattle.lock_work.proofs.ticking.tick.Tie as tie
 
@@ -73,7 +74,7 @@ loop2-again c =
       after .waiter-after .ensures,
       goes .runs-out .ensures,
     )
-    (loop .inv ∙ part-passes (loop .at) (loop .left) (passing-2 test) (loop .changed) (loop .parting))
+    (loop .inv ∙ part-passes waiter-goes waiter-ticked true (loop .at) (loop .left) (passing-2 test) (loop .changed) (loop .parting))
 
 passing-3 : (c : tie.Then3 Inv-loop2 μ-loop2 Inv-loop3 μ-loop3 Inv-loop μ-loop) → let loop = c .before .before .loop3 in goes-on (loop .at) (loop .left) ≡ true
 passing-3 c = sym (c .before .goes-on2 .ensures) ∙ c .if3 .taken
@@ -118,7 +119,7 @@ loop-again c =
     let loop = here .before .loop in
     let table = here .before .before .args .table in
     let small = here .loop-test .taken in
-    let parted-is = sym (waiting .loop2 .inv ∙ part-stops (waiting .loop2 .at) (waiting .loop2 .left) (sym (parted .before .goes-on .ensures) ∙ parted .if2 .left) (waiting .loop2 .changed) (waiting .loop2 .parting)) in
+    let parted-is = sym (waiting .loop2 .inv ∙ part-stops waiter-goes waiter-ticked true (waiting .loop2 .at) (waiting .loop2 .left) (sym (parted .before .goes-on .ensures) ∙ parted .if2 .left) (waiting .loop2 .changed) (waiting .loop2 .parting)) in
     let hung-is = sym (walked .loop3 .inv ∙ hang-stops (walked .loop3 .at) (walked .loop3 .left) (sym (hung .before .goes-on2 .ensures) ∙ hung .if3 .left) (walked .loop3 .changed) (waiting .loop2 .parting .taken .first)) in (
       omega (arith, small),
       waited-in-place (loop .changed) (loop .done) small refl parted-is hung-is (monitor .moved-monitor .ensures) (work .handing .ensures)
