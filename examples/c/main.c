@@ -1,12 +1,12 @@
 /* Three threads at one object: the first waits on it, the second then owns it, and the third parks. A fourth waits on an object of its own until its
- * wait runs out. The table is printed at the end: each thread with its operation, its phase and who keeps it, each object with its word, owner, flag
- * and chains. */
+ * wait runs out. A fifth parks while it leaves an object, and the sixth, which enters it, lets that exit out. The table is printed at the end: each
+ * thread with its operation, its phase and who keeps it, each object with its word, owner, flag and chains. */
 #include "duskclamp.h"
 #include <inttypes.h>
 #include <stdio.h>
 
-#define THREADS 4
-#define OBJECTS 3
+#define THREADS 6
+#define OBJECTS 4
 #define LIMIT 2
 
 static uint8_t table[DUSKCLAMP_TABLE_SIZE];
@@ -39,6 +39,22 @@ static void run_out(uint32_t thread, uint32_t object) {
     }
     uint32_t answer = duskclamp_step(table, sizeof table, thread);
     printf("thread %" PRIu32 " %s, run out: %" PRIu32 "\n", thread, duskclamp_returned_name(DUSKCLAMP_RETURNED(answer)), DUSKCLAMP_WOKEN(answer));
+}
+
+/* An exit that parks while another thread is on its way in, and is let out by that thread's step. No step of its own answers 1: a scheduler that keeps
+ * parked threads in a list takes phase 0, or the refusal 15, for it. */
+static void let_out(uint32_t leaving, uint32_t entering, uint32_t object) {
+    run(leaving, DUSKCLAMP_ENTER, object);
+    duskclamp_begin(table, sizeof table, entering, DUSKCLAMP_ENTER, object);
+    while (DUSKCLAMP_VALUE(duskclamp_phase(table, sizeof table, entering)) != DUSKCLAMP_PHASE_TRY)
+        duskclamp_step(table, sizeof table, entering);
+    run(leaving, DUSKCLAMP_EXIT, object);
+    uint32_t answer = duskclamp_step(table, sizeof table, entering);
+    uint32_t phase = DUSKCLAMP_VALUE(duskclamp_phase(table, sizeof table, leaving));
+    printf("thread %" PRIu32 " enter %" PRIu32 ": %s, thread %" PRIu32 " %s\n", entering, object, duskclamp_returned_name(DUSKCLAMP_RETURNED(answer)),
+           leaving, duskclamp_phase_name(phase));
+    answer = duskclamp_step(table, sizeof table, leaving);
+    printf("thread %" PRIu32 " steps: %s\n", leaving, duskclamp_returned_name(DUSKCLAMP_RETURNED(answer)));
 }
 
 /* Four events in one call: thread 2 enters another object, thread 3, which is parked, is refused its step, and the clock ticks. */
@@ -111,9 +127,10 @@ int main(void) {
     run(2, DUSKCLAMP_ENTER, 1);
     run(3, DUSKCLAMP_ENTER, 1);
     run(3, DUSKCLAMP_ENTER, 2);
-    run(2, DUSKCLAMP_ENTER, 4);
+    run(2, DUSKCLAMP_ENTER, 5);
     run(2, DUSKCLAMP_EXIT, 2);
     run_out(4, 3);
+    let_out(5, 6, 4);
     run_events();
     print_threads();
     print_objects();

@@ -60,3 +60,11 @@ count-passing test (x ∷ rest) n = either-way (equal? n x) (λ e. rw e (here (t
         → count n (pick b (x ∷ passing test rest) (passing test rest)) ≡ pick (test n) (count n (x ∷ rest)) 0
     away-from away true later = count-other n x (passing test rest) away ∙ (later ∙ ap (λ k. pick (test n) k 0) (sym (count-other n x rest away)))
     away-from away false later = later ∙ ap (λ k. pick (test n) k 0) (sym (count-other n x rest away))
+
+-- and among those that fail if it does not
+pub count-failing : (test : ℕ → Bool) (list : List ℕ) (n : ℕ) → count n (failing test list) ≡ pick (test n) 0 (count n list)
+count-failing test list n = at (test n) (count-passing test list n)
+  where
+    at : (b : Bool) → count n (passing test list) ≡ pick b (count n list) 0 → count n (failing test list) ≡ pick b 0 (count n list)
+    at true passed = omega (arith, passed, count-parted test list n)
+    at false passed = omega (arith, passed, count-parted test list n)

@@ -1,10 +1,10 @@
 -- A table has thirty-two thread records and sixty-four object records, and every event keeps it so.
 use Prim.Native.Nat.{ℕ, zero, suc}
 use mathlib.Core.Path.{_≡_, ap, _∙_}
-use mathlib.Core.Bool.{Bool, true}
+use mathlib.Core.Bool.{Bool, true, false}
 use lib.Dec.{eqb}
 use lib.ListN.{length}
-use Rattle.laws.specs.Choice.{within}
+use Rattle.laws.specs.Choice.{pick, within}
 use Rattle.laws.proofs.Choice.{by-test}
 use Rattle.lock_rules.specs.Gate.{event-thread, event-object}
 use Rattle.lock_rules.specs.declared.event.Event.{Event}
@@ -14,7 +14,7 @@ use Rattle.lock_table.specs.Access.{thread-at, set-thread, object-at, set-objec
 use Rattle.lock_table.specs.Chain.{hang, moved, move-all}
 use Rattle.lock_table.specs.declared.record.{ThreadRecord.ThreadRecord, ObjectRecord.ObjectRecord, Monitor.Monitor, Table.Table}
 use Rattle.lock_table.proofs.Records.{thread-beside, object-beside}
-use Rattle.lock_perform.specs.Moving.{CarriedOut, relink, moved-whole, after-whole, carry-out}
+use Rattle.lock_perform.specs.Moving.{CarriedOut, relink, moved-whole, after-whole, queued-exit, let-out, let-outs, lets-out, carry-out}
 use Rattle.lock_perform.specs.Parting.{PartedChain, no-parting, part-chain}
 use Rattle.lock_perform.specs.declared.parting.Parting.{Parting}
 use Rattle.lock_soundness.specs.Sound.{sound-of}
@@ -59,13 +59,6 @@ full-move (suc fuel) table first full =
 full-relink : {table : Table} (monitor : Monitor) (work : ChainWork) (thread number : ℕ) → Full table → Full (relink table monitor work thread number .table)
 full-relink monitor work thread number full = full-hang thread-limit _ _ _ (full-thread _ _ full)
 
-pub full-carried : (table : Table) (monitor : Monitor) (work : ChainWork) (thread number : ℕ) → Full table
-    → Full (carry-out table monitor work thread number .table)
-unfolding after-whole
-full-carried table monitor work thread number full =
-    by-test (λ (after : CarriedOut). Full (after .table)) (eqb (moved-whole work monitor) 0) (λ none. full-relink monitor work thread number full)
-    (λ some. full-relink monitor work thread number (full-move thread-limit table (moved-whole work monitor) full))
-
 -- a chain parted
 full-parted : (goes : ThreadRecord → Bool) (after : ThreadRecord → Bool → ThreadRecord) (together : Bool) (fuel : ℕ) (table : Table) (parting : Parting) (at : ℕ)
     → Full table → Full (part-chain goes after together fuel table parting at .table)
@@ -74,6 +67,25 @@ full-parted goes after together zero table parting at full = full
 full-parted goes after together (suc fuel) table parting at full =
     by-test (λ (parted : PartedChain). Full (parted .table)) (within 1 thread-limit at)
     (λ inside. full-parted goes after together fuel _ _ _ (full-thread _ _ (full-thread _ _ full))) (λ outside. full)
+
+full-whole : (table : Table) (monitor : Monitor) (work : ChainWork) (thread number : ℕ) → Full table
+    → Full (after-whole table (moved-whole work monitor) monitor work thread number .table)
+unfolding after-whole
+full-whole table monitor work thread number full =
+    by-test (λ (after : CarriedOut). Full (after .table)) (eqb (moved-whole work monitor) 0) (λ none. full-relink monitor work thread number full)
+    (λ some. full-relink monitor work thread number (full-move thread-limit table (moved-whole work monitor) full))
+
+pub full-carried : (table : Table) (monitor : Monitor) (work : ChainWork) (thread number : ℕ) → Full table
+    → Full (carry-out table monitor work thread number .table)
+full-carried table monitor work thread number full =
+    let carried = after-whole table (moved-whole work monitor) monitor work thread number in
+    let whole = full-whole table monitor work thread number full in
+    at (lets-out work) (let-outs (carried .table) (carried .monitor)) carried
+    (full-parted queued-exit let-out false thread-limit (carried .table) no-parting (carried .monitor .entry) whole) whole
+  where
+    at : (lets : Bool) (after carried : CarriedOut) → Full (after .table) → Full (carried .table) → Full (pick lets after carried .table)
+    at true after carried out whole = out
+    at false after carried out whole = whole
 
 -- a tick: the waiters of each object parted, those that ran out hung behind the entry chain, and the monitor handed
 full-handed : (table : Table) (monitor : Monitor) → Full table → Full (hand-if-free table monitor .table)

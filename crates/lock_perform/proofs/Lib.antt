@@ -2,5 +2,6 @@
 pub mod Lengths
 pub mod InPlace
 pub mod PartInPlace
+pub mod LetOutInPlace
 pub mod Staying
 pub mod Performed

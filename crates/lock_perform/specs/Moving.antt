@@ -1,16 +1,18 @@
 -- What the work of a rule on chains does to the table's threads and to the monitor of the step's object (document 01, "Steps").
 use Prim.Native.Nat.{ℕ}
+use mathlib.Core.Bool.{Bool, true, false}
 use lib.Dec.{eqb}
 use Rattle.laws.specs.Choice.{pick}
 use Rattle.chains.specs.declared.named.Chain.{Chain}
 use Rattle.lock_rules.specs.declared.Taken.{Taken}
 use Rattle.lock_rules.specs.declared.Taken.the-variants.{First, All}
 use Rattle.lock_rules.specs.declared.ChainWork.{ChainWork}
-use Rattle.lock_rules.specs.declared.ChainWork.the-variants.{Stay, Join, JoinAndHand, Hand, Move, SendBack}
+use Rattle.lock_rules.specs.declared.ChainWork.the-variants.{Stay, Join, JoinAndHand, Hand, Move, MoveAndLetOut, SendBack}
 use Rattle.lock_table.specs.Limits.{thread-limit}
-use Rattle.lock_table.specs.Record.{with-next, with-activity}
+use Rattle.lock_table.specs.Record.{with-next, with-activity, idle}
+use Rattle.lock_table.specs.Phase.{phase-number, carried-number}
 use Rattle.lock_table.specs.Access.{thread-at, set-thread}
-use Rattle.lock_table.specs.Monitor.{hand-of, first-in, with-first, join, move-to-entry}
+use Rattle.lock_table.specs.Monitor.{hand-of, first-in, with-first, join, move-to-entry, let-out-of}
 use Rattle.lock_table.specs.Chain.{hang, handed-of, moved, move-all}
 use Rattle.lock_table.specs.Narrow.{narrow-of}
 use Rattle.lock_table.specs.declared.phase.Phase.{Phase}
@@ -20,7 +22,7 @@ use Rattle.lock_table.specs.declared.phase.Phase.the-variants.{GiveUp, Waiting,
 use Rattle.lock_table.specs.declared.record.ThreadRecord.{ThreadRecord}
 use Rattle.lock_table.specs.declared.record.Monitor.{Monitor}
 use Rattle.lock_table.specs.declared.record.Table.{Table}
-use Rattle.lock_perform.specs.Parting.{thread-set}
+use Rattle.lock_perform.specs.Parting.{thread-set, no-parting, part-chain}
 use Rattle.lock_perform.specs.declared.moving.ChainPlan.{ChainPlan}
 
 -- cancel: the word's thread, if in phase 2 on this object, goes back to 1; its kept word falls out of use
@@ -60,6 +62,7 @@ touched (Join chain) monitor = 0
 touched (JoinAndHand chain) monitor = monitor .entry
 touched Hand monitor = monitor .entry
 touched (Move from which) monitor = touched-by-move monitor from which
+touched MoveAndLetOut monitor = touched-by-move monitor Chain.Contention All
 touched (SendBack owner) monitor = narrow-of owner
 
 -- the record changes, and nobody joins a chain
@@ -107,6 +110,7 @@ plan (Join chain) monitor thread object before = joining before monitor 0 chain 
 plan (JoinAndHand chain) monitor thread object before = plan-join-and-hand monitor before chain thread
 plan Hand monitor thread object before = plan-hand monitor before
 plan (Move from which) monitor thread object before = plan-move monitor before from which
+plan MoveAndLetOut monitor thread object before = plan-move monitor before Chain.Contention All
 plan (SendBack owner) monitor thread object before = unlinked (sent-back-of object before) monitor 0
 
 -- the table and the monitor after a work, and the set of threads that it unparked
@@ -137,6 +141,7 @@ moved-whole (Join chain) monitor = 0
 moved-whole (JoinAndHand chain) monitor = 0
 moved-whole Hand monitor = 0
 moved-whole (Move from which) monitor = whole-move monitor from which
+moved-whole MoveAndLetOut monitor = whole-move monitor Chain.Contention All
 moved-whole (SendBack owner) monitor = 0
 
 -- the threads of that chain changed first
@@ -144,6 +149,32 @@ unfoldable pub after-whole : Table → ℕ → Monitor → ChainWork → ℕ →
 after-whole table whole monitor work thread object =
     pick (eqb whole 0) (relink table monitor work thread object) (relink (move-all thread-limit table whole) monitor work thread object)
 
+-- "inflating lets every queued exit out of the entry chain, finished and idle" (document 02, L2): who carries 10 is one
+abbrev pub queued-exit : ThreadRecord → Bool
+queued-exit thread = eqb (carried-number (thread .phase)) (phase-number Tell)
+
+-- a thread of the entry chain, in no chain yet: one that goes is idle
+unfoldable pub let-out : ThreadRecord → Bool → ThreadRecord
+let-out thread goes = let after = with-next thread 0 in pick goes (idle after) after
+
+-- the others stay in order; those that were let out are unparked, and nobody was by the move before
+abbrev pub let-outs : Table → Monitor → CarriedOut
+let-outs table monitor =
+    let parted = part-chain queued-exit let-out false thread-limit table no-parting (monitor .entry) in
+    let left = let-out-of monitor (parted .parting .left .first) (parted .parting .set) in
+    record { table = parted .table; monitor = left .monitor; unparked = left .threads }
+
+abbrev pub lets-out : ChainWork → Bool
+lets-out Stay = false
+lets-out (Join chain) = false
+lets-out (JoinAndHand chain) = false
+lets-out Hand = false
+lets-out (Move from which) = false
+lets-out MoveAndLetOut = true
+lets-out (SendBack owner) = false
+
 -- the work of `thread` at `object` carried out
 abbrev pub carry-out : Table → Monitor → ChainWork → ℕ → ℕ → CarriedOut
-carry-out table monitor work thread object = after-whole table (moved-whole work monitor) monitor work thread object
+carry-out table monitor work thread object =
+    let carried = after-whole table (moved-whole work monitor) monitor work thread object in
+    pick (lets-out work) (let-outs (carried .table) (carried .monitor)) carried

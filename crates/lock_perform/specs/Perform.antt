@@ -7,7 +7,7 @@ use Rattle.lock_word.specs.Meaning.{cancel-of}
 use Rattle.lock_rules.specs.declared.WordChange.{WordChange}
 use Rattle.lock_rules.specs.declared.WordChange.the-variants.{Unchanged, Freed, OwnFlat, OwnReserved, Cancelled, Inflated}
 use Rattle.lock_rules.specs.declared.ChainWork.{ChainWork}
-use Rattle.lock_rules.specs.declared.ChainWork.the-variants.{Stay, Join, JoinAndHand, Hand, Move, SendBack}
+use Rattle.lock_rules.specs.declared.ChainWork.the-variants.{Stay, Join, JoinAndHand, Hand, Move, MoveAndLetOut, SendBack}
 use Rattle.lock_rules.specs.declared.Effect.{Effect}
 use Rattle.lock_table.specs.Access.{set-thread, set-object, next-of}
 use Rattle.lock_table.specs.Record.{with-next, with-word, with-flag, with-monitor}
@@ -45,6 +45,7 @@ stays (Join chain) = false
 stays (JoinAndHand chain) = false
 stays Hand = false
 stays (Move from which) = false
+stays MoveAndLetOut = false
 stays (SendBack owner) = false
 
 -- the work on the chains, then both records: the thread's with the next index and the object's with the chains that the work gave

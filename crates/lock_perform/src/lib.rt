@@ -1,11 +1,17 @@
 // A step's action on records: threads read from and written to their records, what a rule sees of its object, and what an effect does to words,
 // monitors and the records of chains (document 01, "Steps").
+mod letting_out;
 mod moving;
 mod parting;
 mod performing;
 mod sighting;
 mod state;
 
+pub use letting_out::let_out;
+pub use letting_out::let_out_by;
+pub use letting_out::let_out_from;
+pub use letting_out::lets_out;
+pub use letting_out::queued_exit;
 pub use moving::ChainPlan;
 pub use moving::goes_on;
 pub use moving::hung;

@@ -90,6 +90,7 @@ pub fn touched(work: ChainWork, monitor: Monitor) -> u8
         ChainWork::JoinAndHand(_) => monitor.entry,
         ChainWork::Hand => monitor.entry,
         ChainWork::Move(from, taken) => touched_by_move(monitor, from, taken),
+        ChainWork::MoveAndLetOut => touched_by_move(monitor, Chain::Contention, Taken::All),
         ChainWork::SendBack(owner) => narrow(owner as u32),
     }
 }
@@ -182,6 +183,7 @@ fn plan(
         ChainWork::JoinAndHand(chain) => plan_join_and_hand(monitor, before, chain, thread),
         ChainWork::Hand => plan_hand(monitor, before),
         ChainWork::Move(from, taken) => plan_move(monitor, before, from, taken),
+        ChainWork::MoveAndLetOut => plan_move(monitor, before, Chain::Contention, Taken::All),
         ChainWork::SendBack(_) => unlinked(sent_back(object, before), monitor, 0),
     }
 }
@@ -236,6 +238,7 @@ pub fn moved_whole(work: ChainWork, monitor: Monitor) -> u8
         ChainWork::JoinAndHand(_) => 0,
         ChainWork::Hand => 0,
         ChainWork::Move(from, taken) => whole_move(monitor, from, taken),
+        ChainWork::MoveAndLetOut => whole_move(monitor, Chain::Contention, Taken::All),
         ChainWork::SendBack(_) => 0,
     }
 }

@@ -54,6 +54,7 @@ pub fn stays(work: ChainWork) -> bool
         ChainWork::JoinAndHand(_) => false,
         ChainWork::Hand => false,
         ChainWork::Move(_, _) => false,
+        ChainWork::MoveAndLetOut => false,
         ChainWork::SendBack(_) => false,
     }
 }

@@ -2,28 +2,31 @@
 use Prim.Native.Nat.{ℕ, _≤_, _<_}
 use mathlib.Core.Path.{_≡_, refl, sym, ap, _∙_, subst}
 use mathlib.Core.Logic.{_⊎_, inl, inr}
+use mathlib.Core.Bool.{true}
 use mathlib.Core.List.{List, [], _∷_}
 use native.Mathlib.Omega.{arith}
 use lib.Dec.{eqb}
 use lib.ListN.{length}
 use Rattle.laws.specs.{Update.update, Count.count}
-use Rattle.laws.proofs.Choice.{by-test, by-equal}
+use Rattle.laws.proofs.Choice.{by-test, by-equal, either-way, equal?}
 use Rattle.laws.proofs.Count.{count-none, count-same}
 use Rattle.chains.specs.Joining.{first-with, linked}
-use Rattle.chains.specs.declared.named.Chain.{Chain}
+use Rattle.chains.specs.declared.{named.Chain.Chain, ends.Ends.Ends}
 use Rattle.chains.proofs.Chain.{Chain as ChainOf, head}
 use Rattle.chains.proofs.Walk.{walk}
-use Rattle.chains.proofs.Links.{Links, leave-links, leave-lists, leave-within, leave-short, represent-leave}
-use Rattle.lock_rules.proofs.Changes.{handed, moved}
+use Rattle.chains.proofs.Links.{Links, leave-links, leave-lists, move-links, drop-links, leave-within, leave-short, represent-leave, represent-move}
+use Rattle.lock_rules.proofs.Changes.{handed, moved, is-queued-exit}
 use Rattle.lock_rules.specs.declared.{ThreadState.ThreadState, ChainWork.ChainWork, Effect.Effect}
 use Rattle.lock_rules.specs.declared.ThreadState.the-variants.{Idle}
 use Rattle.lock_rules.specs.declared.Taken.the-variants.{First, All}
-use Rattle.lock_rules.specs.declared.ChainWork.the-variants.{Stay, Join, JoinAndHand, Hand, Move, SendBack}
+use Rattle.lock_rules.specs.declared.ChainWork.the-variants.{Stay, Join, JoinAndHand, Hand, Move, MoveAndLetOut, SendBack}
 use Rattle.lock_rules.proofs.{Each.each-chain, ListSound.SoundTable}
 use Rattle.lock_rules.proofs.Objects.{ListObject, chain-of, with-chain}
-use Rattle.lock_rules.proofs.Perform.{taken, left as left-list, first-of, changed-states, handed-object, states-after, object-after, effected}
+use Rattle.lock_rules.proofs.Perform.{count-entered-all, taken, left as left-list, first-of, changed-states, handed-object, moved-object, moved-states, let-out-states}
+use Rattle.lock_rules.proofs.Perform.{states-after, object-after, effected}
+use Rattle.lock_rules.proofs.{Invariant.in-entry, LetOut.exit-is, LetOut.moved-from}
 use Rattle.lock_rules.proofs.Tables.{ListThread, ListTable}
-use Rattle.lock_rules.proofs.ListChains.{member-at, member-in, short}
+use Rattle.lock_rules.proofs.ListChains.{member-at, member-in, short, both-short}
 use Rattle.lock_table.specs.{Limits.thread-limit, Record.with-next, Narrow.narrow-of}
 use Rattle.lock_table.specs.Access.{thread-at, set-thread}
 use Rattle.lock_table.specs.Monitor.{hand-of, first-in, with-first, join}
@@ -32,12 +35,13 @@ use Rattle.lock_table.specs.declared.record.{ThreadRecord.ThreadRecord, Monitor
 use Rattle.lock_table.proofs.{Records.set-thread-out, Narrowed.narrowed}
 use Rattle.lock_table.proofs.Walks.{move-none, hang-none}
 use Rattle.lock_perform.specs.State.{write-thread}
-use Rattle.lock_perform.specs.Moving.{CarriedOut, sent-back-of, relink, after-whole, carry-out}
-use Rattle.lock_records.proofs.Numbering.{number, place-of, lists-of, list-at, update-number, work-links, first-is-head}
+use Rattle.lock_perform.specs.Moving.{CarriedOut, sent-back-of, relink, after-whole, let-outs, carry-out}
+use Rattle.lock_records.proofs.Numbering.{number, place-of, lists-of, list-at, update-number, work-links, first-is-head, entered-all, all-moved as lists-moved}
 use Rattle.lock_records.proofs.Written.{handed-written, moved-written}
 use Rattle.lock_records.proofs.Represents.{monitor-record, Represents, next-is}
 use Rattle.lock_records.proofs.Readings.{nobody, past-idle, first-is, chained as chained-in}
 use Rattle.lock_records.proofs.Moves.{change, Moves, Inside, moves-hang, moves-first, moves-send, moves-all}
+use Rattle.lock_records.proofs.LetOuts.{let-outs-moves}
 use Rattle.lock_records.proofs.Placing.{sees, placed, placed-none, placed-before, placed-first, placed-all, placed-sent}
 
 -- what a work leaves of the object
@@ -51,14 +55,15 @@ scalars-with : (chain : Chain) (o : ListObject) (list : List ℕ) → SameScalar
 scalars-with = each-chain _ (search)
 
 -- no work changes word or flag
-pub word-kept : (work : ChainWork) (thread : ℕ) (o : ListObject)
-    → (object-after work thread o .word ≡ o .word) × (object-after work thread o .flag ≡ o .flag)
-word-kept Stay thread o = (refl, refl)
-word-kept (Join chain) thread o = let same = scalars-with chain o _ in (same .word, same .flag)
-word-kept (JoinAndHand chain) thread o = let same = scalars-with chain _ _ in (same .word, same .flag)
-word-kept Hand thread o = (refl, refl)
-word-kept (Move from which) thread o = let same = scalars-with from o _ in (same .word, same .flag)
-word-kept (SendBack owner) thread o = (refl, refl)
+pub word-kept : (work : ChainWork) (thread : ℕ) (states : ℕ → ThreadState) (o : ListObject)
+    → (object-after work thread states o .word ≡ o .word) × (object-after work thread states o .flag ≡ o .flag)
+word-kept Stay thread states o = (refl, refl)
+word-kept (Join chain) thread states o = let same = scalars-with chain o _ in (same .word, same .flag)
+word-kept (JoinAndHand chain) thread states o = let same = scalars-with chain _ _ in (same .word, same .flag)
+word-kept Hand thread states o = (refl, refl)
+word-kept (Move from which) thread states o = let same = scalars-with from o _ in (same .word, same .flag)
+word-kept MoveAndLetOut thread states o = (refl, refl)
+word-kept (SendBack owner) thread states o = (refl, refl)
 
 -- after a work at object o on table t: its threads are in these states, written with these links, and its monitor has these chains, holder and depth
 pub record Acted (given : ℕ → ThreadRecord) (t : Table) (lists : ListTable) (o : ℕ) (links : Links) (after : CarriedOut) (states : ℕ → ThreadState) (holder depth : ℕ) : Type 0 where
@@ -224,7 +229,11 @@ module _ (threads objects : ℕ) (t : Table) (lists : ListTable) (represents : R
             let after : Table → CarriedOut = λ table. relink table monitor work i o in
             by-equal (λ out. out ≡ after (move-all thread-limit t whole)) whole 0 (λ e. ap after (sym (ap (move-all thread-limit t) e ∙ move-none thread-limit t))) (λ e. refl)
 
-        moved-first : (from : Chain) → carry-out t monitor (Move from All) i o ≡ relink (move-all thread-limit t (first from)) monitor (Move from All) i o
+        abbrev seen : ℕ → ThreadState
+        seen = sees o (lists .threads)
+
+        moved-first : (from : Chain)
+            → after-whole t (first-in monitor from) monitor (Move from All) i o ≡ relink (move-all thread-limit t (first from)) monitor (Move from All) i o
         moved-first from =
             whole-moved (first-in monitor from) (Move from All)
             ∙ ap (λ (n : ℕ). relink (move-all thread-limit t n) monitor (Move from All) i o)
@@ -241,21 +250,93 @@ module _ (threads objects : ℕ) (t : Table) (lists : ListTable) (represents : R
             out : (n : ℕ) → thread-limit < n → sent n ≡ t
             out n past = set-thread-out t n (sent-back-of o (thread-at t n)) (inr past)
 
+        -- all of a chain have moved to the entry chain
+        acted-all : (from : Chain)
+            → Acted (represents .given .thread) t lists o (move-links thread-limit (number o from) (number o Chain.Entry) (represents .links))
+            (after-whole t (first-in monitor from) monitor (Move from All) i o) (moved-states from All seen now) (effect .holder) (effect .depth)
+        acted-all from =
+            let recorded = first-recorded o (represents .links) (effect .holder) (effect .depth) from in
+            let left : Links = record { next = represents .links .next; first = update (represents .links .first) (number o from) 0 } in
+            let rest : with-first monitor from 0 ≡ monitor-record o left (effect .holder) (effect .depth) =
+            left-recorded o (represents .links) (effect .holder) (effect .depth) from 0 in
+            let queued = move-all thread-limit t (first from) in
+            subst
+            (λ (after : CarriedOut). Acted (represents .given .thread) t lists o (move-links thread-limit (number o from) (number o Chain.Entry) (represents .links)) after
+            (moved-states from All seen now) (effect .holder) (effect .depth)) (sym (moved-first from))
+            (record {
+              moves = rw (recorded, unwritten queued (thread-at queued 0), rest, same-list from) (all-moved from);
+              monitor = rw (recorded, rest) (joined-recorded o left (effect .holder) (effect .depth) Chain.Entry (first from));
+            })
+
+        -- and the exits are let out of it
+        abbrev queue : ListObject
+        queue = moved-object Chain.Contention All now
+
+        abbrev queue-links : Links
+        queue-links = move-links thread-limit (number o Chain.Contention) (number o Chain.Entry) (represents .links)
+
+        queue-chained : ChainOf (queue-links .next) (queue-links .first (number o Chain.Entry)) (queue .entry)
+        queue-chained =
+            rw (lists-moved (lists .objects) seen i o effect Chain.Contention Chain.Entry) at
+            (represent-move (represents .links) (lists-of (lists .objects)) (represents .chains) thread-limit (number o Chain.Contention) (number o Chain.Entry)
+            (rw (list-at (lists .objects) o Chain.Entry) (brief Chain.Entry)) .chain (number o Chain.Entry))
+
+        -- who is in it was queued or contended
+        queue-from : (P : Type 0) (n : ℕ) → 0 < count n (queue .entry) → ((chain : Chain) → 0 < count n (list chain) → P) → P
+        queue-from P n h each =
+            either-way (equal? (count n (list Chain.Entry)) 0)
+            (λ none. each Chain.Contention (omega (arith, h, none, count-entered-all n (list Chain.Entry) (list Chain.Contention))))
+            (λ some. each Chain.Entry (omega (arith, some)))
+
+        queue-short : length (queue .entry) ≤ thread-limit
+        queue-short = rw (entered-all (list Chain.Entry) (list Chain.Contention)) (omega (arith, both-short threads objects lists sound o, represents .thread-room))
+
+        -- a queued exit was one before the contenders moved, and so was in the entry chain
+        exit-queued : (n : ℕ) → is-queued-exit (moved-states Chain.Contention All seen now n) ≡ true → 0 < count n (queue .entry)
+        exit-queued n exits =
+            let was = exit-is (seen n) (moved-from seen n (list Chain.Contention) (rw exits tt)) in
+            omega (
+              arith,
+              count-entered-all n (list Chain.Entry) (list Chain.Contention),
+              sound .sound o .placed n .entry,
+              ap in-entry was,
+            )
+
+        acted-out : let after = after-whole t (first-in monitor Chain.Contention) monitor (Move Chain.Contention All) i o in
+            let moves = moved-states Chain.Contention All seen now in
+            Acted (represents .given .thread) t lists o (drop-links thread-limit (λ n. is-queued-exit (moves n)) (number o Chain.Entry) queue-links)
+            (let-outs (after .table) (after .monitor)) (let-out-states moves) (effect .holder) (effect .depth)
+        acted-out =
+            let base = acted-all Chain.Contention in
+            let after = after-whole t (first-in monitor Chain.Contention) monitor (Move Chain.Contention All) i o in
+            let moves = moved-states Chain.Contention All seen now in
+            let (out, left) = let-outs-moves o (lists .threads) moves (queue .entry) (λ n h. queue-from (lists .threads n .object ≡ o) n h (λ chain. home chain n)) exit-queued
+            (represents .given .thread) t (after .table) (queue-links .next) (queue-links .first (number o Chain.Entry)) (base .moves) queue-chained queue-short
+            (λ n h. queue-from ((0 < n) × (n ≤ thread-limit)) n h (λ chain. inside chain n)) in
+            subst
+            (λ (m : Monitor). Acted (represents .given .thread) t lists o (drop-links thread-limit (λ n. is-queued-exit (moves n)) (number o Chain.Entry) queue-links)
+            (let-outs (after .table) m) (let-out-states moves) (effect .holder) (effect .depth)) (sym (base .monitor))
+            (record {
+              moves = out;
+              monitor = ap (λ (ends : Ends). with-first (monitor-record o queue-links (effect .holder) (effect .depth)) Chain.Entry (ends .first)) left
+                  ∙ left-recorded o queue-links (effect .holder) (effect .depth) Chain.Entry _;
+            })
+
         pub acted : (work : ChainWork)
-            → Acted (represents .given .thread) t lists o (work-links i o work (represents .links)) (carry-out t monitor work i o) (states-after work (sees o (lists .threads)) now)
-            (object-after work i now .holder) (object-after work i now .depth)
+            → Acted (represents .given .thread) t lists o (work-links (λ n. is-queued-exit (moved-states Chain.Contention All seen now n)) i o work (represents .links))
+            (carry-out t monitor work i o) (states-after work seen now) (object-after work i seen now .holder) (object-after work i seen now .depth)
         unfolding after-whole
         acted Stay =
             record { moves = rw (unwritten t (thread-at t 0), hang-none thread-limit t 0, ← (placed-none o (lists .threads))) begun; monitor = refl }
         acted (Join chain) =
-            let same : SameScalars now (object-after (Join chain) i now) = scalars-with chain now _ in
+            let same : SameScalars now (object-after (Join chain) i seen now) = scalars-with chain now _ in
             record {
               moves = rw (unwritten t (thread-at t 0), first-recorded o (represents .links) (effect .holder) (effect .depth) chain, ← (placed-none o (lists .threads)))
                   (moves-hang (represents .given .thread) t t (lists .threads) (represents .links .next) begun (list chain) (first chain) i (chained chain) (brief chain) (inside chain));
               monitor = rw (same .holder, same .depth) (joined-recorded o (represents .links) (effect .holder) (effect .depth) chain i);
             }
         acted (JoinAndHand chain) =
-            let same : SameScalars (handed-object now) (object-after (JoinAndHand chain) i now) = scalars-with chain (handed-object now) _ in
+            let same : SameScalars (handed-object now) (object-after (JoinAndHand chain) i seen now) = scalars-with chain (handed-object now) _ in
             record {
               moves = rw (after-hand, first-recorded o (leave-links (number o Chain.Entry) (represents .links)) (first Chain.Entry) 0 chain)
                   (hung-left Chain.Entry chain i _ _ (leaves Chain.Entry handed-of handed refl handed-written));
@@ -284,19 +365,8 @@ module _ (threads objects : ℕ) (t : Table) (lists : ListTable) (represents : R
             }
         acted (Move from All) =
             let same : SameScalars now (with-chain from now []) = scalars-with from now _ in
-            let recorded = first-recorded o (represents .links) (effect .holder) (effect .depth) from in
-            let left : Links = record { next = represents .links .next; first = update (represents .links .first) (number o from) 0 } in
-            let rest : with-first monitor from 0 ≡ monitor-record o left (effect .holder) (effect .depth) =
-            left-recorded o (represents .links) (effect .holder) (effect .depth) from 0 in
-            let queued = move-all thread-limit t (first from) in
-            subst
-            (λ (after : CarriedOut). Acted (represents .given .thread) t lists o (work-links i o (Move from All) (represents .links)) after
-            (states-after (Move from All) (sees o (lists .threads)) now) (object-after (Move from All) i now .holder)
-            (object-after (Move from All) i now .depth)) (sym (moved-first from))
-            (record {
-              moves = rw (recorded, unwritten queued (thread-at queued 0), rest, same-list from) (all-moved from);
-              monitor = rw (same .holder, same .depth, recorded, rest) (joined-recorded o left (effect .holder) (effect .depth) Chain.Entry (first from));
-            })
+            rw (same .holder, same .depth) (acted-all from)
+        acted MoveAndLetOut = acted-out
         acted (SendBack owner) =
             record {
               moves = rw (

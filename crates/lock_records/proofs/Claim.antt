@@ -72,10 +72,10 @@ owner-small threads (Flat thread count) holder depth fine small = fine .1
 owner-small threads (Reserved thread count) holder depth fine small = by-test (λ (n : ℕ). n ≤ threads) (eqb count 0) (λ e. omega arith) (λ e. fine .1)
 
 -- a thread that can take a step is neither idle nor parked
-abbrev Steps : ℕ → Type 0
+abbrev pub Steps : ℕ → Type 0
 Steps phase = ((phase ≢ 5) × (phase ≢ 8) × (phase ≢ 14)) × (phase ≢ 0)
 
-doing-steps : (doing : Doing) → Steps (phase-of-doing doing)
+pub doing-steps : (doing : Doing) → Steps (phase-of-doing doing)
 doing-steps = each-doing _ (search arith)
 
 -- what a phase's number says of the state
@@ -89,10 +89,17 @@ parked-by =
       λ saved e. either-way e (λ q. omega (arith, q)) (λ q. omega (arith, q)),
     )
 
+idle-phase : (state : ThreadState) → phase-of state ≡ 0 → state ≡ Idle
+idle-phase =
+    each-state _ (search, λ doing e. absurd (doing-steps doing .1 e), λ carried e. absurd (omega (arith, e)), λ e. absurd (omega (arith, e)), λ saved e. absurd (omega (arith, e)))
+
+busy-phase : (state : ThreadState) → phase-of state ≢ 0 → T (unfinished state)
+busy-phase = each-state _ (λ e. absurd (e refl), search, search, search, search)
+
 busy-parked : (state : ThreadState) → T (parked-for-entry state) → T (unfinished state)
 busy-parked = each-state _ (search)
 
-steps-unparked : (state : ThreadState) → T (unparked state) → T (unfinished state) → Steps (phase-of state)
+pub steps-unparked : (state : ThreadState) → T (unparked state) → T (unfinished state) → Steps (phase-of state)
 steps-unparked = each-state _ (search doing-steps)
 
 -- woken by the numbers in a record
@@ -128,10 +135,17 @@ module _ (threads objects : ℕ) (t : Table) (lists : ListTable) (represents : R
         ∙ ownership-seen threads o (represents .links) (lists .objects o .word) (lists .objects o .holder) (lists .objects o .depth)
         (sound .sound o .word) (sound .sound o .shallow)
 
-    phase-is : (n : ℕ) → phase-number-at t n ≡ phase-of (lists .threads n .state)
+    pub phase-is : (n : ℕ) → phase-number-at t n ≡ phase-of (lists .threads n .state)
     phase-is n =
         ap (λ (thread : ThreadRecord). phase-number (thread .phase)) (thread-is threads objects t lists represents sound n)
         ∙ phase-written n (lists .threads n .object) (lists .threads n .state)
+
+    -- a thread is idle in its record where it is in the lists
+    pub phase-idle : (n : ℕ) → phase-number-at t n ≡ 0 → lists .threads n .state ≡ Idle
+    phase-idle n idle = idle-phase (lists .threads n .state) (sym (phase-is n) ∙ idle)
+
+    pub phase-busy : (n : ℕ) → phase-number-at t n ≢ 0 → T (unfinished (lists .threads n .state))
+    phase-busy n busy = busy-phase (lists .threads n .state) (λ e. busy (phase-is n ∙ e))
 
     woken-is : (o n : ℕ) → woken-at t o n ≡ is-woken (seen-from o (lists .threads n))
     woken-is o n =

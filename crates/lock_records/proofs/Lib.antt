@@ -6,9 +6,10 @@ pub mod Represents
 pub mod Readings
 pub mod Moves
 pub mod Placing
+pub mod PartWalk
+pub mod LetOuts
 pub mod Actions
 pub mod Replaced
-pub mod PartWalk
 pub mod WaiterTicked
 pub mod Performs
 pub mod TickWaited
@@ -17,6 +18,7 @@ pub mod Operations
 pub mod RecordKind
 pub mod FreshRecords
 pub mod Claim
+pub mod ExitsWait
 pub mod Ruled
 pub mod Naming
 pub mod Fits

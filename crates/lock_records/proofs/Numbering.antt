@@ -1,25 +1,26 @@
 -- The chains of all objects under one numbering, three to an object; the lists that these chains have in a table with lists; and what each work on chains
 -- does to the lists and to the links that stand for them.
 use Prim.Native.Nat.{ℕ, zero, suc, _+_, _*_, _/_, _%_, _≤_, _<_}
-use mathlib.Core.Path.{_≡_, refl, sym, _∙_, subst, fun-ext}
+use mathlib.Core.Path.{_≡_, refl, sym, ap, _∙_, subst, fun-ext}
 use mathlib.Core.Logic.{_≢_}
+use mathlib.Core.Bool.{Bool}
 use mathlib.Core.List.{List, [], _∷_, _++_, tail}
 use native.Mathlib.Omega.{arith}
 use lib.Dec.{eqb}
 use lib.ListN.{length, take}
-use Rattle.laws.specs.{Choice.pick, Update.update, Count.count}
+use Rattle.laws.specs.{Choice.pick, Update.update, Count.count, Filter.failing}
 use Rattle.laws.proofs.Choice.{by-equal, either-way, equal?}
 use Rattle.laws.proofs.Update.{update-same, update-other}
 use Rattle.chains.proofs.Chain.{head}
 use Rattle.chains.proofs.Links.{Links, LinksRepresent, leave-links, leave-lists, join-links, join-lists, move-links, move-lists, shift-links}
-use Rattle.chains.proofs.Links.{shift-lists, leave-within, leave-short, represent-leave, represent-join, represent-move, represent-shift}
+use Rattle.chains.proofs.Links.{shift-lists, drop-links, drop-lists, represent-drop, leave-within, leave-short, represent-leave, represent-join, represent-move, represent-shift}
 use Rattle.chains.specs.declared.named.Chain.{Chain}
-use Rattle.lock_rules.specs.declared.{Taken.Taken, ChainWork.ChainWork, Effect.Effect}
+use Rattle.lock_rules.specs.declared.{ThreadState.ThreadState, Taken.Taken, ChainWork.ChainWork, Effect.Effect}
 use Rattle.lock_rules.specs.declared.Taken.the-variants.{First, All}
-use Rattle.lock_rules.specs.declared.ChainWork.the-variants.{Stay, Join, JoinAndHand, Hand, Move, SendBack}
-use Rattle.lock_rules.proofs.Each.{each-chain}
+use Rattle.lock_rules.specs.declared.ChainWork.the-variants.{Stay, Join, JoinAndHand, Hand, Move, MoveAndLetOut, SendBack}
+use Rattle.lock_rules.proofs.{Each.each-chain, Changes.is-queued-exit}
 use Rattle.lock_rules.proofs.Objects.{ListObject, chain-of, with-chain}
-use Rattle.lock_rules.proofs.Perform.{enter-queue-all, join, taken, left, first-of, handed-object, moved-object, object-after, effected}
+use Rattle.lock_rules.proofs.Perform.{enter-queue-all, join, taken, left, first-of, handed-object, moved-object, moved-states, object-after, effected}
 use Rattle.lock_table.specs.Limits.{thread-limit}
 
 -- a chain's place among the three of its object
@@ -91,47 +92,61 @@ lists-replaced objects o new list own others =
     (λ away. others (number p chain) (λ chain′. objects-apart o p chain chain′ away)
     ∙ rw (list-at (update objects o new) p chain, list-at objects p chain, update-other objects o new p away))))
 
--- What the work of `thread` at object o on chains does to the lists, and to the links.
-abbrev pub work-lists : ℕ → ℕ → ChainWork → (ℕ → List ℕ) → ℕ → List ℕ
-work-lists thread o Stay list = list
-work-lists thread o (Join chain) list = join-lists (number o chain) thread list
-work-lists thread o (JoinAndHand chain) list = join-lists (number o chain) thread (leave-lists (number o Chain.Entry) list)
-work-lists thread o Hand list = leave-lists (number o Chain.Entry) list
-work-lists thread o (Move from First) list = shift-lists (number o from) (number o Chain.Entry) list
-work-lists thread o (Move from All) list = move-lists (number o from) (number o Chain.Entry) list
-work-lists thread o (SendBack owner) list = list
+-- What the work of `thread` at object o on chains does to the lists, and to the links; `goes` says who is let out.
+abbrev pub work-lists : (ℕ → Bool) → ℕ → ℕ → ChainWork → (ℕ → List ℕ) → ℕ → List ℕ
+work-lists goes thread o Stay list = list
+work-lists goes thread o (Join chain) list = join-lists (number o chain) thread list
+work-lists goes thread o (JoinAndHand chain) list = join-lists (number o chain) thread (leave-lists (number o Chain.Entry) list)
+work-lists goes thread o Hand list = leave-lists (number o Chain.Entry) list
+work-lists goes thread o (Move from First) list = shift-lists (number o from) (number o Chain.Entry) list
+work-lists goes thread o (Move from All) list = move-lists (number o from) (number o Chain.Entry) list
+work-lists goes thread o MoveAndLetOut list = drop-lists goes (number o Chain.Entry) (move-lists (number o Chain.Contention) (number o Chain.Entry) list)
+work-lists goes thread o (SendBack owner) list = list
 
-abbrev pub work-links : ℕ → ℕ → ChainWork → Links → Links
-work-links thread o Stay links = links
-work-links thread o (Join chain) links = join-links thread-limit (number o chain) thread links
-work-links thread o (JoinAndHand chain) links = join-links thread-limit (number o chain) thread (leave-links (number o Chain.Entry) links)
-work-links thread o Hand links = leave-links (number o Chain.Entry) links
-work-links thread o (Move from First) links = shift-links thread-limit (number o from) (number o Chain.Entry) links
-work-links thread o (Move from All) links = move-links thread-limit (number o from) (number o Chain.Entry) links
-work-links thread o (SendBack owner) links = links
+abbrev pub work-links : (ℕ → Bool) → ℕ → ℕ → ChainWork → Links → Links
+work-links goes thread o Stay links = links
+work-links goes thread o (Join chain) links = join-links thread-limit (number o chain) thread links
+work-links goes thread o (JoinAndHand chain) links = join-links thread-limit (number o chain) thread (leave-links (number o Chain.Entry) links)
+work-links goes thread o Hand links = leave-links (number o Chain.Entry) links
+work-links goes thread o (Move from First) links = shift-links thread-limit (number o from) (number o Chain.Entry) links
+work-links goes thread o (Move from All) links = move-links thread-limit (number o from) (number o Chain.Entry) links
+work-links goes thread o MoveAndLetOut links =
+    drop-links thread-limit goes (number o Chain.Entry) (move-links thread-limit (number o Chain.Contention) (number o Chain.Entry) links)
+work-links goes thread o (SendBack owner) links = links
 
--- thread n can join a chain: it is one, it is in none, and the chains are short enough to walk to their ends
+-- thread n can join a chain: it is one, it is in none, and the chains, also two of an object together, are short enough to walk to their ends
 pub record Room (n : ℕ) (list : ℕ → List ℕ) : Type 0 where
   pub real : n ≢ 0
   pub out : (c : ℕ) → count n (list c) ≡ 0
   pub short : (c : ℕ) → length (list c) ≤ thread-limit
+  pub both-short : (o : ℕ) → length (list (number o Chain.Entry) ++ list (number o Chain.Contention)) ≤ thread-limit
+
+-- the entry chain when all contenders have moved to its end
+moved-to : (list : ℕ → List ℕ) (o : ℕ)
+    → move-lists (number o Chain.Contention) (number o Chain.Entry) list (number o Chain.Entry) ≡ list (number o Chain.Entry) ++ list (number o Chain.Contention)
+moved-to list o =
+    update-same _ (number o Chain.Entry) _
+    ∙ ap (λ (queue : List ℕ). queue ++ list (number o Chain.Contention)) (update-number list o Chain.Contention Chain.Entry [])
 
 -- after every work the links stand for the lists
-pub represent-work : (thread o : ℕ) (links : Links) (list : ℕ → List ℕ) → LinksRepresent links list → Room thread list → (work : ChainWork)
-    → LinksRepresent (work-links thread o work links) (work-lists thread o work list)
-represent-work thread o links list represented room Stay = represented
-represent-work thread o links list represented room (Join chain) =
+pub represent-work : (goes : ℕ → Bool) (thread o : ℕ) (links : Links) (list : ℕ → List ℕ) → LinksRepresent links list → Room thread list → (work : ChainWork)
+    → LinksRepresent (work-links goes thread o work links) (work-lists goes thread o work list)
+represent-work goes thread o links list represented room Stay = represented
+represent-work goes thread o links list represented room (Join chain) =
     represent-join links list represented thread-limit (number o chain) thread (room .short _) (room .real) (room .out)
-represent-work thread o links list represented room (JoinAndHand chain) =
+represent-work goes thread o links list represented room (JoinAndHand chain) =
     represent-join _ _ (represent-leave links list represented (number o Chain.Entry)) thread-limit (number o chain) thread
     (omega (arith, leave-short list (number o Chain.Entry) (number o chain), room .short (number o chain))) (room .real)
     (λ c. omega (arith, leave-within list (number o Chain.Entry) c thread, room .out c))
-represent-work thread o links list represented room Hand = represent-leave links list represented (number o Chain.Entry)
-represent-work thread o links list represented room (Move from First) = represent-shift links list represented thread-limit _ _ (room .short _)
-represent-work thread o links list represented room (Move from All) = represent-move links list represented thread-limit _ _ (room .short _)
-represent-work thread o links list represented room (SendBack owner) = represented
+represent-work goes thread o links list represented room Hand = represent-leave links list represented (number o Chain.Entry)
+represent-work goes thread o links list represented room (Move from First) = represent-shift links list represented thread-limit _ _ (room .short _)
+represent-work goes thread o links list represented room (Move from All) = represent-move links list represented thread-limit _ _ (room .short _)
+represent-work goes thread o links list represented room MoveAndLetOut =
+    represent-drop _ _ (represent-move links list represented thread-limit _ _ (room .short _)) thread-limit goes (number o Chain.Entry)
+    (rw (moved-to list o) (room .both-short o))
+represent-work goes thread o links list represented room (SendBack owner) = represented
 
--- The lists of the object after a work, as the four primitives give them. Joining any chain is joining at its end: only here is `enter-queue-all` opened.
+-- The lists of the object after a work, as leaving, joining, moving and dropping out give them. Joining any chain is joining at its end: only here is `enter-queue-all` opened.
 pub first-is-head : (queue : List ℕ) → first-of queue ≡ head queue
 first-is-head [] = refl
 first-is-head (first ∷ rest) = refl
@@ -161,7 +176,7 @@ pub chain-handed : (chain : Chain) (o : ListObject)
 chain-handed = each-chain _ (search)
 
 -- the works on lists are those on the object, of which the effect changes word, flag, holder and depth
-module _ (objects : ℕ → ListObject) (thread o : ℕ) (effect : Effect) where
+module _ (objects : ℕ → ListObject) (states : ℕ → ThreadState) (thread o : ℕ) (effect : Effect) where
   abbrev now : ListObject
   now = effected thread effect (objects o)
 
@@ -180,26 +195,41 @@ module _ (objects : ℕ → ListObject) (thread o : ℕ) (effect : Effect) where
       chain-with Chain.Entry chain rest (enter-queue-all (rest .entry) (taken which threads))
       ∙ rw (chain-with from chain now (left which threads), entered-all (rest .entry) (taken which threads), chain-with from Chain.Entry now (left which threads))
 
+  -- who is let out: the exits that are queued when the contenders have moved
+  abbrev pub goes : ℕ → Bool
+  goes t = is-queued-exit (moved-states Chain.Contention All states now t)
+
+  pub all-moved : (from chain : Chain)
+      → move-lists (number o from) (number o Chain.Entry) (lists-of objects) (number o chain) ≡ chain-of chain (moved-object from All now)
+  all-moved from chain = simp (update-number, unmoved) (sym (moved-chain from All chain))
+
   own-lists : (work : ChainWork) (chain : Chain)
-      → work-lists thread o work (lists-of objects) (number o chain) ≡ chain-of chain (object-after work thread now)
+      → work-lists goes thread o work (lists-of objects) (number o chain) ≡ chain-of chain (object-after work thread states now)
   own-lists Stay chain = unmoved chain
   own-lists (Join into) chain = simp (update-number, unmoved, chain-with, joined-end)
   own-lists (JoinAndHand into) chain = simp (update-number, unmoved, chain-with, joined-end, chain-handed)
   own-lists Hand chain = simp (update-number, unmoved, chain-handed)
   own-lists (Move from First) chain = simp (update-number, unmoved) (simp (rest-is-tail, first-is-one) at (sym (moved-chain from First chain)))
-  own-lists (Move from All) chain = simp (update-number, unmoved) (sym (moved-chain from All chain))
+  own-lists (Move from All) chain = all-moved from chain
+  own-lists MoveAndLetOut chain =
+      let queue = moved-object Chain.Contention All now in
+      update-number (move-lists (number o Chain.Contention) (number o Chain.Entry) (lists-of objects)) o Chain.Entry chain _
+      ∙ ((λ j. pick (eqb (place-of chain) (place-of Chain.Entry)) (failing goes (all-moved Chain.Contention Chain.Entry j)) (all-moved Chain.Contention chain j))
+      ∙ sym (chain-with Chain.Entry chain queue (failing goes (queue .entry))))
   own-lists (SendBack owner) chain = unmoved chain
 
   -- no work touches another object's chains
-  other-lists : (work : ChainWork) (c : ℕ) → ((chain : Chain) → c ≢ number o chain) → work-lists thread o work (lists-of objects) c ≡ lists-of objects c
+  other-lists : (work : ChainWork) (c : ℕ) → ((chain : Chain) → c ≢ number o chain) → work-lists goes thread o work (lists-of objects) c ≡ lists-of objects c
   other-lists Stay c away = refl
   other-lists (Join chain) c away = update-other _ _ _ c (away chain)
   other-lists (JoinAndHand chain) c away = update-other _ _ _ c (away chain) ∙ update-other _ _ _ c (away Chain.Entry)
   other-lists Hand c away = update-other _ _ _ c (away Chain.Entry)
   other-lists (Move from First) c away = update-other _ _ _ c (away Chain.Entry) ∙ update-other _ _ _ c (away from)
   other-lists (Move from All) c away = update-other _ _ _ c (away Chain.Entry) ∙ update-other _ _ _ c (away from)
+  other-lists MoveAndLetOut c away =
+      update-other _ _ _ c (away Chain.Entry) ∙ (update-other _ _ _ c (away Chain.Entry) ∙ update-other _ _ _ c (away Chain.Contention))
   other-lists (SendBack owner) c away = refl
 
-  pub lists-work : (work : ChainWork) → work-lists thread o work (lists-of objects) ≡ lists-of (update objects o (object-after work thread now))
+  pub lists-work : (work : ChainWork) → work-lists goes thread o work (lists-of objects) ≡ lists-of (update objects o (object-after work thread states now))
   lists-work work =
-      lists-replaced objects o (object-after work thread now) (work-lists thread o work (lists-of objects)) (own-lists work) (other-lists work)
+      lists-replaced objects o (object-after work thread states now) (work-lists goes thread o work (lists-of objects)) (own-lists work) (other-lists work)

@@ -64,9 +64,9 @@ moves-link given before t threads next moves last x (inr (low, high)) =
 
 -- what these functions make of the records of a list's threads: each goes if the test says so, and its record is then that of its state by f, in no
 -- chain, whichever thread was behind it
-abbrev pub Told : (ThreadRecord → Bool) → (ThreadRecord → Bool → ThreadRecord) → (ThreadState → ThreadState) → (ℕ → ThreadRecord) → (ℕ → ListThread) → (ℕ → Bool) → List ℕ
+abbrev pub Becomes : (ThreadRecord → Bool) → (ThreadRecord → Bool → ThreadRecord) → (ThreadState → ThreadState) → (ℕ → ThreadRecord) → (ℕ → ListThread) → (ℕ → Bool) → List ℕ
     → Type 0
-Told goes after f given threads test list =
+Becomes goes after f given threads test list =
     (n : ℕ) → 0 < count n list → (link : ℕ)
     → let own = thread-record n (threads n) link (given n) in
     (goes own ≡ test n) × (after own (test n) ≡ thread-record n (change f (threads n)) 0 (given n))
@@ -74,13 +74,13 @@ Told goes after f given threads test list =
 -- the walk by them
 module _ (goes : ThreadRecord → Bool) (after : ThreadRecord → Bool → ThreadRecord) (together : Bool) (f : ThreadState → ThreadState)
     (given : ℕ → ThreadRecord) (before : Table) where
-  -- the rest is told of still when the first is changed
-  told-later : (test : ℕ → Bool) (x : ℕ) (rest : List ℕ) (threads : ℕ → ListThread) (next : ℕ → ℕ) (at : ℕ) → Chain next at (x ∷ rest)
-      → Told goes after f given threads test (x ∷ rest) → Told goes after f given (update threads x (change f (threads x))) test rest
+  -- the rest goes on so when the first is changed
+  becomes-later : (test : ℕ → Bool) (x : ℕ) (rest : List ℕ) (threads : ℕ → ListThread) (next : ℕ → ℕ) (at : ℕ) → Chain next at (x ∷ rest)
+      → Becomes goes after f given threads test (x ∷ rest) → Becomes goes after f given (update threads x (change f (threads x))) test rest
   unfolding count
-  told-later test x rest threads next at chain told n h =
+  becomes-later test x rest threads next at chain becomes n h =
       let away : n ≢ x = λ e. omega (arith, h, chain-first-once next at x rest chain, ap (λ (m : ℕ). count m rest) e) in
-      rw (update-other threads x (change f (threads x)) n away) (told n (omega (arith, h)))
+      rw (update-other threads x (change f (threads x)) n away) (becomes n (omega (arith, h)))
 
   -- the table when thread x has its record and the link to it
   abbrev linked-after : Table → ℕ → Parting → Bool → Table
@@ -93,9 +93,9 @@ module _ (goes : ThreadRecord → Bool) (after : ThreadRecord → Bool → Threa
       → 0 < x → x ≤ thread-limit → NoneOrIn (last-behind parting b)
       → after (thread-record x (threads x) (next x) (given x)) b ≡ thread-record x (change f (threads x)) 0 (given x)
       → Moves given before (linked-after t x parting b) (update threads x (change f (threads x))) (behind next (last-behind parting b) x)
-  thread-moves t threads next moves x parting b low high ends told =
+  thread-moves t threads next moves x parting b low high ends becomes =
       let same : after (thread-at t x) b ≡ thread-record x (change f (threads x)) 0 (given x) =
-      ap (λ (thread : ThreadRecord). after thread b) (record-is given t threads next (moves .written) x) ∙ told in
+      ap (λ (thread : ThreadRecord). after thread b) (record-is given t threads next (moves .written) x) ∙ becomes in
       rw same (moves-link given before _ _ _ (moves-set given before t threads next moves x low high (change f (threads x)) 0) (last-behind parting b) x ends)
 
   -- what is shown of a walk
@@ -127,44 +127,44 @@ module _ (goes : ThreadRecord → Bool) (after : ThreadRecord → Bool → Threa
   abbrev WalksOn : (ℕ → ℕ) → (ℕ → Bool) → List ℕ → ℕ → ℕ → Type 0
   WalksOn next₀ test list fuel at =
       (t : Table) (threads : ℕ → ListThread) (next : ℕ → ℕ) (parting : Parting) (lefts takens : List ℕ) → Moves given before t threads next
-      → Midway together next (parting .left) (parting .taken) at lefts takens list → Inside lefts → Inside takens → Told goes after f given threads test list
+      → Midway together next (parting .left) (parting .taken) at lefts takens list → Inside lefts → Inside takens → Becomes goes after f given threads test list
       → Walked next₀ test fuel at t threads next parting
 
   -- one thread, then the rest
   turn : (next₀ : ℕ → ℕ) (test : ℕ → Bool) (x : ℕ) (rest : List ℕ) (fuel at : ℕ) → Chain next₀ at (x ∷ rest) → (0 < x) × (x ≤ thread-limit)
       → WalksOn next₀ test rest fuel (next₀ x) → WalksOn next₀ test (x ∷ rest) (suc fuel) at
   unfolding part-chain part walk passed taken-with
-  turn next₀ test x rest fuel at chain (low, high) on-rest t threads next parting lefts takens moves midway left-in taken-in told =
-      let (goes-by, changes) = told x (omega (arith, count-same x rest)) (next x) in
+  turn next₀ test x rest fuel at chain (low, high) on-rest t threads next parting lefts takens moves midway left-in taken-in becomes =
+      let (goes-by, changes) = becomes x (omega (arith, count-same x rest)) (next x) in
       let own = record-is given t threads next (moves .written) x in
       let asked : goes (thread-at t x) ≡ test x = ap goes own ∙ goes-by in
       let on : thread-at t x .next ≡ next x = ap (λ (thread : ThreadRecord). thread .next) own in
       let same : next₀ x ≡ next x = chain-head next₀ (next₀ x) rest (chain .2) ∙ sym (chain-head next (next x) rest (midway .rest .2)) in
-      let rest-told = told-later test x rest threads next at (midway .rest) told in
+      let rest-becomes = becomes-later test x rest threads next at (midway .rest) becomes in
       rw (midway .rest .0, le-leb 1 x low, le-leb x thread-limit high, ne-eqb x 0 (midway .rest .1), asked, same)
       (either-turn next₀ test fuel x (thread-at t x .next) t threads next parting (test x) on
       (thread-moves t threads next moves x parting (test x) low high (ends-in parting lefts takens midway left-in taken-in (test x)) changes)
       (λ moved. (rw same at on-rest) _ _ _ (passed together parting true x) lefts (takens ++ (x ∷ [])) moved
-      (midway-passes together next (parting .left) (parting .taken) at lefts takens x rest midway) left-in (grown-in takens x taken-in (low, high)) rest-told)
+      (midway-passes together next (parting .left) (parting .taken) at lefts takens x rest midway) left-in (grown-in takens x taken-in (low, high)) rest-becomes)
       (λ moved. (rw same at on-rest) _ _ _ (passed together parting false x) (lefts ++ (x ∷ [])) takens moved
-      (midway-fails together next (parting .left) (parting .taken) at lefts takens x rest midway) (grown-in lefts x left-in (low, high)) taken-in rest-told))
+      (midway-fails together next (parting .left) (parting .taken) at lefts takens x rest midway) (grown-in lefts x left-in (low, high)) taken-in rest-becomes))
 
   walks-on : (next₀ : ℕ → ℕ) (test : ℕ → Bool) (list : List ℕ) (fuel at : ℕ) → Chain next₀ at list → length list ≤ fuel → Inside list
       → WalksOn next₀ test list fuel at
   unfolding part-chain part walk count
-  walks-on next₀ test [] zero at chain short inside t threads next parting lefts takens moves midway left-in taken-in told = (moves, refl, refl)
-  walks-on next₀ test [] (suc fuel) at chain short inside t threads next parting lefts takens moves midway left-in taken-in told =
+  walks-on next₀ test [] zero at chain short inside t threads next parting lefts takens moves midway left-in taken-in becomes = (moves, refl, refl)
+  walks-on next₀ test [] (suc fuel) at chain short inside t threads next parting lefts takens moves midway left-in taken-in becomes =
       rw (midway .rest) (moves, refl, refl)
-  walks-on next₀ test (x ∷ rest) zero at chain short inside t threads next parting lefts takens moves midway left-in taken-in told =
+  walks-on next₀ test (x ∷ rest) zero at chain short inside t threads next parting lefts takens moves midway left-in taken-in becomes =
       absurd (omega (arith, short))
-  walks-on next₀ test (x ∷ rest) (suc fuel) at chain short inside t threads next parting lefts takens moves midway left-in taken-in told =
+  walks-on next₀ test (x ∷ rest) (suc fuel) at chain short inside t threads next parting lefts takens moves midway left-in taken-in becomes =
       turn next₀ test x rest fuel at chain (inside x (omega (arith, count-same x rest)))
       (walks-on next₀ test rest fuel (next₀ x) (chain .2) (omega (arith, short)) (λ n h. inside n (omega (arith, h))))
-      t threads next parting lefts takens moves midway left-in taken-in told
+      t threads next parting lefts takens moves midway left-in taken-in becomes
 
-  -- the whole walk along a chain whose threads are told of
+  -- the whole walk along a chain
   pub walk-moves : (next : ℕ → ℕ) (test : ℕ → Bool) (list : List ℕ) (fuel at : ℕ) → Chain next at list → length list ≤ fuel → Inside list
-      → (t : Table) (threads : ℕ → ListThread) → Moves given before t threads next → Told goes after f given threads test list
+      → (t : Table) (threads : ℕ → ListThread) → Moves given before t threads next → Becomes goes after f given threads test list
       → let walked = part-chain goes after together fuel t no-parting at in
       let p = part fuel together test next no-ends no-ends at in
       Moves given before (walked .table) (walk fuel next (change f) threads at) (p .next) × (walked .parting .left ≡ p .left) × (walked .parting .taken ≡ p .taken)

@@ -14,7 +14,7 @@ use Rattle.lock_rules.proofs.Objects.{ListObject}
 use Rattle.lock_rules.proofs.Perform.{perform, states-after, object-after, effected}
 use Rattle.lock_rules.proofs.Tables.{ListThread, ListTable, states-at, put-back}
 use Rattle.chains.specs.declared.named.Chain.{Chain}
-use Rattle.lock_rules.proofs.ListChains.{times-in, short, out-of-chain}
+use Rattle.lock_rules.proofs.ListChains.{times-in, short, both-short, out-of-chain}
 use Rattle.lock_table.specs.Limits.{thread-limit}
 use Rattle.lock_table.specs.Record.{with-next, with-word, with-flag, with-monitor}
 use Rattle.lock_table.specs.Access.{thread-at, set-thread, object-at, set-object, next-of}
@@ -22,7 +22,7 @@ use Rattle.lock_table.specs.declared.record.{ObjectRecord.ObjectRecord, Table.T
 use Rattle.lock_perform.specs.State.{write-thread}
 use Rattle.lock_perform.specs.Moving.{CarriedOut, carry-out}
 use Rattle.lock_perform.proofs.Performed.{perform-of}
-use Rattle.lock_records.proofs.Numbering.{lists-of, list-at, by-number, work-links, Room, represent-work, lists-work}
+use Rattle.lock_records.proofs.Numbering.{lists-of, list-at, by-number, work-links, Room, represent-work, goes, lists-work}
 use Rattle.lock_records.proofs.Written.{word-written, word-changed}
 use Rattle.lock_records.proofs.Represents.{thread-record, monitor-record, object-record, Represents, record-is, next-is}
 use Rattle.lock_records.proofs.Moves.{Moves, moves-set, moves-change}
@@ -48,6 +48,8 @@ module _ (threads objects : ℕ) (t : Table) (lists : ListTable) (represents : R
             (λ o chain. rw (list-at (lists .objects) o chain) (out-of-chain threads objects lists sound chain o i (unchained chain)));
         short = by-number (λ c. length (lists-of (lists .objects) c) ≤ thread-limit)
             (λ o chain. rw (list-at (lists .objects) o chain) (omega (arith, short threads objects lists sound chain o, represents .thread-room)));
+        both-short = λ o. rw (list-at (lists .objects) o Chain.Entry, list-at (lists .objects) o Chain.Contention)
+            (omega (arith, both-short threads objects lists sound o, represents .thread-room));
       }
 
   -- a begin writes one thread's record
@@ -94,10 +96,10 @@ module _ (threads objects : ℕ) (t : Table) (lists : ListTable) (represents : R
       now = effected i effect (lists .objects o)
 
       abbrev new : ListObject
-      new = object-after (effect .work) i now
+      new = object-after (effect .work) i (states-at lists o) now
 
       abbrev links : Links
-      links = work-links i o (effect .work) (represents .links)
+      links = work-links (goes (lists .objects) (states-at lists o) i o effect) i o (effect .work) (represents .links)
 
       abbrev moved : CarriedOut
       moved = carry-out t (monitor-record o (represents .links) (effect .holder) (effect .depth)) (effect .work) i o
@@ -117,8 +119,8 @@ module _ (threads objects : ℕ) (t : Table) (lists : ListTable) (represents : R
 
       represented : LinksRepresent links (lists-of (update (lists .objects) o new))
       represented =
-          subst (LinksRepresent links) (lists-work (lists .objects) i o effect (effect .work))
-          (represent-work i o (represents .links) (lists-of (lists .objects)) (represents .chains) (room unchained) (effect .work))
+          subst (LinksRepresent links) (lists-work (lists .objects) (states-at lists o) i o effect (effect .work))
+          (represent-work (goes (lists .objects) (states-at lists o) i o effect) i o (represents .links) (lists-of (lists .objects)) (represents .chains) (room unchained) (effect .work))
 
       action : Acted (represents .given .thread) t lists o links moved (states-after (effect .work) (states-at lists o) now) (new .holder) (new .depth)
       action = acted threads objects t lists represents sound o i effect (effect .work)
@@ -138,7 +140,7 @@ module _ (threads objects : ℕ) (t : Table) (lists : ListTable) (represents : R
 
       written-is : object-written ≡ object-record o new links (represents .given .object o)
       written-is =
-          let (same-word, same-flag) = word-kept (effect .work) i now in
+          let (same-word, same-flag) = word-kept (effect .work) i (states-at lists o) now in
           λ j. with-flag (with-monitor (with-word (represents .given .object o) (word-written o (sym same-word j))) (action .monitor j)) (sym same-flag j)
 
       effect-represents : Represents threads objects (set-object own-written o object-written)

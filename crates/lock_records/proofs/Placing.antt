@@ -69,22 +69,32 @@ module _ (o : ℕ) (threads : ℕ → ListThread) where
       update-id (placed states) first (change f (placed states first)) same ∙ ap placed (fun-ext (λ n. rw (count-none n)))
   placed-first f states (x ∷ rest) first e nobody fixed home = rw e (placed-one f states x (home x (omega (arith, count-same x rest))))
 
-  -- each of a list changed
-  pub placed-all : (f : ThreadState → ThreadState) (next : ℕ → ℕ) (list : List ℕ) (fuel first : ℕ) → Chain next first list → length list ≤ fuel
-      → ((n : ℕ) → 0 < count n list → threads n .object ≡ o) → walk fuel next (change f) threads first ≡ placed (changed-states f sees list)
-  placed-all f next list fuel first chain short home =
-      placed-by (walk fuel next (change f) threads first) (changed-states f sees list)
-      (λ n e. walk-changes fuel next (change f) threads first list chain short n ∙ here n (count n list) e)
-      (λ n away. walk-changes fuel next (change f) threads first list chain short n ∙ elsewhere n (count n list) refl away)
+  -- each of a list changed, whatever states stand there
+  pub placed-each : (f : ThreadState → ThreadState) (states : ℕ → ThreadState) (next : ℕ → ℕ) (list : List ℕ) (fuel first : ℕ) → Chain next first list
+      → length list ≤ fuel → ((n : ℕ) → 0 < count n list → threads n .object ≡ o)
+      → walk fuel next (change f) (placed states) first ≡ placed (changed-states f states list)
+  placed-each f states next list fuel first chain short home =
+      placed-by (walk fuel next (change f) (placed states) first) (changed-states f states list)
+      (λ n e. changes n ∙ (rw (eq-eqb (threads n .object) o e) (here n (count n list))))
+      (λ n away. changes n ∙ (rw (ne-eqb (threads n .object) o away) (elsewhere n (count n list) refl away)))
     where
-      here : (n k : ℕ) → threads n .object ≡ o
-          → if-counted k (change f) (threads n) ≡ record { object = o; state = pick (above-zero k) (f (sees n)) (sees n) }
-      here n zero e = as-seen n e
-      here n (suc k) e = ap (change f) (as-seen n e)
+      changes : (n : ℕ) → walk fuel next (change f) (placed states) first n ≡ if-counted (count n list) (change f) (placed states n)
+      changes = walk-changes fuel next (change f) (placed states) first list chain short
+
+      here : (n k : ℕ)
+          → if-counted k (change f) (record { object = o; state = states n }) ≡ record { object = o; state = pick (above-zero k) (f (states n)) (states n) }
+      here n zero = refl
+      here n (suc k) = refl
 
       elsewhere : (n k : ℕ) → count n list ≡ k → threads n .object ≢ o → if-counted k (change f) (threads n) ≡ threads n
       elsewhere n zero e away = refl
       elsewhere n (suc k) e away = absurd (away (home n (omega (arith, e))))
+
+  -- and where nothing was changed before
+  pub placed-all : (f : ThreadState → ThreadState) (next : ℕ → ℕ) (list : List ℕ) (fuel first : ℕ) → Chain next first list → length list ≤ fuel
+      → ((n : ℕ) → 0 < count n list → threads n .object ≡ o) → walk fuel next (change f) threads first ≡ placed (changed-states f sees list)
+  placed-all f next list fuel first chain short home =
+      placed-before (λ before. walk fuel next (change f) before first ≡ placed (changed-states f sees list)) (placed-each f sees next list fuel first chain short home)
 
   -- one thread sent back, if it is at o
   pub placed-sent : (x : ℕ) → update threads x (sent-from o (threads x)) ≡ placed (changed-states sent-back sees (x ∷ []))

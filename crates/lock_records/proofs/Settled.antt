@@ -3,7 +3,7 @@
 use Prim.Native.Nat.{ℕ}
 use mathlib.Core.Path.{_≡_, refl, sym, ap}
 use Rattle.lock_rules.specs.declared.{ChainWork.ChainWork, Effect.Effect}
-use Rattle.lock_rules.specs.declared.ChainWork.the-variants.{Stay, Join, JoinAndHand, Hand, Move, SendBack}
+use Rattle.lock_rules.specs.declared.ChainWork.the-variants.{Stay, Join, JoinAndHand, Hand, Move, MoveAndLetOut, SendBack}
 use Rattle.lock_table.specs.Access.{thread-at}
 use Rattle.lock_table.specs.declared.record.{ThreadRecord.ThreadRecord, ObjectRecord.ObjectRecord, Table.Table}
 use Rattle.lock_perform.specs.State.{write-thread}
@@ -26,6 +26,7 @@ module _ (t : Table) (n o : ℕ) (object : ObjectRecord) (effect : Effect) where
   by-work (JoinAndHand chain) = refl
   by-work Hand = refl
   by-work (Move from which) = refl
+  by-work MoveAndLetOut = refl
   by-work (SendBack owner) = refl
 
   pub settled-performs : settled t n o own after (effect .work) ≡ perform-of t n o object effect

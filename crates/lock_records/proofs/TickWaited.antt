@@ -53,8 +53,8 @@ use Rattle.lock_records.proofs.Moves.{change, Moves, Inside, moves-hang
 use Rattle.lock_records.proofs.Placing.{placed, placed-all, placed-first}
 use Rattle.lock_records.proofs.Actions.{left-recorded, joined-recorded, handed-recorded}
 use Rattle.lock_records.proofs.Replaced.{replaced-represents}
-use Rattle.lock_records.proofs.PartWalk.{Told, walk-moves}
-use Rattle.lock_records.proofs.WaiterTicked.{ticked-by, waiter-told}
+use Rattle.lock_records.proofs.PartWalk.{Becomes, walk-moves}
+use Rattle.lock_records.proofs.WaiterTicked.{ticked-by, waiter-becomes}
 
 -- those that lose their last tick move: told from each state alone, or from the two lists
 ticked-alike : (states : ℕ → ThreadState) (o : ListObject) → changed-states ticked-by states (o .waiting) ≡ expired states o .states
@@ -150,10 +150,10 @@ module _ (threads objects : ℕ) (t : Table) (lists : ListTable) (represents : R
           let (saved, is, once) = is-waiting (states n) k (sym p ∙ e) in
           (saved, sym (seen-here o (lists .threads n) (member-at threads objects lists sound Chain.Waiting o n h)) ∙ is, due-of n k saved e is)
 
-  told : Told waiter-goes waiter-ticked ticked-by given (lists .threads) (due states here) (here .waiting)
-  told n h link =
+  becomes : Becomes waiter-goes waiter-ticked ticked-by given (lists .threads) (due states here) (here .waiting)
+  becomes n h link =
       let (saved, is, is-due) = waits n h in
-      waiter-told n (lists .threads n) saved (due states here n) is is-due link (given n)
+      waiter-becomes n (lists .threads n) saved (due states here n) is is-due link (given n)
 
   -- the walk
   abbrev walked : PartedChain
@@ -173,7 +173,7 @@ module _ (threads objects : ℕ) (t : Table) (lists : ListTable) (represents : R
       placed-all o (lists .threads) ticked-by (old .next) list thread-limit (first Chain.Waiting) chain (brief Chain.Waiting) (member-at threads objects lists sound Chain.Waiting o)
       ∙ ap (placed o (lists .threads)) (ticked-alike states here) in
       let (moves, left, taken) = walk-moves waiter-goes waiter-ticked true ticked-by given t (old .next) (due states here) list thread-limit (first Chain.Waiting)
-      chain (brief Chain.Waiting) (inside Chain.Waiting) t (lists .threads) begun told in
+      chain (brief Chain.Waiting) (inside Chain.Waiting) t (lists .threads) begun becomes in
       (subst (λ after. Moves given t (walked .table) after (p .next)) same moves, left, taken)
 
   -- those that ran out join the entry chain

@@ -33,9 +33,9 @@ unfolding write-activity carried-activity wait-activity runs-out waiter-after mo
 waiter-written n o own = each-suspension _ (search)
 
 -- the walk is told of it
-pub waiter-told : (n : ℕ) (thread : ListThread) (saved : Suspension) (b : Bool) → thread .state ≡ Waiting saved → b ≡ at-zero (ticked saved) → (link : ℕ) (given : ThreadRecord)
+pub waiter-becomes : (n : ℕ) (thread : ListThread) (saved : Suspension) (b : Bool) → thread .state ≡ Waiting saved → b ≡ at-zero (ticked saved) → (link : ℕ) (given : ThreadRecord)
     → let own = thread-record n thread link given in (waiter-goes own ≡ b) × (waiter-ticked own b ≡ thread-record n (change ticked-by thread) 0 given)
-waiter-told n thread saved b waits is link given =
+waiter-becomes n thread saved b waits is link given =
     rw (waits, is) (written .goes, after (at-zero (ticked saved)))
   where
     written : WaiterWritten n (thread .object) (with-next given link) saved

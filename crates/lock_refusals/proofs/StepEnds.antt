@@ -12,7 +12,7 @@ use Rattle.lock_word.specs.declared.reading.LockWord.{LockWord}
 use Rattle.lock_word.specs.declared.reading.Decoded.the-variants.{Valid}
 use Rattle.lock_word.specs.Depth.{depth-limit}
 use Rattle.lock_rules.specs.Rules.{owner-seen, owner-only, holder-only, decide, enter-look, enter-store, cancel, enter-check, enter-try}
-use Rattle.lock_rules.specs.Rules.{go-in-again, go-in}
+use Rattle.lock_rules.specs.Rules.{go-in-again, go-in, exit-go-in}
 use Rattle.lock_rules.specs.Rules.{exit-owned, exit-store, exit-test, exit-tell, exit-leave, wait-owned, wait-inflate, wait-give-up, wait-resume}
 use Rattle.lock_rules.specs.Rules.{notify-owned, notify-all-owned}
 use Rattle.lock_rules.proofs.Each.{Words, each-word}
@@ -90,7 +90,7 @@ module _ (table : Table) (object : ObjectRecord) (word : LockWord) (thread : ℕ
   as-wait o phase saved (Ticks left) doing ends = ends
 
   seen-ends : (o : ℕ) (doing : Doing) → Decided o (owner-seen sight) doing
-  unfolding decide doing-activity phase-number operation-number enter-look enter-store cancel enter-check enter-try go-in-again go-in exit-owned exit-store exit-test
+  unfolding decide doing-activity phase-number operation-number enter-look enter-store cancel enter-check enter-try go-in-again go-in exit-go-in exit-owned exit-store exit-test
       exit-tell exit-leave wait-owned wait-inflate wait-give-up wait-resume notify-owned notify-all-owned
   seen-ends o EnterLook = plain EnterLook (by-word (enter-look thread sight) (search either-ordinary))
   seen-ends o (EnterStore count) = plain (EnterStore count) (search either-ordinary)

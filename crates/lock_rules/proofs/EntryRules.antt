@@ -23,15 +23,15 @@ use Rattle.lock_word.specs.declared.meaning.WordSeen.the-variants.{Free, Anonym
 use Rattle.lock_rules.specs.declared.ChainWork.the-variants.{Join}
 use Rattle.lock_rules.specs.declared.Answer.the-variants.{GoneOn, Finished, Parked, TooDeep}
 use Rattle.lock_rules.specs.PlainMonitor.{owned-by, finished, commit}
-use Rattle.lock_rules.proofs.{Each.each-word, Tables.fresh}
+use Rattle.lock_rules.proofs.{Each.each-word, Reliances.flat-thin, Tables.fresh}
 use Rattle.lock_rules.proofs.Commits.{commit-enter, commit-enter-again, commit-too-deep}
 use Rattle.lock_rules.proofs.Objects.{ListObject, with-word, with-flag, with-holder, with-entry, sight-of, object-owner}
 use Rattle.lock_rules.proofs.Perform.{enter-queue, count-join}
-use Rattle.lock_rules.proofs.Invariant.{holding, nothing-saved, phase-row, leaving?, InChains, Unreserved, FlatOf, NotOwn, ReliesOn, Relies}
+use Rattle.lock_rules.proofs.Invariant.{holding, nothing-saved, phase-row, leaving?, InChains, Unreserved, FlatOf, NotOwn, Thin, ReliesOn, Relies}
 use Rattle.lock_rules.proofs.Invariant.{Logged, woken?, SavedIs, MonitorOk, FlagOk, Invariant}
 use Rattle.lock_rules.proofs.OtherThreads.{others-flag, others-taken, others-joined}
 use Rattle.lock_rules.proofs.SharedFacts.{unstranded-moved, unstranded-held, unstranded-joined, unheld, monitor-handed}
-use Rattle.lock_rules.proofs.SharedFacts.{owner-shallow, fat-owner, fat-unowned, first-commit, same-monitor}
+use Rattle.lock_rules.proofs.SharedFacts.{thin-shallow, owner-shallow, fat-owner, fat-unowned, first-commit, same-monitor}
 use Rattle.lock_rules.proofs.Refinement.{limit-of, plain-at, Actor, Self, Stepping, Right, nothing-committed, quiet-refines}
 use Rattle.lock_rules.proofs.RuleShapes.{ended-self, end-refines, depth-refines, hand-refines, inflate-refines}
 
@@ -153,14 +153,9 @@ module _ (actor : Actor) where
       go-in-refines o EnterGoIn ToCheck step refl refl refl refl refl refl (λ e. step .self .relies) (λ e. step .self .relies) (enter-again-refines o (o .word) step)
 
   -- an exit in 4 is not the holder, and a wait in 4 would be the owner at a depth above 0 of a flat word
-  pub exit-go-in-refines : (o : ListObject) → Stepping actor ExitGoIn o → Right actor Exit o (go-in (actor .thread) (sight-of o) ToTell)
-  exit-go-in-refines o step =
-      go-in-refines o ExitGoIn ToTell step refl refl refl refl refl refl (λ e. step .self .relies) (λ e. step .self .relies) (λ q. absurd (step .self .seated .0 q))
-
-  flat-shallow : (word : WordSeen) (holder depth : ℕ) → FlatOf (actor .thread) word → MonitorOk word holder depth → depth ≡ 0
-  flat-shallow word holder depth =
-      each-word (λ w. FlatOf (actor .thread) w → MonitorOk w holder depth → depth ≡ 0)
-      (λ f. absurd f, λ f. absurd f, λ f. absurd f, λ owner c f m. m .0, λ owner c f. absurd f) word
+  pub exit-goes-in-refines : (o : ListObject) → Stepping actor ExitGoIn o → Thin (o .word) → Right actor Exit o (go-in (actor .thread) (sight-of o) ToTell)
+  exit-goes-in-refines o step thin =
+      go-in-refines o ExitGoIn ToTell step refl refl refl refl refl refl (λ e. step .self .relies) (λ e. thin) (λ q. absurd (step .self .seated .0 q))
 
   pub wait-go-in-refines : (o : ListObject) (limit : Limit) → Stepping actor (WaitGoIn limit) o
       → Right actor Wait o (go-in (actor .thread) (sight-of o) (ToInflate limit))
@@ -169,8 +164,7 @@ module _ (actor : Actor) where
       (λ q. absurd (omega (
         arith,
         step .self .seated q (actor .real),
-        flat-shallow (o .word) (o .holder) (o .depth) (step .self .relies)
-            (step .inv .whole .monitor),
+        thin-shallow (o .holder) (o .depth) (o .word) (flat-thin (actor .thread) (o .word) (step .self .relies)) (step .inv .whole .monitor),
       )))
 
   -- the flag goes up, and the thread goes on to try

@@ -14,8 +14,8 @@ use Rattle.lock_rules.proofs.Refinement.{Actor, Stepping, Right}
 use Rattle.lock_rules.proofs.LookRules.{enter-look-refines, exit-look-refines, wait-look-refines}
 use Rattle.lock_rules.proofs.NotifyRules.{notify-look-refines, notify-all-look-refines}
 use Rattle.lock_rules.proofs.StoreRules.{enter-store-refines, exit-store-refines, cancel-refines}
-use Rattle.lock_rules.proofs.EntryRules.{enter-go-in-refines, exit-go-in-refines, wait-go-in-refines, enter-check-refines, enter-try-refines}
-use Rattle.lock_rules.proofs.ExitRules.{exit-test-refines, exit-tell-refines, exit-leave-refines}
+use Rattle.lock_rules.proofs.EntryRules.{enter-go-in-refines, wait-go-in-refines, enter-check-refines, enter-try-refines}
+use Rattle.lock_rules.proofs.ExitRules.{exit-go-in-refines, exit-test-refines, exit-tell-refines, exit-leave-refines}
 use Rattle.lock_rules.proofs.WaitRules.{wait-inflate-refines, wait-give-up-refines, wait-resume-refines}
 
 module _ (actor : Actor) where
@@ -41,7 +41,7 @@ module _ (actor : Actor) where
       holder-refines Enter o (enter-try (actor .thread) (sight-of o) (o .word)) (step .self .seated .0) (enter-try-refines actor o (o .word) step)
   step-refines o ExitLook step = exit-look-refines actor o step
   step-refines o (ExitStore c) step = exit-store-refines actor o (o .word) c step
-  step-refines o ExitGoIn step = exit-go-in-refines actor o step
+  step-refines o ExitGoIn step = exit-go-in-refines actor o (o .flag) step
   step-refines o ExitTest step = exit-test-refines actor o (o .flag) step
   step-refines o ExitTell step =
       holder-refines Exit o (exit-tell (sight-of o)) (step .self .seated .0) (exit-tell-refines actor o (o .flag) (o .contention) step)

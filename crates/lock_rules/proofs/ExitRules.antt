@@ -1,4 +1,4 @@
--- Phases 9, test, 10, tell, and 11, leave, of exit.
+-- Phases 4, go in, 9, test, 10, tell, and 11, leave, of exit.
 use Prim.Native.Nat.{ℕ, suc}
 use mathlib.Core.Path.{_≡_, refl, sym, _∙_}
 use mathlib.Core.Logic.{_≢_, inl, inr}
@@ -10,11 +10,11 @@ use Rattle.laws.specs.{Update.update, Count.count}
 use Rattle.laws.proofs.{Choice.by-equal, Update.update-other}
 use Rattle.laws.proofs.Count.{count-none, count-same}
 use Rattle.chains.specs.declared.named.Chain.{Chain}
-use Rattle.lock_rules.specs.{Actions.go-on, Operations.Exit}
-use Rattle.lock_rules.specs.Rules.{onward, exit-test, exit-tell, exit-leave}
+use Rattle.lock_rules.specs.{Actions.go-on, Actions.finish-committed, Operations.Exit, Feed.EndsRight}
+use Rattle.lock_rules.specs.Rules.{onward, exit-go-in, exit-test, exit-tell, exit-leave}
 use Rattle.lock_rules.proofs.{Each.each-word, Reliances.is-queued, Membership.placed-unmoved, OtherThreads.others-moved}
 use Rattle.lock_rules.proofs.Changes.{handed, moved}
-use Rattle.lock_rules.specs.declared.OnwardStep.{OnwardStep}
+use Rattle.lock_rules.specs.declared.{OnwardStep.OnwardStep, Doing.Doing}
 use Rattle.lock_rules.specs.declared.OnwardStep.the-variants.{ToCheck, ToTell, ToInflate, ToResume}
 use Rattle.lock_rules.specs.declared.Doing.the-variants.{ExitGoIn, ExitTest, ExitTell, ExitLeave}
 use Rattle.lock_rules.specs.declared.ThreadState.the-variants.{Idle, Running}
@@ -24,23 +24,25 @@ use Rattle.lock_rules.specs.declared.Taken.the-variants.{First}
 use Rattle.lock_rules.specs.declared.Answer.the-variants.{GoneOn, Finished}
 use Rattle.lock_rules.proofs.Objects.{ListObject, with-word, with-flag, with-entry, with-contention, sight-of}
 use Rattle.lock_rules.proofs.Perform.{taking, left, count-taken, first-of, changed-states, handed-states, moved-object, moved-states}
-use Rattle.lock_rules.proofs.Invariant.{phase-row, leaving?, in-entry, FlagOk, Told, Unstranded}
+use Rattle.lock_rules.proofs.Invariant.{phase-row, leaving?, in-entry, InChains, Unreserved, Thin, FlagOk, Told, Unstranded}
 use Rattle.lock_rules.proofs.SharedFacts.{unstranded-empty, unstranded-joined, flag-down, owner-shallow, first-queued}
 use Rattle.lock_rules.proofs.SharedFacts.{idle-changed, same-monitor}
 use Rattle.lock_rules.proofs.Refinement.{Actor, Stepping, Right, nothing-committed, refine, quiet-refines}
+use Rattle.lock_rules.proofs.EntryRules.{exit-goes-in-refines}
 use Rattle.lock_rules.proofs.RuleShapes.{go-on-refines, ended-self, hand-refines}
 
 module _ (actor : Actor) where
-  pub exit-test-refines : (it : ListObject) (flag : Bool) → let o = with-flag it flag in
-      Stepping actor ExitTest o → Right actor Exit o (exit-test (sight-of o))
-  unfolding exit-test
-  exit-test-refines it true step = go-on-refines actor _ ExitTest ExitGoIn step (refl, refl, refl, refl, refl) (λ k. k) (step .self .relies)
-  exit-test-refines it false step =
+  -- with flag 0 there is nobody to tell, and the exit finishes
+  finish-committed-refines : (it : ListObject) (doing : Doing) → let o = with-flag it false in
+      Stepping actor doing o → it .holder ≢ actor .thread → InChains 0 0 0 (actor .thread) (it .entry) (it .contention) (it .waiting)
+      → actor .ghost .woken (actor .thread) ≡ false → EndsRight Exit (Finished 0) (actor .ghost .logs (actor .thread))
+      → Right actor Exit o (finish-committed (sight-of o))
+  finish-committed-refines it doing step away placed asleep ended =
       let o = with-flag it false in
-      quiet-refines actor Exit o o Idle (Finished 0) (step .inv) (step .self .logged .1)
+      quiet-refines actor Exit o o Idle (Finished 0) (step .inv) ended
       (record {
         others = λ t n. step .inv .threads t;
-        self = ended-self actor (λ x k. absurd (step .self .seated .0 x)) (step .self .placed) (step .self .woken);
+        self = ended-self actor (λ x k. absurd (away x)) placed asleep;
         monitor = step .inv .whole .monitor;
         empty = step .inv .whole .empty;
         flag = step .inv .whole .flag;
@@ -48,6 +50,27 @@ module _ (actor : Actor) where
             (flag-down (it .word) (it .contention) (step .inv .whole .flag));
         shows = refl;
       })
+
+  pub exit-test-refines : (it : ListObject) (flag : Bool) → let o = with-flag it flag in
+      Stepping actor ExitTest o → Right actor Exit o (exit-test (sight-of o))
+  unfolding exit-test
+  exit-test-refines it true step = go-on-refines actor _ ExitTest ExitGoIn step (refl, refl, refl, refl, refl) (λ k. k) (step .self .relies)
+  exit-test-refines it false step =
+      finish-committed-refines it ExitTest step (step .self .seated .0) (step .self .placed) (step .self .woken) (step .self .logged .1)
+
+  -- an exit that goes in found flag 1, so the word is not fat
+  thin-raised : (word : WordSeen) (contention : List ℕ) → FlagOk word true contention → Unreserved word → Thin word
+  thin-raised word contention =
+      each-word (λ w. FlagOk w true contention → Unreserved w → Thin w)
+      (λ f u. tt, λ f u. absurd u, λ f u. absurd (true≢false (f .0)), λ owner c f u. tt, λ owner c f u. absurd u) word
+
+  pub exit-go-in-refines : (it : ListObject) (flag : Bool) → let o = with-flag it flag in
+      Stepping actor ExitGoIn o → Right actor Exit o (exit-go-in (actor .thread) (sight-of o))
+  unfolding exit-go-in
+  exit-go-in-refines it true step =
+      exit-goes-in-refines actor (with-flag it true) step (thin-raised (it .word) (it .contention) (step .inv .whole .flag) (step .self .relies))
+  exit-go-in-refines it false step =
+      finish-committed-refines it ExitGoIn step (step .self .seated .0) (step .self .placed) (step .self .woken) (step .self .logged .1)
 
   flag-rest : (word : WordSeen) (first : ℕ) (rest : List ℕ) → FlagOk word true (first ∷ rest) → FlagOk word true rest
   flag-rest Free first rest x = λ e. absurd (true≢false e)

@@ -154,6 +154,10 @@ IsFat = each-word _ (⊥, ⊥, Unit {0}, λ owner c. ⊥, λ owner c. ⊥)
 abbrev pub NotOwn : ℕ → WordSeen → Type 0
 NotOwn t = each-word _ (Unit {0}, ⊥, ⊥, λ owner c. owner ≢ t, λ owner c. ⊥)
 
+-- free or flat
+abbrev pub Thin : WordSeen → Type 0
+Thin = each-word _ (Unit {0}, ⊥, ⊥, λ owner c. Unit {0}, λ owner c. ⊥)
+
 -- reserved for the thread, with count c
 abbrev pub KeptWord : ℕ → ℕ → WordSeen → Type 0
 KeptWord t c = each-word _ (⊥, ⊥, ⊥, λ owner d. ⊥, λ owner d. (owner ≡ t) × (d ≡ c))
@@ -169,12 +173,13 @@ ReliesOn trying t word flag holder = NotOwn t word × (holder ≡ t) × (t ≢ 0
 ReliesOn (kept-to-enter c) t word flag holder = KeptWord t c word × (c < count-limit)
 ReliesOn (kept-to-exit c) t word flag holder = KeptWord t c word × (0 < c)
 
--- A queued thread relies on what it carries. NOTOWN: in 8 the word is not the thread's own. WAITFAT: in 14 it is fat.
+-- A queued thread relies on what it carries. EXITFLAT: for an exit in 5 the word is not fat. NOTOWN: in 8 the word is not the thread's own.
+-- WAITFAT: in 14 it is fat.
 abbrev pub Relies : ThreadState → ℕ → WordSeen → Bool → ℕ → Type 0
 Relies Idle t word flag holder = Unit {0}
 Relies (Running doing) t word flag holder = ReliesOn (phase-row doing .reliance) t word flag holder
 Relies (Queued ToCheck) t word flag holder = Unreserved word
-Relies (Queued ToTell) t word flag holder = Unreserved word
+Relies (Queued ToTell) t word flag holder = Thin word
 Relies (Queued (ToInflate limit)) t word flag holder = FlatOf t word
 Relies (Queued (ToResume suspension)) t word flag holder = IsFat word
 Relies Contending t word flag holder = NotOwn t word

@@ -27,6 +27,7 @@ pub mod TickRules
 pub mod Lift
 pub mod Progress
 pub mod Claim
+pub mod LetOut
 pub mod Listing
 pub mod ListSound
 pub mod SoundEffects

@@ -5,7 +5,8 @@ use mathlib.Core.Bool.{false}
 use mathlib.Core.List.{List, [], _∷_}
 use Rattle.laws.specs.{Update.update, Count.count}
 use Rattle.lock_rules.specs.Numbers.{asked-for, phase-of}
-use Rattle.lock_rules.specs.Rules.{enter-look, exit-owned, go-in-again, go-in, enter-check, enter-try, exit-test, exit-tell, exit-leave, decide}
+use Rattle.lock_rules.specs.Rules.{enter-look, exit-owned, go-in-again, go-in, exit-go-in, enter-check, enter-try, exit-test, exit-tell, exit-leave}
+use Rattle.lock_rules.specs.Rules.{decide}
 use Rattle.lock_word.specs.declared.meaning.WordSeen.{WordSeen}
 use Rattle.lock_word.specs.declared.meaning.WordSeen.the-variants.{Free, Anonymous, Fat, Flat, Reserved}
 use Rattle.lock_rules.specs.declared.event.Event.{Event}
@@ -46,5 +47,5 @@ listing : lines 2 1 (fresh false)
     (Begin 1 1 1 0 ∷ Step 1 ∷ Begin 1 2 1 0 ∷ Step 2 ∷ Step 2 ∷ Step 2 ∷ Step 2 ∷ Begin 2 1 1 0 ∷ Step 1 ∷ Step 1 ∷ Step 1 ∷ Step 1 ∷ Step 1 ∷ Step 2 ∷ Step 2 ∷ [])
     ≡ line 0 1 0 ∷ line 1 0 0x100 ∷ line 0 1 0x100 ∷ line 0 4 0x100 ∷ line 0 6 0x100 ∷ line 0 7 0x100 ∷ line 2 8 0x100 ∷ line 0 1 0x100 ∷ line 0 9 0
     ∷ line 0 4 0 ∷ line 0 10 0 ∷ line 0 11 0 ∷ line 1 0 0 ∷ line 0 7 0 ∷ line 1 0 0x101 ∷ []
-unfolding update count enter-queue-all asked-for decide enter-look exit-owned go-in go-in-again enter-check enter-try exit-test exit-tell exit-leave
+unfolding update count enter-queue-all asked-for decide enter-look exit-owned go-in go-in-again exit-go-in enter-check enter-try exit-test exit-tell exit-leave
 listing = refl

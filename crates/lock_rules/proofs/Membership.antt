@@ -2,20 +2,25 @@
 use Prim.Native.Nat.{ℕ, zero, suc, _+_}
 use mathlib.Core.Path.{_≡_, refl, sym, ap, _∙_}
 use mathlib.Core.Logic.{_≢_}
+use mathlib.Core.Bool.{Bool, true, false}
 use mathlib.Core.List.{List, [], _∷_}
 use native.Mathlib.Omega.{arith}
-use Rattle.laws.specs.Count.{count}
-use Rattle.laws.proofs.Choice.{equal?, either-way}
+use Rattle.laws.specs.{Choice.pick, Count.count}
+use Rattle.laws.proofs.Choice.{equal?, either-way, false≢true}
 use Rattle.laws.proofs.Count.{count-none, count-same, count-other}
+use Rattle.laws.proofs.Filter.{count-failing}
 use Rattle.chains.specs.declared.named.Chain.{Chain}
-use Rattle.lock_rules.proofs.{Changes.moved, Changes.sent-back, Each.each-state, Invariant.Placed}
+use Rattle.lock_rules.proofs.{Changes.moved, Changes.is-queued-exit, Changes.let-out-state, Changes.sent-back}
+use Rattle.lock_rules.proofs.Invariant.{in-contention, in-waiting, Placed}
 use Rattle.lock_rules.specs.declared.{Suspension.Suspension, OnwardStep.OnwardStep, ThreadState.ThreadState, ChainWork.ChainWork}
-use Rattle.lock_rules.specs.declared.ThreadState.the-variants.{Queued, Contending, Waiting}
-use Rattle.lock_rules.specs.declared.Taken.the-variants.{First}
-use Rattle.lock_rules.specs.declared.ChainWork.the-variants.{Stay, Join, JoinAndHand, Hand, Move, SendBack}
+use Rattle.lock_rules.specs.declared.ThreadState.the-variants.{Idle, Queued, Contending, Waiting}
+use Rattle.lock_rules.specs.declared.Taken.the-variants.{First, All}
+use Rattle.lock_rules.specs.declared.ChainWork.the-variants.{Stay, Join, JoinAndHand, Hand, Move, MoveAndLetOut, SendBack}
+use Rattle.lock_rules.proofs.Each.{each-state}
 use Rattle.lock_rules.proofs.Objects.{ListObject, chain-of}
 use Rattle.lock_rules.proofs.Perform.{count-entered-all, count-join, taken, count-taken, first-of, changed-states, joined-object}
-use Rattle.lock_rules.proofs.Perform.{Parting, taking, handed-object, handed-states, parted-object, states-after, object-after}
+use Rattle.lock_rules.proofs.Perform.{Parting, taking, handed-object, handed-states, parted-object, moved-object, moved-states, let-out-object}
+use Rattle.lock_rules.proofs.Perform.{let-out-states, states-after, object-after}
 use Rattle.lock_rules.proofs.Reliances.{is-queued, is-contending, is-waiting}
 
 abbrev pub Members : ℕ → (ℕ → ThreadState) → ListObject → Type 0
@@ -31,6 +36,19 @@ not-first t first rest out =
 pub placed-sent-back : {t : ℕ} {entry contention waiting : List ℕ} (state : ThreadState) → Placed state t entry contention waiting
     → Placed (sent-back state) t entry contention waiting
 placed-sent-back = each-state _ (search)
+
+-- a queued exit is in the entry chain alone
+exit-in-entry : (state : ThreadState) → is-queued-exit state ≡ true → (in-contention state ≡ 0) × (in-waiting state ≡ 0)
+exit-in-entry = each-state _ (search, search, search, λ e. false≢true e, λ saved e. false≢true e)
+
+-- one that is let out is in no chain, and nobody else moves
+placed-let-out : {t : ℕ} {entry contention waiting stay : List ℕ} (state : ThreadState) → Placed state t entry contention waiting
+    → count t stay ≡ pick (is-queued-exit state) 0 (count t entry) → Placed (let-out-state state) t stay contention waiting
+placed-let-out {t} {entry} {contention} {waiting} {stay} state p = at (is-queued-exit state) refl
+  where
+    at : (exit : Bool) → is-queued-exit state ≡ exit → count t stay ≡ pick exit 0 (count t entry) → Placed (pick exit Idle state) t stay contention waiting
+    at true exits e = let (c, w) = exit-in-entry state exits in record { entry = e; contention = p .contention ∙ c; waiting = p .waiting ∙ w }
+    at false stays e = record { entry = e ∙ p .entry; contention = p .contention; waiting = p .waiting }
 
 -- the chains of an object, and where a thread in a state is in them
 abbrev pub PlacedAt : ℕ → ThreadState → ListObject → Type 0
@@ -151,6 +169,9 @@ module _ (thread : ℕ) (states : ℕ → ThreadState) (o : ListObject) (members
             waiting = omega (arith, c);
           })
 
+  pub members-let-out : Members thread (let-out-states states) (let-out-object states o)
+  members-let-out t n = placed-let-out (states t) (members t n) (count-failing (λ u. is-queued-exit (states u)) (o .entry) t)
+
   pub members-sent-back : (u : ℕ) → Members thread (changed-states sent-back states (u ∷ [])) o
   members-sent-back u t n = at (count t (u ∷ [])) refl (members t n)
     where
@@ -159,11 +180,14 @@ module _ (thread : ℕ) (states : ℕ → ThreadState) (o : ListObject) (members
       at (suc k) e p = rw e (placed-sent-back (states t) p)
 
 pub members-after : (work : ChainWork) (thread : ℕ) (states : ℕ → ThreadState) (o : ListObject) → Members thread states o
-    → Members thread (states-after work states o) (object-after work thread o)
+    → Members thread (states-after work states o) (object-after work thread states o)
 members-after Stay thread states o members = members
 members-after (Join chain) thread states o members = members-joined thread states o members chain
 members-after (JoinAndHand chain) thread states o members =
     members-joined thread (handed-states states o) (handed-object o) (members-handed thread states o members) chain
 members-after Hand thread states o members = members-handed thread states o members
 members-after (Move from which) thread states o members = members-moved thread states o members from (taking which (chain-of from o))
+members-after MoveAndLetOut thread states o members =
+    members-let-out thread (moved-states Chain.Contention All states o) (moved-object Chain.Contention All o)
+    (members-moved thread states o members Chain.Contention (taking All (o .contention)))
 members-after (SendBack u) thread states o members = members-sent-back thread states o members u

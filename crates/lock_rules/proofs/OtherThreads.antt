@@ -4,15 +4,15 @@ use mathlib.Core.Path.{_≡_, refl, sym, ap, _∙_, subst}
 use mathlib.Core.Logic.{_≢_, _⊎_, inl, inr}
 use mathlib.Core.Bool.{Bool, true, false}
 use mathlib.Core.List.{[], _∷_}
-use Rattle.laws.specs.Choice.{both, either}
+use Rattle.laws.specs.Choice.{pick, both, either}
 use Rattle.laws.specs.{Update.update, Count.count}
-use Rattle.laws.proofs.Choice.{equal?, either-way}
+use Rattle.laws.proofs.Choice.{equal?, either-way, false≢true}
 use Rattle.laws.proofs.Update.{update-same, update-other}
 use Rattle.laws.proofs.Count.{count-none, count-same, count-other}
 use Rattle.chains.specs.declared.named.Chain.{Chain}
 use Rattle.lock_rules.specs.{Rules.onward, PlainMonitor.above-zero, Feed.OperationLog}
 use Rattle.lock_rules.proofs.Each.{each-state, each-carried, each-chain}
-use Rattle.lock_rules.proofs.{Changes.moved, Changes.sent-back, Perform.moved-states}
+use Rattle.lock_rules.proofs.{Changes.moved, Changes.is-queued-exit, Changes.let-out-state, Changes.sent-back, Perform.moved-states}
 use Rattle.lock_rules.specs.declared.{Suspension.Suspension, OnwardStep.OnwardStep, ThreadState.ThreadState}
 use Rattle.lock_rules.specs.declared.ThreadState.the-variants.{Idle, Running, Queued, Contending, Waiting}
 use Rattle.lock_rules.specs.declared.Taken.the-variants.{First, All}
@@ -20,10 +20,12 @@ use Rattle.lock_word.specs.declared.meaning.WordSeen.{WordSeen}
 use Rattle.lock_word.specs.declared.meaning.WordSeen.the-variants.{Fat, Reserved}
 use Rattle.lock_rules.proofs.Objects.{ListObject, chain-of, with-word, with-flag, with-holder, with-depth}
 use Rattle.lock_rules.proofs.Perform.{Parting, taking, taken, first-of, changed-states, joined-object, handed-object, handed-states, parted-object, moved-object}
-use Rattle.lock_rules.proofs.Invariant.{seat, Seated, Placed, Unreserved, FlatOf, Relies, Ghost, ThreadOk}
-use Rattle.lock_rules.proofs.Reliances.{seated-depth, seated-handed, not-own-unreserved, KeepsReliance, relies-flag, relies-handed}
+use Rattle.lock_rules.proofs.Perform.{let-out-object, let-out-states}
+use Rattle.lock_rules.proofs.Invariant.{parked, seat, Seated, Placed, Unreserved, FlatOf, Relies, state-woken?, Ghost, ThreadOk}
+use Rattle.lock_rules.proofs.Reliances.{seated-depth, seated-handed, not-own-unreserved, thin-unreserved, KeepsReliance, relies-flag, relies-handed}
 use Rattle.lock_rules.proofs.Reliances.{relies-word, relies-inflated, relies-sent-back, sent-back-row}
 use Rattle.lock_rules.proofs.Membership.{Members, PlacedAt, first-taken, not-taken, was-in, members-joined, members-handed, members-moved}
+use Rattle.lock_rules.proofs.Membership.{members-let-out}
 
 -- every thread but one
 abbrev pub Others : ℕ → (ℕ → ThreadState) → ListObject → Ghost → Type 0
@@ -48,16 +50,45 @@ beside a seated placed relies = record { seated = seated; placed = placed; relie
 places : {thread : ℕ} {states : ℕ → ThreadState} {o : ListObject} {ghost : Ghost} → Others thread states o ghost → Members thread states o
 places others t n = others t n .placed
 
--- word fat, flag 0, all contenders in the entry chain
-abbrev pub inflated : ListObject → ℕ → ListObject
-inflated o depth = with-depth (with-flag (with-word (moved-object Chain.Contention All o) Fat) false) depth
+-- word fat, flag 0, all contenders in the entry chain, and no exit
+abbrev pub inflated : (ℕ → ThreadState) → ListObject → ℕ → ListObject
+inflated states o depth =
+    with-depth (with-flag (with-word (let-out-object (moved-states Chain.Contention All states o) (moved-object Chain.Contention All o)) Fat) false) depth
+
+-- a queued exit sits parked, and is not woken
+exit-sits : (state : ThreadState) → is-queued-exit state ≡ true → (seat state ≡ parked) × (state-woken? state ≡ false)
+exit-sits =
+    each-state _ (
+      λ e. false≢true e,
+      λ doing e. false≢true e,
+      each-carried _ (search, search, λ limit e. false≢true e, λ saved e. false≢true e),
+      λ e. false≢true e,
+      λ saved e. false≢true e,
+    )
+
+-- one that is let out, and any other thread
+let-out-ok : {t : ℕ} {o o′ : ListObject} {log : OperationLog} {woken : Bool} {suspension : Suspension} (state : ThreadState)
+    → ThreadOk t state o log woken suspension → Seated (seat state) t (o′ .holder) (o′ .depth) → PlacedAt t (let-out-state state) o′
+    → Relies state t (o′ .word) (o′ .flag) (o′ .holder) → ThreadOk t (let-out-state state) o′ log woken suspension
+let-out-ok {t} {o} {o′} {log} {woken} {suspension} state a seated placed relies = at (is-queued-exit state) refl placed
+  where
+    at : (exit : Bool) → is-queued-exit state ≡ exit → PlacedAt t (pick exit Idle state) o′ → ThreadOk t (pick exit Idle state) o′ log woken suspension
+    at true exits placed =
+        let (sits, asleep) = exit-sits state exits in
+        let away : Seated parked t (o′ .holder) (o′ .depth) = rw sits at seated in
+        record { seated = λ e z. absurd (away .0 e); placed = placed; relies = tt; logged = tt; saved = tt; woken = a .woken ∙ asleep }
+    at false stays placed = beside a seated placed relies
+
+-- nobody is left to let out
+none-left : (state : ThreadState) → is-queued-exit (let-out-state state) ≡ false
+none-left = each-state _ (search, search, each-carried _ (search), search, search)
 
 -- a queued thread that is handed the monitor
 handed-ok : (t : ℕ) (o : ListObject) (log : OperationLog) (woken : Bool) (suspension : Suspension) → t ≢ 0 → first-of (o .entry) ≡ t → (carried : OnwardStep)
     → ThreadOk t (Queued carried) o log woken suspension → PlacedAt t (Running (onward carried)) (handed-object o)
     → ThreadOk t (Running (onward carried)) (handed-object o) log woken suspension
 handed-ok t o log woken suspension real first =
-    each-carried _ (λ a placed. search, λ a placed. search, λ limit a placed. search, λ saved a placed. search)
+    each-carried _ (λ a placed. search, λ a placed. search (thin-unreserved), λ limit a placed. search, λ saved a placed. search)
 
 -- moving from the waiting chain wakes
 abbrev wakes : Chain → Bool
@@ -163,15 +194,23 @@ module _ (thread : ℕ) (states : ℕ → ThreadState) (o : ListObject) (ghost :
           let b : ThreadOk t (Waiting suspension) o (ghost .logs t) (ghost .woken t) (ghost .saved t) = rw v at a in
           rw (e, v) (λ placed. record { seated = b .seated; placed = placed; relies = b .relies; logged = b .logged; saved = b .saved; woken = refl })
 
-  -- the holder inflates a word that is its own or nobody's
-  pub others-inflated : (depth : ℕ) → o .holder ≡ thread → ((t : ℕ) → t ≢ thread → FlatOf t (o .word) → ⊥) → Unreserved (o .word) → Others thread states o ghost
-      → Others thread (moved-states Chain.Contention All states o) (inflated o depth) ghost
-  others-inflated depth h foreign u others t n =
-      let state = moved-states Chain.Contention All states o t in
-      let a = others-moved Chain.Contention (taking All (o .contention)) others t n in
-      beside a (seated-depth (seat state) thread t (o .holder) (o .depth) depth n h (a .seated)) (a .placed)
-      (relies-inflated t (o .word) (o .flag) (o .holder) (λ q z. n (sym q ∙ h)) (foreign t n) u state (sym (a .placed .contention) ∙ count-none t)
-      (a .relies))
+  -- the queued exits are let out of the entry chain
+  others-let-out : Others thread states o ghost → Others thread (let-out-states states) (let-out-object states o) ghost
+  others-let-out others t n =
+      let a = others t n in
+      let-out-ok (states t) a (a .seated) (members-let-out thread states o (places others) t n) (a .relies)
+
+-- the holder inflates a word that is its own or nobody's
+pub others-inflated : (thread : ℕ) (states : ℕ → ThreadState) (o : ListObject) (ghost : Ghost) (depth : ℕ) → o .holder ≡ thread
+    → ((t : ℕ) → t ≢ thread → FlatOf t (o .word) → ⊥) → Unreserved (o .word) → Others thread states o ghost
+    → Others thread (let-out-states (moved-states Chain.Contention All states o)) (inflated states o depth) ghost
+others-inflated thread states o ghost depth h foreign u others t n =
+    let moves = moved-states Chain.Contention All states o in
+    let a = others-let-out thread moves (moved-object Chain.Contention All o) ghost
+    (others-moved thread states o ghost Chain.Contention (taking All (o .contention)) others) t n in
+    beside a (seated-depth (seat (let-out-state (moves t))) thread t (o .holder) (o .depth) depth n h (a .seated)) (a .placed)
+    (relies-inflated t (o .word) (o .flag) (o .holder) (λ q z. n (sym q ∙ h)) (foreign t n) u (let-out-state (moves t))
+    (sym (a .placed .contention) ∙ count-none t) (none-left (moves t)) (a .relies))
 
 -- the thread for which the word was reserved, after a cancel
 sent-back-ok : (t c : ℕ) (it : ListObject) (word′ : WordSeen) (log : OperationLog) (woken : Bool) (suspension : Suspension) (state : ThreadState)
@@ -218,5 +257,6 @@ others-cancelled thread states ghost it u c word′ others t x = at (equal? t u)
           held = λ e k. absurd k;
           not-own = λ k. absurd k;
           kept = λ e k. absurd (p (sym (k .0)));
+          thin = λ k. absurd k;
         })
         (a .relies)))

@@ -5,13 +5,13 @@ use mathlib.Core.Logic.{_≢_}
 use mathlib.Core.Bool.{Bool, false}
 use mathlib.Core.List.{List, [], _∷_, _++_, cons≢nil}
 use native.Mathlib.Omega.{arith}
-use Rattle.laws.specs.{Choice.pick, Update.update, Count.count}
+use Rattle.laws.specs.{Choice.pick, Update.update, Count.count, Filter.failing}
 use Rattle.laws.proofs.Count.{count-append}
 use Rattle.chains.specs.declared.named.Chain.{Chain}
-use Rattle.lock_rules.proofs.Changes.{seen-after, handed, moved, sent-back}
+use Rattle.lock_rules.proofs.Changes.{seen-after, handed, moved, is-queued-exit, let-out-state, sent-back}
 use Rattle.lock_rules.specs.declared.{ThreadState.ThreadState, Taken.Taken, ChainWork.ChainWork, Answer.Answer, Effect.Effect, Action.Action}
 use Rattle.lock_rules.specs.declared.Taken.the-variants.{First, All}
-use Rattle.lock_rules.specs.declared.ChainWork.the-variants.{Stay, Join, JoinAndHand, Hand, Move, SendBack}
+use Rattle.lock_rules.specs.declared.ChainWork.the-variants.{Stay, Join, JoinAndHand, Hand, Move, MoveAndLetOut, SendBack}
 use Rattle.lock_rules.specs.declared.Answer.the-variants.{NoRule}
 use Rattle.lock_rules.specs.declared.Action.the-variants.{Unruled, Do}
 use Rattle.lock_rules.specs.PlainMonitor.{above-zero}
@@ -102,6 +102,13 @@ moved-object from which o = parted-object from (taken which (chain-of from o)) (
 abbrev pub moved-states : Chain → Taken → (ℕ → ThreadState) → ListObject → ℕ → ThreadState
 moved-states from which states o = changed-states moved states (taken which (chain-of from o))
 
+-- inflating, once the contenders have moved: the queued exits are let out of the entry chain, the others stay in order
+abbrev pub let-out-object : (ℕ → ThreadState) → ListObject → ListObject
+let-out-object states o = with-entry o (failing (λ t. is-queued-exit (states t)) (o .entry))
+
+abbrev pub let-out-states : (ℕ → ThreadState) → ℕ → ThreadState
+let-out-states states t = let-out-state (states t)
+
 -- the other threads after the work on chains
 abbrev pub states-after : ChainWork → (ℕ → ThreadState) → ListObject → ℕ → ThreadState
 states-after Stay states o = states
@@ -109,16 +116,18 @@ states-after (Join chain) states o = states
 states-after (JoinAndHand chain) states o = handed-states states o
 states-after Hand states o = handed-states states o
 states-after (Move from which) states o = moved-states from which states o
+states-after MoveAndLetOut states o = let-out-states (moved-states Chain.Contention All states o)
 states-after (SendBack u) states o = changed-states sent-back states (u ∷ [])
 
--- the object after the work of `thread`
-abbrev pub object-after : ChainWork → ℕ → ListObject → ListObject
-object-after Stay thread o = o
-object-after (Join chain) thread o = joined-object chain thread o
-object-after (JoinAndHand chain) thread o = joined-object chain thread (handed-object o)
-object-after Hand thread o = handed-object o
-object-after (Move from which) thread o = moved-object from which o
-object-after (SendBack u) thread o = o
+-- the object after the work of `thread`, with the threads' states before it
+abbrev pub object-after : ChainWork → ℕ → (ℕ → ThreadState) → ListObject → ListObject
+object-after Stay thread states o = o
+object-after (Join chain) thread states o = joined-object chain thread o
+object-after (JoinAndHand chain) thread states o = joined-object chain thread (handed-object o)
+object-after Hand thread states o = handed-object o
+object-after (Move from which) thread states o = moved-object from which o
+object-after MoveAndLetOut thread states o = let-out-object (moved-states Chain.Contention All states o) (moved-object Chain.Contention All o)
+object-after (SendBack u) thread states o = o
 
 -- word, flag, holder and depth by the effect, the chains as they were
 abbrev pub effected : ℕ → Effect → ListObject → ListObject
@@ -136,7 +145,7 @@ perform thread states o Unruled = record { states = states; object = o; answer =
 perform thread states o (Do effect) =
     record {
       states = update (states-after (effect .work) states (effected thread effect o)) thread (effect .state);
-      object = object-after (effect .work) thread (effected thread effect o);
+      object = object-after (effect .work) thread states (effected thread effect o);
       answer = effect .answer;
       commits = effect .commits;
     }

@@ -2,10 +2,10 @@
 use Prim.Native.Nat.{ℕ, suc, _+_, _<_}
 use mathlib.Core.Path.{_≡_, refl, sym, _∙_}
 use mathlib.Core.Logic.{_≢_}
-use mathlib.Core.Bool.{Bool, true, false}
+use mathlib.Core.Bool.{Bool, true, false, true≢false}
 use native.Mathlib.Omega.{arith}
 use Rattle.lock_rules.proofs.Each.{each-doing, each-state, each-carried, each-word}
-use Rattle.lock_rules.proofs.Changes.{look-again}
+use Rattle.lock_rules.proofs.Changes.{look-again, is-queued-exit}
 use Rattle.lock_rules.specs.declared.{Suspension.Suspension, OnwardStep.OnwardStep, Doing.Doing, ThreadState.ThreadState}
 use Rattle.lock_rules.specs.declared.OnwardStep.the-variants.{ToCheck, ToTell, ToInflate, ToResume}
 use Rattle.lock_rules.specs.declared.ThreadState.the-variants.{Idle, Running, Queued, Contending, Waiting}
@@ -13,7 +13,7 @@ use Rattle.lock_word.specs.declared.meaning.WordSeen.{WordSeen}
 use Rattle.lock_word.specs.declared.meaning.WordSeen.the-variants.{Fat, Reserved}
 use Rattle.lock_rules.proofs.Invariant.{Seat, outside, parked, telling, holding, leaving, owning, Reliance, anything, unreserved, own-flat}
 use Rattle.lock_rules.proofs.Invariant.{held-fat, trying, kept-to-enter, kept-to-exit, phase-row, in-entry, in-contention, in-waiting}
-use Rattle.lock_rules.proofs.Invariant.{Seated, Unreserved, FlatOf, IsFat, NotOwn, KeptWord, ReliesOn, Relies}
+use Rattle.lock_rules.proofs.Invariant.{Seated, Unreserved, FlatOf, IsFat, NotOwn, Thin, KeptWord, ReliesOn, Relies}
 
 -- the holder i changes the depth
 pub seated-depth : (s : Seat) (i t holder depth new : ℕ) → t ≢ i → holder ≡ i → Seated s t holder depth → Seated s t holder new
@@ -39,6 +39,12 @@ kept-reserved t c = each-word _ (search)
 pub not-own-unreserved : (t : ℕ) (word : WordSeen) → NotOwn t word → Unreserved word
 not-own-unreserved t = each-word _ (search)
 
+pub flat-thin : (t : ℕ) (word : WordSeen) → FlatOf t word → Thin word
+flat-thin t = each-word _ (search)
+
+pub thin-unreserved : (word : WordSeen) → Thin word → Unreserved word
+thin-unreserved = each-word _ (search)
+
 -- what a new word owes to thread t in this state
 pub record KeepsReliance (state : ThreadState) (t : ℕ) (word word′ : WordSeen) (holder : ℕ) : Type 0 where
   pub unreserved : Unreserved word → Unreserved word′
@@ -47,6 +53,7 @@ pub record KeepsReliance (state : ThreadState) (t : ℕ) (word word′ : WordSee
   pub held : holder ≡ t → IsFat word → IsFat word′
   pub not-own : NotOwn t word → NotOwn t word′
   pub kept : (c : ℕ) → KeptWord t c word → KeptWord t c word′
+  pub thin : Thin word → Thin word′
 
 -- what holds of each reliance holds of all
 each-reliance : (P : Reliance → Type 0)
@@ -93,13 +100,13 @@ module _ (t : ℕ) (word : WordSeen) (flag : Bool) (holder : ℕ) where
   relies-word Idle word′ keeps a = tt
   relies-word (Running doing) word′ keeps a = relies-on-word (Running doing) word′ keeps (phase-row doing .reliance) a
   relies-word (Queued ToCheck) word′ keeps a = keeps .unreserved a
-  relies-word (Queued ToTell) word′ keeps a = keeps .unreserved a
+  relies-word (Queued ToTell) word′ keeps a = keeps .thin a
   relies-word (Queued (ToInflate limit)) word′ keeps a = keeps .flat a
   relies-word (Queued (ToResume saved)) word′ keeps a = keeps .chained (omega arith) a
   relies-word Contending word′ keeps a = keeps .not-own a
   relies-word (Waiting saved) word′ keeps a = keeps .chained (omega arith) a
 
-  -- the word becomes fat and the flag 0, by another holder than t, who is no contender and does not own the word
+  -- the word becomes fat and the flag 0, by another holder than t, who is no contender, is no queued exit and does not own the word
   relies-on-inflated : (holder ≡ t → t ≢ 0 → ⊥) → (FlatOf t word → ⊥) → Unreserved word → (k : Reliance)
       → ReliesOn k t word flag holder → ReliesOn k t Fat false holder
   relies-on-inflated other foreign u =
@@ -115,12 +122,12 @@ module _ (t : ℕ) (word : WordSeen) (flag : Bool) (holder : ℕ) where
       )
 
   pub relies-inflated : (holder ≡ t → t ≢ 0 → ⊥) → (FlatOf t word → ⊥) → Unreserved word → (state : ThreadState) → in-contention state ≡ 0
-      → Relies state t word flag holder → Relies state t Fat false holder
+      → is-queued-exit state ≡ false → Relies state t word flag holder → Relies state t Fat false holder
   relies-inflated other foreign u =
       each-state _ (
         search,
-        λ doing none. relies-on-inflated other foreign u (phase-row doing .reliance),
-        each-carried _ (search, search, λ limit none a. absurd (foreign a), search),
+        λ doing none stays. relies-on-inflated other foreign u (phase-row doing .reliance),
+        each-carried _ (search, λ none stays. absurd (true≢false stays), λ limit none stays a. absurd (foreign a), search),
         λ none. absurd (omega (arith, none)),
         search,
       )

@@ -1,18 +1,18 @@
 -- The shapes that rules have, each shown once: moving on, ending, another word, another depth, handing over, inflating.
 use Prim.Native.Nat.{ℕ, _≤_, _<_}
-use mathlib.Core.Path.{_≡_, refl, sym, _∙_}
+use mathlib.Core.Path.{_≡_, refl, sym, ap, _∙_}
 use mathlib.Core.Logic.{_≢_}
 use mathlib.Core.Bool.{Bool, true, false}
 use mathlib.Core.List.{List, [], _∷_}
 use native.Mathlib.Omega.{arith}
 use lib.Dec.{T}
 use Rattle.laws.specs.{Choice.pick, Update.update, Count.count}
-use Rattle.laws.proofs.{Choice.by-equal, Count.count-none}
+use Rattle.laws.proofs.{Choice.by-equal, Count.count-none, Filter.count-parted}
 use Rattle.chains.specs.declared.named.Chain.{Chain}
 use Rattle.lock_word.specs.Depth.{depth-limit}
 use Rattle.lock_rules.specs.Actions.{keep-object, go-on, finish-word, finish-depth, inflate}
 use Rattle.lock_rules.specs.Rules.{owner-seen, owner-only}
-use Rattle.lock_rules.proofs.Changes.{seen-after, handed, moved}
+use Rattle.lock_rules.proofs.Changes.{seen-after, handed, moved, is-queued-exit, let-out-state}
 use Rattle.lock_rules.specs.Operations.{Operation}
 use Rattle.lock_rules.specs.declared.{Suspension.Suspension, Doing.Doing, ThreadState.ThreadState, WordChange.WordChange, Answer.Answer}
 use Rattle.lock_rules.specs.declared.{Action.Action}
@@ -25,7 +25,7 @@ use Rattle.lock_rules.specs.PlainMonitor.{PlainMonitor, Committed, unalt
 use Rattle.lock_rules.specs.Feed.{OperationLog, log-after, EndsRight}
 use Rattle.lock_rules.proofs.Commits.{commit-not-owner, owner-operation}
 use Rattle.lock_rules.proofs.Objects.{with-word, with-depth, with-contention, with-waiting, ListObject, empty, sight-of, object-owner}
-use Rattle.lock_rules.proofs.Perform.{first-of, taken, left, enter-queue-all, count-entered-all, handed-to, handed-object, handed-states}
+use Rattle.lock_rules.proofs.Perform.{first-of, taken, left, enter-queue-all, count-entered-all, handed-to, handed-object, handed-states, let-out-states}
 use Rattle.lock_rules.proofs.{Perform.moved-states, Tables.fresh, Reliances.KeepsReliance, Membership.not-first}
 use Rattle.lock_rules.proofs.Invariant.{Ghost, outside, nothing-saved, phase-row, telling?, leaving?, Seated, InChains, Unreserved, FlatOf}
 use Rattle.lock_rules.proofs.Invariant.{ReliesOn, ThreadOk, MonitorOk, FlagOk, Unstranded, Invariant, monitor-of, Refines}
@@ -68,8 +68,8 @@ pub record InflateParts (actor : Actor) (operation : Operation) (o : ListObject)
   pub above : 0 < new
   pub limit : new ≤ depth-limit
   pub does : T commits → commit operation (limit-of actor) (actor .thread) (plain-at actor o) ≡ committed
-  pub self : InChains 0 0 0 (actor .thread) (enter-queue-all (o .entry) (o .contention)) [] (o .waiting)
-      → ThreadOk (actor .thread) state (inflated o new) (log-after commits (actor .ghost .logs (actor .thread)) (committed .answer))
+  pub self : InChains 0 0 0 (actor .thread) (inflated (actor .states) o new .entry) [] (o .waiting)
+      → ThreadOk (actor .thread) state (inflated (actor .states) o new) (log-after commits (actor .ghost .logs (actor .thread)) (committed .answer))
       (actor .ghost .woken (actor .thread)) (actor .ghost .saved (actor .thread))
   pub shows : pick commits (committed .monitor) (plain-at actor o) ≡ owned actor o new (actor .ghost .woken)
   pub ended : EndsRight operation answer (log-after commits (actor .ghost .logs (actor .thread)) (committed .answer))
@@ -288,10 +288,11 @@ module _ (actor : Actor) where
       → Stepping actor doing o → o .holder ≡ actor .thread → (parts : InflateParts actor operation o new)
       → Right actor operation o (inflate (sight-of o) new (parts .state) (parts .answer) (parts .commits))
   inflate-refines operation o new step q parts =
+      let moves = moved-states Chain.Contention All (actor .states) o in
       refine actor operation o
       (record {
-        after = inflated o new;
-        states = moved-states Chain.Contention All (actor .states) o;
+        after = inflated (actor .states) o new;
+        states = let-out-states moves;
         state = parts .state;
         answer = parts .answer;
         commits = parts .commits;
@@ -299,12 +300,18 @@ module _ (actor : Actor) where
         woken = actor .ghost .woken;
         saved = actor .ghost .saved;
         nobody = step .inv .whole .nobody;
-        stays = idle-changed moved refl (actor .states) (o .contention);
+        stays = λ t e. ap let-out-state (idle-changed moved refl (actor .states) (o .contention) t e);
         does = parts .does;
         others = others-inflated (actor .thread) (actor .states) o (actor .ghost) new q (parts .foreign) (parts .open-word) (λ t n. step .inv .threads t);
         self = parts .self
             (record {
-              entry = omega (arith, count-entered-all (actor .thread) (o .entry) (o .contention), step .self .placed .entry, step .self .placed .contention);
+              entry = omega (
+                arith,
+                count-parted (λ t. is-queued-exit (moves t)) (enter-queue-all (o .entry) (o .contention)) (actor .thread),
+                count-entered-all (actor .thread) (o .entry) (o .contention),
+                step .self .placed .entry,
+                step .self .placed .contention,
+              );
               contention = count-none (actor .thread);
               waiting = step .self .placed .waiting;
             });

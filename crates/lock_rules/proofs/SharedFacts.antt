@@ -21,7 +21,7 @@ use Rattle.lock_rules.specs.PlainMonitor.{PlainMonitor, above-zero}
 use Rattle.lock_rules.proofs.{Each.each-word, Objects.ListObject, Reliances.KeepsReliance, Reliances.is-waiting}
 use Rattle.lock_rules.proofs.Perform.{enter-queue, entered≢nil, changed-states}
 use Rattle.lock_rules.proofs.Invariant.{seat, telling?, leaving?, in-entry, in-waiting, Ghost, IsFat, ThreadOk}
-use Rattle.lock_rules.proofs.Invariant.{FlatOf, KeptWord, MonitorOk, FlagOk, Told, Unstranded, Invariant}
+use Rattle.lock_rules.proofs.Invariant.{FlatOf, Thin, KeptWord, MonitorOk, FlagOk, Told, Unstranded, Invariant}
 
 -- what a new word owes to another thread t than the one that steps
 module _ (state : ThreadState) (thread t holder : ℕ) (n : t ≢ thread) where
@@ -172,3 +172,7 @@ pub same-monitor : {owner owner′ depth depth′ : ℕ} {waiting : List ℕ} {w
     → _≡_ {A = PlainMonitor} (record { owner = owner; depth = depth; waiting = waiting; woken = woken; saved = saved })
     (record { owner = owner′; depth = depth′; waiting = waiting; woken = woken; saved = saved })
 same-monitor {waiting = waiting} {woken = woken} {saved = saved} p q = λ k. record { owner = p k; depth = q k; waiting = waiting; woken = woken; saved = saved }
+
+-- a word that is free or flat goes with depth 0
+pub thin-shallow : (holder depth : ℕ) (word : WordSeen) → Thin word → MonitorOk word holder depth → depth ≡ 0
+thin-shallow holder depth = each-word _ (λ thin m. m, λ thin. absurd thin, λ thin. absurd thin, λ owner c thin m. m .0, λ owner c thin. absurd thin)

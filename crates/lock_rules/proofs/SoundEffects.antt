@@ -12,7 +12,7 @@ use Rattle.lock_word.specs.{Depth.depth-limit, Layout.count-limit, Meaning.owne
 use Rattle.lock_rules.proofs.Each.{each-carried, Words, each-word}
 use Rattle.lock_rules.specs.Actions.{not-owner, finish-word, inflate}
 use Rattle.lock_rules.specs.Rules.{onward, owner-seen, enter-look, exit-owned, wait-owned, notify-owned, notify-all-owned, owner-only}
-use Rattle.lock_rules.specs.Rules.{enter-store, exit-store, cancel, go-in-again, go-in, holder-only, enter-check, enter-try, exit-test}
+use Rattle.lock_rules.specs.Rules.{enter-store, exit-store, cancel, go-in-again, go-in, exit-go-in, holder-only, enter-check, enter-try, exit-test}
 use Rattle.lock_rules.specs.Rules.{exit-tell, exit-leave, wait-inflate, wait-give-up, wait-resume, decide}
 use Rattle.lock_rules.specs.declared.{OnwardStep.OnwardStep, Doing.Doing, ThreadState.ThreadState, WordChange.WordChange, Sight.Sight}
 use Rattle.lock_rules.specs.declared.{ChainWork.ChainWork, Answer.Answer, Effect.Effect, Action.Action}
@@ -25,7 +25,7 @@ use Rattle.lock_rules.specs.declared.ThreadState.the-variants.{Idle, Run
 use Rattle.lock_word.specs.declared.meaning.WordSeen.{WordSeen}
 use Rattle.lock_word.specs.declared.meaning.WordSeen.the-variants.{Fat, Reserved}
 use Rattle.lock_rules.specs.declared.WordChange.the-variants.{Unchanged, Freed, OwnFlat, OwnReserved, Cancelled, Inflated}
-use Rattle.lock_rules.specs.declared.ChainWork.the-variants.{Stay, Join, JoinAndHand, Hand, Move, SendBack}
+use Rattle.lock_rules.specs.declared.ChainWork.the-variants.{Stay, Join, JoinAndHand, Hand, Move, MoveAndLetOut, SendBack}
 use Rattle.lock_rules.specs.declared.Answer.the-variants.{GoneOn, Finished}
 use Rattle.lock_rules.specs.declared.Action.the-variants.{Unruled, Do}
 use Rattle.lock_rules.proofs.Invariant.{in-entry, in-contention, in-waiting}
@@ -47,6 +47,7 @@ Joins (Join chain) state = Names chain state
 Joins (JoinAndHand chain) state = Names chain state
 Joins Hand state = InNone state
 Joins (Move from which) state = InNone state
+Joins MoveAndLetOut state = InNone state
 Joins (SendBack u) state = InNone state
 
 -- threads are in the entry chain only while there is a holder, so nobody hands over and joins it; `was` was the holder, `holder` is
@@ -58,6 +59,7 @@ EntryHeld (JoinAndHand Chain.Contention) was holder = Unit {0}
 EntryHeld (JoinAndHand Chain.Waiting) was holder = Unit {0}
 EntryHeld Hand was holder = Unit {0}
 EntryHeld (Move from which) was holder = holder ≢ 0
+EntryHeld MoveAndLetOut was holder = holder ≢ 0
 EntryHeld (SendBack u) was holder = holder ≡ 0 → was ≡ 0
 
 -- a count that is written is at most 63
@@ -146,7 +148,7 @@ module _ (threads thread : ℕ) (sight : Sight) (real : thread ≢ 0) (deep : si
           )
 
   pub decide-fine : (doing : Doing) → DoingFine doing → WordFine threads (sight .word) → Fine (decide thread sight doing)
-  unfolding decide enter-look enter-store cancel enter-check enter-try exit-owned exit-store exit-test exit-tell exit-leave wait-owned wait-inflate wait-give-up
+  unfolding decide enter-look enter-store cancel enter-check enter-try exit-owned exit-store exit-go-in exit-test exit-tell exit-leave wait-owned wait-inflate wait-give-up
       wait-resume notify-owned notify-all-owned
   decide-fine EnterLook fine =
       by-word (enter-look thread sight) (
@@ -191,7 +193,7 @@ module _ (threads thread : ℕ) (sight : Sight) (real : thread ≢ 0) (deep : si
         λ owner c w own. (let above = reserved-above owner c own in let few = w .2 in search inl),
       )
   decide-fine (ExitStore c) fine = λ word. either-fine (eqb c 0) _ _ tt (word-fine (OwnReserved (c - 1)) (omega (arith, fine .1)))
-  decide-fine ExitGoIn fine = λ word. go-in-fine ToTell tt
+  decide-fine ExitGoIn fine = λ word. either-fine (sight .flag) _ _ (go-in-fine ToTell tt) (search inl)
   decide-fine ExitTest fine = λ word. search (either-fine, inl)
   decide-fine ExitTell fine = λ word. by-held _ (λ held. search (either-fine, inl))
   decide-fine ExitLeave fine = λ word. by-held _ (λ held. search (either-fine, inl))

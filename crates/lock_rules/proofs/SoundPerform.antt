@@ -10,9 +10,10 @@ use Rattle.laws.specs.{Choice.pick, Update.update, Count.count}
 use Rattle.laws.proofs.Choice.{equal?, either-way as by-case}
 use Rattle.laws.proofs.Update.{update-same, update-other}
 use Rattle.laws.proofs.Count.{count-none, count-same}
+use Rattle.laws.proofs.Filter.{count-parted}
 use Rattle.chains.specs.declared.named.Chain.{Chain}
 use Rattle.lock_word.specs.Depth.{depth-limit}
-use Rattle.lock_rules.proofs.Changes.{seen-after, handed, moved, look-again, sent-back}
+use Rattle.lock_rules.proofs.Changes.{seen-after, handed, moved, is-queued-exit, let-out-state, look-again, sent-back}
 use Rattle.lock_rules.specs.declared.Limit.the-variants.{Unlimited, Ticks}
 use Rattle.lock_rules.specs.declared.{Limit.Limit, Doing.Doing, ThreadState.ThreadState, WordChange.WordChange, Taken.Taken, ChainWork.ChainWork}
 use Rattle.lock_rules.specs.declared.{Action.Action}
@@ -20,14 +21,14 @@ use Rattle.lock_rules.specs.declared.ThreadState.the-variants.{Idle, Run
 use Rattle.lock_word.specs.declared.meaning.WordSeen.{WordSeen}
 use Rattle.lock_word.specs.declared.meaning.WordSeen.the-variants.{Free, Anonymous, Fat, Flat, Reserved}
 use Rattle.lock_rules.specs.declared.WordChange.the-variants.{Unchanged, Freed, OwnFlat, OwnReserved, Cancelled, Inflated}
-use Rattle.lock_rules.specs.declared.Taken.the-variants.{First}
-use Rattle.lock_rules.specs.declared.ChainWork.the-variants.{Stay, Join, JoinAndHand, Hand, Move, SendBack}
+use Rattle.lock_rules.specs.declared.Taken.the-variants.{First, All}
+use Rattle.lock_rules.specs.declared.ChainWork.the-variants.{Stay, Join, JoinAndHand, Hand, Move, MoveAndLetOut, SendBack}
 use Rattle.lock_rules.specs.declared.Action.the-variants.{Unruled, Do}
 use Rattle.lock_rules.specs.PlainMonitor.{above-zero}
 use Rattle.lock_rules.proofs.Each.{each-doing, each-state, each-chain}
 use Rattle.lock_rules.proofs.Objects.{ListObject, chain-of, empty}
 use Rattle.lock_rules.proofs.Perform.{count-join, taking, taken, left, count-taken, first-of, changed-states, joined-object, handed-object}
-use Rattle.lock_rules.proofs.Perform.{moved-object, states-after, object-after, effected, perform}
+use Rattle.lock_rules.proofs.Perform.{enter-queue-all, count-entered-all, moved-object, moved-states, states-after, object-after, effected, perform}
 use Rattle.lock_rules.proofs.Invariant.{InChains, Placed}
 use Rattle.lock_rules.proofs.Membership.{PlacedAt, placed-left, placed-unmoved, members-after}
 use Rattle.lock_rules.proofs.SharedFacts.{idle-changed}
@@ -83,6 +84,8 @@ module _ (states : ℕ → ThreadState) (fine : (t : ℕ) → StateFine (states 
   states-after-fine (JoinAndHand chain) o t = changed-fine handed handed-fine (taken First (o .entry)) t
   states-after-fine Hand o t = changed-fine handed handed-fine (taken First (o .entry)) t
   states-after-fine (Move from which) o t = changed-fine moved moved-fine (taken which (chain-of from o)) t
+  states-after-fine MoveAndLetOut o t =
+      either-way StateFine (is-queued-exit (moved-states Chain.Contention All states o t)) tt (changed-fine moved moved-fine (o .contention) t)
   states-after-fine (SendBack u) o t = changed-fine sent-back sent-back-fine (u ∷ []) t
 
 -- an idle thread stays idle
@@ -93,6 +96,7 @@ idle-after (Join chain) states o t e = e
 idle-after (JoinAndHand chain) states o t e = idle-changed handed refl states (taken First (o .entry)) t e
 idle-after Hand states o t e = idle-changed handed refl states (taken First (o .entry)) t e
 idle-after (Move from which) states o t e = idle-changed moved refl states (taken which (chain-of from o)) t e
+idle-after MoveAndLetOut states o t e = ap let-out-state (idle-changed moved refl states (o .contention) t e)
 idle-after (SendBack u) states o t e = idle-changed sent-back refl states (u ∷ []) t e
 
 -- the thread that steps, which was in no chain, is in the one that it joins
@@ -128,21 +132,35 @@ module _ (thread : ℕ) where
   untaken : (list : List ℕ) (which : Taken) → count thread list ≡ 0 → count thread (taken which list) ≡ 0
   untaken list which out = omega (arith, count-taken which list thread, out)
 
-  own-after : (work : ChainWork) (o : ListObject) (state : ThreadState) → InChains 0 0 0 thread (o .entry) (o .contention) (o .waiting) → Joins work state
-      → PlacedAt thread state (object-after work thread o)
-  own-after Stay o state p joins = own-out o state p joins
-  own-after (Join chain) o state p joins = own-joined chain o state p joins
-  own-after (JoinAndHand chain) o state p joins =
+  own-after : (work : ChainWork) (states : ℕ → ThreadState) (o : ListObject) (state : ThreadState)
+      → InChains 0 0 0 thread (o .entry) (o .contention) (o .waiting) → Joins work state
+      → PlacedAt thread state (object-after work thread states o)
+  own-after Stay states o state p joins = own-out o state p joins
+  own-after (Join chain) states o state p joins = own-joined chain o state p joins
+  own-after (JoinAndHand chain) states o state p joins =
       own-joined chain (handed-object o) state (placed-left thread Idle o p (untaken (o .entry) First (p .entry))) joins
-  own-after Hand o state p joins = placed-left thread state o (own-out o state p joins) (untaken (o .entry) First (p .entry))
-  own-after (Move from which) o state p joins =
+  own-after Hand states o state p joins = placed-left thread state o (own-out o state p joins) (untaken (o .entry) First (p .entry))
+  own-after (Move from which) states o state p joins =
       placed-unmoved thread state o (own-out o state p joins) from (taking which (chain-of from o)) (untaken (chain-of from o) which (at from))
     where
       at : (from : Chain) → count thread (chain-of from o) ≡ 0
       at Chain.Entry = p .entry
       at Chain.Contention = p .contention
       at Chain.Waiting = p .waiting
-  own-after (SendBack u) o state p joins = own-out o state p joins
+  own-after MoveAndLetOut states o state p (a, b, c) =
+      record {
+        entry = omega (
+          arith,
+          count-parted (λ t. is-queued-exit (moved-states Chain.Contention All states o t)) (enter-queue-all (o .entry) (o .contention)) thread,
+          count-entered-all thread (o .entry) (o .contention),
+          p .entry,
+          p .contention,
+          a,
+        );
+        contention = count-none thread ∙ sym b;
+        waiting = p .waiting ∙ sym c;
+      }
+  own-after (SendBack u) states o state p joins = own-out o state p joins
 
 -- word, holder, depth and entry chain after the work; `was` was the holder, and `queued` what holder 0 said of the entry chain
 module _ (threads : ℕ) where
@@ -158,21 +176,22 @@ module _ (threads : ℕ) where
           let (real, low) = members first (omega (arith, count-same first rest)) in
           (low, λ e. absurd (omega (arith, real, e)))
 
-  whole-after : (work : ChainWork) (thread was : ℕ) (o : ListObject)
+  whole-after : (work : ChainWork) (thread was : ℕ) (states : ℕ → ThreadState) (o : ListObject)
       → ((t : ℕ) → 0 < count t (o .entry) → (0 < t) × (t ≤ threads))
       → (was ≡ 0 → o .entry ≡ [])
       → EntryHeld work was (o .holder) → WordFine threads (o .word) → o .holder ≤ threads → o .depth ≤ depth-limit → (o .holder ≡ 0 → o .depth ≡ 0)
-      → WholeFine (object-after work thread o)
-  whole-after Stay thread was o members queued held word low deep shallow = (word, low, deep, shallow, λ e. queued (held e))
-  whole-after (Join chain) thread was o members queued held word low deep shallow =
+      → WholeFine (object-after work thread states o)
+  whole-after Stay thread was states o members queued held word low deep shallow = (word, low, deep, shallow, λ e. queued (held e))
+  whole-after (Join chain) thread was states o members queued held word low deep shallow =
       let unheld : (list : List ℕ) → o .holder ≡ 0 → list ≡ [] = λ list e. absurd (held e) in each-chain (λ c. WholeFine (joined-object c thread o)) (search unheld) chain
-  whole-after (JoinAndHand Chain.Entry) thread was o members queued held word low deep shallow = absurd held
-  whole-after (JoinAndHand Chain.Contention) thread was o members queued held word low deep shallow = whole-handed o members word
-  whole-after (JoinAndHand Chain.Waiting) thread was o members queued held word low deep shallow = whole-handed o members word
-  whole-after Hand thread was o members queued held word low deep shallow = whole-handed o members word
-  whole-after (Move from which) thread was o members queued held word low deep shallow =
+  whole-after (JoinAndHand Chain.Entry) thread was states o members queued held word low deep shallow = absurd held
+  whole-after (JoinAndHand Chain.Contention) thread was states o members queued held word low deep shallow = whole-handed o members word
+  whole-after (JoinAndHand Chain.Waiting) thread was states o members queued held word low deep shallow = whole-handed o members word
+  whole-after Hand thread was states o members queued held word low deep shallow = whole-handed o members word
+  whole-after (Move from which) thread was states o members queued held word low deep shallow =
       let unheld : (list : List ℕ) → o .holder ≡ 0 → list ≡ [] = λ list e. absurd (held e) in each-chain (λ c. WholeFine (moved-object c which o)) (search unheld) from
-  whole-after (SendBack u) thread was o members queued held word low deep shallow = (word, low, deep, shallow, λ e. queued (held e))
+  whole-after MoveAndLetOut thread was states o members queued held word low deep shallow = (word, low, deep, shallow, λ e. absurd (held e))
+  whole-after (SendBack u) thread was states o members queued held word low deep shallow = (word, low, deep, shallow, λ e. queued (held e))
 
 -- a step of `thread` at an object that is sound
 module _ (threads thread : ℕ) (states : ℕ → ThreadState) (o : ListObject) (sound : SoundObject threads states o) (doing : Doing)
@@ -201,7 +220,7 @@ module _ (threads thread : ℕ) (states : ℕ → ThreadState) (o : ListObject) 
   performed-sound Unruled owes members = sound
   performed-sound (Do effect) owes members =
       let (word, holder, deep, shallow, empty) =
-      whole-after threads (effect .work) thread (o .holder) (effected thread effect o) members (sound .empty) (owes .entry)
+      whole-after threads (effect .work) thread (o .holder) states (effected thread effect o) members (sound .empty) (owes .entry)
       (word-after-fine threads thread real low (effect .word) (o .word) (owes .word) (sound .word)) (holder-low (effect .holder) (owes .holder)) (owes .deep)
       (owes .shallow) in
       record {
@@ -214,12 +233,12 @@ module _ (threads thread : ℕ) (states : ℕ → ThreadState) (o : ListObject) 
         empty = empty;
       }
     where
-      at : (t : ℕ) → (t ≡ thread) ⊎ (t ≢ thread) → let after = object-after (effect .work) thread (effected thread effect o) in
+      at : (t : ℕ) → (t ≡ thread) ⊎ (t ≢ thread) → let after = object-after (effect .work) thread states (effected thread effect o) in
           Placed (update (states-after (effect .work) states (effected thread effect o)) thread (effect .state) t) t (after .entry) (after .contention)
           (after .waiting)
       at t (inl q) =
           rw (q, update-same (states-after (effect .work) states (effected thread effect o)) thread (effect .state))
-          (own-after thread (effect .work) (effected thread effect o) (effect .state) (rw running at (sound .placed thread)) (owes .joins))
+          (own-after thread (effect .work) states (effected thread effect o) (effect .state) (rw running at (sound .placed thread)) (owes .joins))
       at t (inr n) =
           rw (update-other (states-after (effect .work) states (effected thread effect o)) thread (effect .state) t n)
           (members-after (effect .work) thread states (effected thread effect o) (λ u m. sound .placed u) t n)

@@ -8,10 +8,8 @@ use Rattle.lock_rules.specs.declared.ThreadState.the-variants.{Idle, Run
 use Rattle.lock_rules.specs.declared.WordChange.{WordChange}
 use Rattle.lock_rules.specs.declared.WordChange.the-variants.{Unchanged, Cancelled, Inflated}
 use Rattle.lock_rules.specs.declared.Sight.{Sight}
-use Rattle.chains.specs.declared.named.Chain.the-variants.{Contention}
-use Rattle.lock_rules.specs.declared.Taken.the-variants.{All}
 use Rattle.lock_rules.specs.declared.ChainWork.{ChainWork}
-use Rattle.lock_rules.specs.declared.ChainWork.the-variants.{Stay, Move}
+use Rattle.lock_rules.specs.declared.ChainWork.the-variants.{Stay, MoveAndLetOut}
 use Rattle.lock_rules.specs.declared.Answer.{Answer}
 use Rattle.lock_rules.specs.declared.Answer.the-variants.{GoneOn, Finished, NotOwner}
 use Rattle.lock_rules.specs.declared.Action.{Action}
@@ -39,6 +37,10 @@ go-on sight doing = keep-object sight Stay (Running doing) GoneOn false
 -- 18 (c)
 abbrev pub not-owner : Sight → Action
 not-owner sight = keep-object sight Stay Idle NotOwner true
+
+-- an exit that committed at its look finishes, with nothing changed
+abbrev pub finish-committed : Sight → Action
+finish-committed sight = keep-object sight Stay Idle (Finished 0) false
 
 -- finish (c), with nothing changed
 abbrev pub finish : Sight → Action
@@ -89,12 +91,12 @@ let-go sight word depth doing =
       commits = true;
     })
 
--- inflate to a depth: word fat, flag 0, all contenders to the entry chain
+-- inflate to a depth: word fat, flag 0, all contenders to the entry chain; "inflating lets every queued exit out of the entry chain" (document 02, L2)
 abbrev pub inflate : Sight → ℕ → ThreadState → Answer → Bool → Action
 inflate sight depth state answer commits =
     Do
     (record {
-      work = Move Contention All;
+      work = MoveAndLetOut;
       state = state;
       word = Inflated;
       flag = false;

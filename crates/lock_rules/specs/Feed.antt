@@ -110,3 +110,8 @@ EndsRight operation NoRule log = ⊥
 abbrev pub AllEndRight : List StepEntry → Type 0
 AllEndRight [] = Unit {0}
 AllEndRight (entry ∷ rest) = EndsRight (entry .log .operation) (entry .answer) (entry .log) × AllEndRight rest
+
+-- An operation that another's event ends: "finished and idle, which counts as its answer 1 with 0 though no event of its own returns it" (document 02,
+-- L2). It is an exit, it has committed just once, and the plain answer was 1 with 0.
+abbrev pub LetOutRight : OperationLog → Type 0
+LetOutRight log = (log .operation ≡ Exit) × EndsRight Exit (Finished 0) log

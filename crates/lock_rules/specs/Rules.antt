@@ -3,7 +3,7 @@ use Prim.Native.Nat.{ℕ, _+_, _-_}
 use mathlib.Core.Bool.{true, false}
 use lib.Dec.{eqb, ltb}
 use Rattle.laws.specs.Choice.{pick, both}
-use Rattle.lock_rules.specs.Actions.{keep-object, go-on, not-owner, finish, finish-word, finish-depth, let-go, inflate, cancel-word}
+use Rattle.lock_rules.specs.Actions.{keep-object, go-on, not-owner, finish-committed, finish, finish-word, finish-depth, let-go, inflate, cancel-word}
 use Rattle.lock_rules.specs.Actions.{become-holder, raise-flag}
 use Rattle.lock_word.specs.Depth.{depth-limit}
 use Rattle.lock_word.specs.Layout.{count-limit}
@@ -137,6 +137,10 @@ go-in thread sight carried =
     pick (eqb (sight .holder) 0) (become-holder thread sight (onward carried))
     (pick (eqb (sight .holder) thread) (go-in-again sight carried) (keep-object sight (Join Chain.Entry) (Queued carried) Parked false))
 
+-- 4 go in, exit (document 02, L2): flag 0, finish without going in, whoever holds the monitor
+unfoldable pub exit-go-in : ℕ → Sight → Action
+exit-go-in thread sight = pick (sight .flag) (go-in thread sight ToTell) (finish-committed sight)
+
 -- 6 check: fat and depth 0, depth 1, finish (c). Flat own, inflate to count + 2, finish (c). Free or flat of another, flag 1, to 7. Else 20.
 unfoldable pub enter-check : ℕ → Sight → WordSeen → Action
 enter-check thread sight Free = raise-flag sight
@@ -155,7 +159,7 @@ enter-try thread sight (Reserved owner count) = Unruled
 
 -- 9 test: flag 0, finish; flag 1, to 4
 unfoldable pub exit-test : Sight → Action
-exit-test sight = pick (sight .flag) (go-on sight ExitGoIn) (keep-object sight Stay Idle (Finished 0) false)
+exit-test sight = pick (sight .flag) (go-on sight ExitGoIn) (finish-committed sight)
 
 -- 10 tell: if the flag is 1, the first contender, if any, goes to entry carrying 6. To 11.
 unfoldable pub exit-tell : Sight → Action
@@ -203,7 +207,7 @@ decide thread sight EnterCheck = holder-only thread sight (enter-check thread si
 decide thread sight EnterTry = holder-only thread sight (enter-try thread sight (sight .word))
 decide thread sight ExitLook = owner-only thread sight (owner-seen sight) (exit-owned sight (sight .word))
 decide thread sight (ExitStore count) = exit-store sight count
-decide thread sight ExitGoIn = go-in thread sight ToTell
+decide thread sight ExitGoIn = exit-go-in thread sight
 decide thread sight ExitTest = exit-test sight
 decide thread sight ExitTell = holder-only thread sight (exit-tell sight)
 decide thread sight ExitLeave = holder-only thread sight (exit-leave sight)

@@ -97,6 +97,7 @@ pub enum ChainWork {
     JoinAndHand(Chain), // the thread hands the monitor over and joins that chain, which is not entry
     Hand, // the first of entry leaves it and becomes holder at depth 0
     Move(Chain, Taken), // these threads of that chain move to entry
+    MoveAndLetOut, // all contenders move to entry, and every queued exit is let out of it: it is idle
     SendBack(u16), // that thread, if it is at its store, goes back to its look
 }
 

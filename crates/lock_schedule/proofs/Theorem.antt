@@ -1,14 +1,15 @@
--- Demand 3, and that every event on any sound table gives a sound table, well typed as the code's tables are.
+-- Demand 3, what a thread parked inside an exit waits for, and that every event on any sound table gives a sound table, well typed as the code's are.
 use Prim.Native.Nat.{ℕ, _≤_}
 use mathlib.Core.Path.{_≡_, refl, sym, ap, _∙_, subst, subst₂}
 use mathlib.Core.Bool.{true}
 use mathlib.Core.List.{List, [], _∷_}
 use Rattle.lock_rules.specs.declared.event.Event.{Event}
 use Rattle.lock_rules.specs.Events.{Shown}
-use Rattle.lock_rules.specs.Feed.{feed-all, blank}
+use Rattle.lock_rules.specs.Feed.{Plain, feed, feed-all, blank}
 use Rattle.lock_rules.proofs.TableKinds.{TurnOf, turn-on, final-on, shown-on}
 use Rattle.lock_rules.proofs.Tables.{ListTable, turn, fresh}
-use Rattle.lock_rules.proofs.{ListSound.SoundTable, SoundKept.sound-fresh}
+use Rattle.lock_rules.proofs.{ListSound.SoundTable, SoundKept.sound-fresh, LetOut.turn-ends}
+use Rattle.lock_rules.proofs.Lift.{World, world-turn, world-fresh, world-run}
 use Rattle.lock_table.specs.WellTyped.{WellTyped}
 use Rattle.lock_table.specs.Fresh.{InRange, fresh-of}
 use Rattle.lock_table.specs.declared.fresh_table.FreshRequest.{FreshRequest}
@@ -20,9 +21,11 @@ use Rattle.lock_records.specs.Agrees.{Agrees, Ruled}
 use Rattle.lock_records.proofs.{Represents.Represents, FreshRecords.fresh-represents, Ruled.schedule-ruled, RepresentedSound.represented-sound}
 use Rattle.lock_records.proofs.{SoundRepresents.sound-represents}
 use Rattle.lock_records.proofs.RecordKind.{record-kind, turn-represents}
-use Rattle.lock_records.proofs.Claim.{schedule-represents, schedule-agrees}
+use Rattle.lock_records.proofs.Claim.{schedule-represents, schedule-agrees, phase-busy, phase-idle}
+use Rattle.lock_records.proofs.ExitsWait.{represents-waits}
+use Rattle.lock_records.specs.ExitsWait.{ParkedInExit, WaitsForBusyHolder}
 use Rattle.lock_schedule.specs.Schedule.{final-of, shown-of}
-use Rattle.lock_schedule.specs.Demand.{DemandThree, SoundKept}
+use Rattle.lock_schedule.specs.Demand.{OthersEndRight, DemandThree, ExitsWaitForHolder, ExitsWaitForBusyHolder, SoundKept}
 use Rattle.lock_schedule.proofs.EngineKind.{turn-of, event-is-turn}
 use Rattle.lock_schedule.proofs.FreshWellTyped.{represented-well-typed}
 
@@ -47,6 +50,21 @@ module _ (threads objects : ℕ) (some-threads : 1 ≤ threads) (some-objects : 
         λ j. record { event = event; reply = same j .reply } ∷ (ap (λ (x : Table). shown-of x rest) table ∙ shown) j,
       )
 
+  -- what another's event ends in the engine it ends in the lists, where the plain monitors have its answer
+  others-end : (events : List Event) (t : Table) (lists : ListTable) (plain : Plain) → Represents threads objects t lists → SoundTable threads objects lists
+      → World lists plain → OthersEndRight t plain events
+  others-end [] t lists plain represents sound world = tt
+  others-end (event ∷ rest) t lists plain represents sound world =
+      let (after, sound-after, reply) = turn-represents threads objects t lists represents sound event in
+      let turned = turn threads objects lists event in
+      let same : turn-of (handle t event) ≡ record { table = turn-on record-kind threads objects t event .table; reply = turned .reply } =
+      event-same t lists represents sound event ∙ (λ j. record { table = turn-on record-kind threads objects t event .table; reply = reply j }) in
+      rw (ap (λ (x : TurnOf Table). x .table) same, ap (λ (x : TurnOf Table). x .reply) same) (
+        λ n (other, before, idle). turn-ends threads objects lists plain world n (phase-busy threads objects t lists represents sound n before) event other
+            (phase-idle threads objects _ (turned .table) after sound-after n idle),
+        others-end rest _ (turned .table) (feed plain event (turned .reply)) after sound-after (world-turn threads objects lists plain world event),
+      )
+
 -- the same of a schedule from a fresh table
 module _ (request : FreshRequest) (in-range : InRange request) (events : List Event) where
   from-fresh : let table = fresh-of request .table in
@@ -66,7 +84,21 @@ demand-three request in-range events =
     let (last, shown) = from-fresh request in-range events in (
       subst₂ (λ (x : Table) (y : List Shown). Agrees x (feed-all blank y)) (sym last) (sym shown) (schedule-agrees request in-range events),
       subst Ruled (sym shown) (schedule-ruled request in-range events),
+      others-end (request .threads) (request .objects) (in-range .0) (in-range .2) events (fresh-of request .table) (fresh (request .reserved)) blank
+          (fresh-represents request in-range) (sound-fresh (request .threads) (request .objects) (request .reserved)) (world-fresh (request .reserved)),
     )
+
+-- a thread parked inside an exit waits for a holder that is at work on that object
+pub exits-wait-for-busy-holder : ExitsWaitForBusyHolder
+exits-wait-for-busy-holder request in-range events =
+    let (represents, sound, same) = schedule-represents request in-range events in
+    subst (λ (table : Table). (n : ℕ) → ParkedInExit table n → WaitsForBusyHolder table n) (sym (from-fresh request in-range events .0))
+    (represents-waits (request .threads) (request .objects) _ _ represents sound _
+    (world-run (request .threads) (request .objects) events (fresh (request .reserved)) blank (world-fresh (request .reserved))))
+
+-- which is more than was asked
+pub exits-wait-for-holder : ExitsWaitForHolder
+exits-wait-for-holder request in-range events n parked = exits-wait-for-busy-holder request in-range events n parked .0
 
 -- what an event makes of a sound table represents sound lists again
 event-represents : (t : Table) → WellTyped t → sound-of t ≡ true → (event : Event)

@@ -4,6 +4,7 @@ use Rattle.chains.specs.Joining.{first-with}
 use Rattle.chains.specs.declared.named.Chain.{Chain}
 use Rattle.lock_table.specs.declared.record.Monitor.{Monitor}
 use Rattle.lock_table.specs.declared.monitor.Handed.{Handed}
+use Rattle.lock_table.specs.declared.monitor.LetOut.{LetOut}
 
 -- becoming holder
 abbrev pub held-by : Monitor → ℕ → Monitor
@@ -38,3 +39,7 @@ join m chain first = with-first m chain (first-with (first-in m chain) first)
 -- the first of a chain, or all of it, move to the entry chain: the chain that they leave begins with `left` then
 abbrev pub move-to-entry : Monitor → Chain → ℕ → Monitor
 move-to-entry m from left = join (with-first m from left) Chain.Entry (first-in m from)
+
+-- threads are let out of the entry chain: it begins with `left` then, and the set of them is given back
+abbrev pub let-out-of : Monitor → ℕ → ℕ → LetOut
+let-out-of m left out = record { monitor = with-first m Chain.Entry left; threads = out }

@@ -24,6 +24,7 @@ pub use fresh_table::fresh;
 pub use fresh_table::fresh_returned;
 pub use fresh_table::sized_request;
 pub use monitor::Handed;
+pub use monitor::LetOut;
 pub use narrowing::narrow;
 pub use operation::Operation;
 pub use operation::operation_from;

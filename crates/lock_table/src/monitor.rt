@@ -5,12 +5,18 @@ use chains::Chain;
 use chains::first_with;
 use lock_word::Depth;
 ghost use mathlib.Core.Path.{_≡_};
-ghost use Rattle.lock_table.specs.Monitor.{held-by, with-depth, hand-of, first-in, with-first, join, move-to-entry};
+ghost use Rattle.lock_table.specs.Monitor.{held-by, with-depth, hand-of, first-in, with-first, join, move-to-entry, let-out-of};
 
 // A monitor, and the thread that was handed it; 0 for nobody.
 pub struct Handed {
     pub monitor: Monitor,
     pub thread: u8,
+}
+
+// A monitor, and the set of the threads that were let out of its entry chain: bit n - 1 for thread n.
+pub struct LetOut {
+    pub monitor: Monitor,
+    pub threads: u32,
 }
 
 impl Monitor {
@@ -88,5 +94,16 @@ impl Monitor {
         let first = self.first_in(from);
         self = self.with_first(from, left);
         self.join(Chain::Entry, first)
+    }
+
+    // Threads are let out of the entry chain, which begins with `left` then; `out` is the set of them.
+    pub fn let_out(mut self, left: u8, out: u32) -> LetOut
+        ensures { λ r. ⌜ r ≡ let-out-of self left out ⌝ }
+    {
+        self.entry = left;
+        LetOut {
+            monitor: self,
+            threads: out,
+        }
     }
 }

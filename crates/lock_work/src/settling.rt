@@ -3,10 +3,19 @@
 use crate::ticking::tick;
 use lock_perform::goes_on;
 use lock_perform::hung;
+use lock_perform::last_behind;
+use lock_perform::let_out;
+use lock_perform::let_out_by;
+use lock_perform::let_out_from;
+use lock_perform::lets_out;
+use lock_perform::linked_to;
 use lock_perform::moved_whole;
+use lock_perform::no_parting;
 use lock_perform::object_written;
 use lock_perform::own_written;
+use lock_perform::passed;
 use lock_perform::plan_at;
+use lock_perform::queued_exit;
 use lock_perform::stays;
 use lock_perform::touched;
 use lock_rules::ChainWork;
@@ -42,7 +51,7 @@ pub struct WorkDone {
 }
 
 // The work done, and both records written: the thread's with the next index and the object's with the chains that the work gave. First the threads of a
-// chain that moves whole are changed, then one record is and the chain that joins another is hung behind its last thread.
+// chain that moves whole are changed, then one record is and the chain that joins another is hung behind its last thread; at last exits are let out.
 fn chains_done(
     table: Table,
     thread: u8,
@@ -77,14 +86,31 @@ fn chains_done(
         at = passed.next;
         left = left - 1;
     }
+    let lets = lets_out(work);
+    let mut parting = no_parting();
+    at = let_out_from(lets, planned.monitor);
+    left = THREADS;
+    while goes_on(at, left) {
+        let spot = (at as usize) - 1;
+        let queued = changed.threads[spot];
+        let goes = queued_exit(queued);
+        changed.threads[spot] = let_out(queued, goes);
+        let last = last_behind(parting, goes);
+        let behind = thread_place(last);
+        changed.threads[behind] = linked_to(last, changed.threads[behind], at);
+        parting = passed(false, parting, goes, at);
+        at = queued.next;
+        left = left - 1;
+    }
+    let out = let_out_by(lets, planned.monitor, planned.unparked, parting);
     let place = thread_place(thread);
     changed.threads[place] = own_written(thread, own, changed.threads[place]);
     let home = object_place(number);
     let there = changed.objects[home];
-    changed.objects[home] = object_written(number, object, planned.monitor, there);
+    changed.objects[home] = object_written(number, object, out.monitor, there);
     WorkDone {
         table: changed,
-        unparked: planned.unparked,
+        unparked: out.threads,
     }
 }
 

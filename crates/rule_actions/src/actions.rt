@@ -1,17 +1,15 @@
 // The actions that several rules share.
-use chains::Chain;
 use lock_rules::Action;
 use lock_rules::Answer;
 use lock_rules::ChainWork;
 use lock_rules::Doing;
 use lock_rules::Effect;
 use lock_rules::Sight;
-use lock_rules::Taken;
 use lock_rules::ThreadState;
 use lock_rules::WordChange;
 use lock_word::Depth;
 ghost use mathlib.Core.Path.{_≡_};
-ghost use Rattle.lock_rules.specs.Actions.{keep-object, go-on, not-owner, finish, finish-word, finish-depth, let-go, inflate, cancel-word, become-holder, raise-flag};
+ghost use Rattle.lock_rules.specs.Actions.{keep-object, go-on, not-owner, finish-committed, finish, finish-word, finish-depth, let-go, inflate, cancel-word, become-holder, raise-flag};
 
 // The work on chains, the thread's state and the answer, with word and monitor as they are.
 pub fn keep_object(
@@ -56,6 +54,19 @@ pub fn not_owner(sight: Sight) -> Action
         ThreadState::Idle,
         Answer::NotOwner,
         true,
+    )
+}
+
+// An exit that committed at its look finishes.
+pub fn finish_committed(sight: Sight) -> Action
+    ensures { λ r. ⌜ r ≡ finish-committed sight ⌝ }
+{
+    keep_object(
+        sight,
+        ChainWork::Stay,
+        ThreadState::Idle,
+        Answer::Finished(0),
+        false,
     )
 }
 
@@ -116,7 +127,7 @@ pub fn let_go(sight: Sight, word: WordChange, depth: Depth, doing: Doing) -> Act
     })
 }
 
-// Word fat, flag down, all contenders to the entry chain.
+// Word fat, flag down, all contenders to the entry chain, and every queued exit out of it.
 pub fn inflate(
     sight: Sight,
     depth: Depth,
@@ -127,7 +138,7 @@ pub fn inflate(
     ensures { λ r. ⌜ r ≡ inflate sight depth state answer commits ⌝ }
 {
     Action::Do(Effect {
-        work: ChainWork::Move(Chain::Contention, Taken::All),
+        work: ChainWork::MoveAndLetOut,
         state: state,
         word: WordChange::Inflated,
         flag: false,

@@ -4,6 +4,7 @@ mod actions;
 pub use actions::become_holder;
 pub use actions::cancel_word;
 pub use actions::finish;
+pub use actions::finish_committed;
 pub use actions::finish_depth;
 pub use actions::finish_word;
 pub use actions::go_on;

@@ -15,6 +15,7 @@ use rule_look::owner_seen;
 use rule_look::wait_owned;
 use rule_monitor::enter_check;
 use rule_monitor::enter_try;
+use rule_monitor::exit_go_in;
 use rule_monitor::exit_leave;
 use rule_monitor::exit_tell;
 use rule_monitor::exit_test;
@@ -46,7 +47,7 @@ pub fn decide(thread: u8, sight: Sight, doing: Doing) -> Action
         Doing::EnterTry => holder_only(thread, sight, enter_try(thread, sight, word)),
         Doing::ExitLook => by_owner(thread, sight, exit_owned(sight, word)),
         Doing::ExitStore(count) => exit_store(sight, count),
-        Doing::ExitGoIn => go_in(thread, sight, OnwardStep::ToTell),
+        Doing::ExitGoIn => exit_go_in(thread, sight),
         Doing::ExitTest => exit_test(sight),
         Doing::ExitTell => holder_only(thread, sight, exit_tell(sight)),
         Doing::ExitLeave => holder_only(thread, sight, exit_leave(sight)),

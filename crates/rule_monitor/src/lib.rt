@@ -3,6 +3,7 @@ mod monitor;
 
 pub use monitor::enter_check;
 pub use monitor::enter_try;
+pub use monitor::exit_go_in;
 pub use monitor::exit_leave;
 pub use monitor::exit_tell;
 pub use monitor::exit_test;

@@ -14,6 +14,7 @@ use lock_word::DEPTH_LIMIT;
 use lock_word::Depth;
 use lock_word::WordSeen;
 use rule_actions::become_holder;
+use rule_actions::finish_committed;
 use rule_actions::finish_depth;
 use rule_actions::go_on;
 use rule_actions::inflate;
@@ -21,7 +22,7 @@ use rule_actions::keep_object;
 use rule_actions::raise_flag;
 ghost use mathlib.Core.Path.{_≡_};
 ghost use Rattle.lock_rules.specs.Limits.{no-ticks, run-out};
-ghost use Rattle.lock_rules.specs.Rules.{onward, go-in-again, go-in, holder-only, enter-check, enter-try, exit-test, exit-tell, exit-leave, wait-inflate, wait-give-up, wait-resume};
+ghost use Rattle.lock_rules.specs.Rules.{onward, go-in-again, go-in, exit-go-in, holder-only, enter-check, enter-try, exit-test, exit-tell, exit-leave, wait-inflate, wait-give-up, wait-resume};
 
 fn onward(carried: OnwardStep) -> Doing
     ensures { λ r. ⌜ r ≡ onward carried ⌝ }
@@ -77,6 +78,16 @@ pub fn go_in(thread: u8, sight: Sight, carried: OnwardStep) -> Action
         Answer::Parked,
         false,
     )
+}
+
+// 4 go in, of an exit: with flag 0 there is nobody to tell, and it does not go in.
+pub fn exit_go_in(thread: u8, sight: Sight) -> Action
+    ensures { λ r. ⌜ r ≡ exit-go-in thread sight ⌝ }
+{
+    if sight.flag {
+        return go_in(thread, sight, OnwardStep::ToTell);
+    }
+    finish_committed(sight)
 }
 
 // What only the holder may do; 20 for anybody else.
@@ -149,13 +160,7 @@ pub fn exit_test(sight: Sight) -> Action
     if sight.flag {
         return go_on(sight, Doing::ExitGoIn);
     }
-    keep_object(
-        sight,
-        ChainWork::Stay,
-        ThreadState::Idle,
-        Answer::Finished(0),
-        false,
-    )
+    finish_committed(sight)
 }
 
 // 10 tell.

@@ -4,22 +4,25 @@ use Rattle.lock_word.specs.Read.{read-word, read-flat, read-reserved, fat-of}
 use Rattle.lock_word.specs.Meaning.{owned-by}
 use Rattle.laws.specs.Sequence.{tabulate}
 use Rattle.lock_table.specs.Access.{thread-at, set-thread, object-at, set-object}
-use Rattle.lock_table.specs.Chain.{hang, moved-phase}
+use Rattle.lock_table.specs.Chain.{hang, moved-phase, move-all}
 use Rattle.lock_work.specs.Waiters.{runs-out, waiter-after}
 use Rattle.lock_work.specs.Tick.{handing, hand-if-free, tick-object}
 use Rattle.event_bytes.specs.Encoding.{event-from, limit-from}
 use Rattle.lock_rules.specs.Limits.{one-less, no-ticks, run-out}
-use Rattle.lock_table.specs.{Fresh.first-word, Fresh.fresh-of, Fresh.fresh-object, Operation.operation-number, Phase.phase-number, Parked.chain-named}
+use Rattle.lock_table.specs.{Fresh.first-word, Fresh.fresh-of, Fresh.fresh-object, Operation.operation-number, Parked.chain-named}
+use Rattle.lock_table.specs.Phase.{phase-number, carried-number, onward-number}
 use Rattle.lock_gate.specs.Status.{thread-status}
 use Rattle.lock_perform.specs.Parting.{thread-set, last-behind, taken-with, passed, part-chain}
+use Rattle.lock_perform.specs.Moving.{after-whole, let-out}
 use Rattle.sound_records.specs.Records.{names-chain, unused-fits, saves-depth, ticks-fit}
-use Rattle.lock_rules.specs.Rules.{exit-tell, enter-try}
+use Rattle.lock_rules.specs.Rules.{go-in, exit-go-in, exit-tell, enter-try}
 use Rattle.table_bytes.specs.Reading.{enough}
 use Rattle.replay_lines.specs.Number.{is-digit, read-digits, read-number, read-field}
 use Rattle.replay_lines.specs.Grammar.{end-line, read-step, read-begin-limit, read-begin-object, read-begin, operation-of, read-line}
 use Rattle.replay_text.specs.Digits.{digit-byte, digits, places-of, decimal}
 use Rattle.replay_text.specs.Text.{field-text, word-text, answer-line, answer-text}
-use Rattle.worked_examples.specs.{Words.WordExamples, Records.RecordExamples, Rules.RuleExamples, Ticks.TickExamples, Lines.LineExamples}
+use Rattle.worked_examples.specs.{Words.WordExamples, Records.RecordExamples, Rules.RuleExamples, Ticks.TickExamples, LetOuts.LetOutExamples}
+use Rattle.worked_examples.specs.Lines.{LineExamples}
 
 pub word-examples : WordExamples
 unfolding read-word read-flat read-reserved fat-of owned-by
@@ -87,6 +90,22 @@ tick-examples =
       untimed = refl;
       timed-bytes = refl;
       tick-bytes = refl;
+    }
+
+pub let-out-examples : LetOutExamples
+unfolding thread-at set-thread hang moved-phase move-all phase-number carried-number onward-number thread-set last-behind taken-with passed part-chain after-whole let-out go-in exit-go-in
+let-out-examples =
+    record {
+      first-out = refl;
+      last-out = refl;
+      first-left = refl;
+      behind = refl;
+      nobody-contends = refl;
+      unparked = refl;
+      leaving = refl;
+      told-held = refl;
+      told-free = refl;
+      goes-in = refl;
     }
 
 pub line-examples : LineExamples

@@ -3,4 +3,5 @@ pub mod Words
 pub mod Records
 pub mod Rules
 pub mod Ticks
+pub mod LetOuts
 pub mod Lines

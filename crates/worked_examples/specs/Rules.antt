@@ -8,8 +8,8 @@ use Rattle.lock_rules.specs.declared.Doing.the-variants.{ExitLeave}
 use Rattle.lock_rules.specs.declared.ThreadState.the-variants.{Idle, Running}
 use Rattle.lock_rules.specs.declared.WordChange.the-variants.{Unchanged, Freed, Inflated}
 use Rattle.lock_rules.specs.declared.Sight.{Sight}
-use Rattle.lock_rules.specs.declared.Taken.the-variants.{First, All}
-use Rattle.lock_rules.specs.declared.ChainWork.the-variants.{Move}
+use Rattle.lock_rules.specs.declared.Taken.the-variants.{First}
+use Rattle.lock_rules.specs.declared.ChainWork.the-variants.{Move, MoveAndLetOut}
 use Rattle.lock_rules.specs.declared.Answer.the-variants.{GoneOn, Finished}
 use Rattle.lock_rules.specs.declared.Action.the-variants.{Do}
 use Rattle.lock_word.specs.declared.meaning.WordSeen.the-variants.{Free, Fat}
@@ -33,11 +33,11 @@ pub record RuleExamples : Type 0 where
   pub inflated : deflation (seen false) ≡ Unchanged
   -- an exit tells the first contender
   pub told : exit-tell (seen false) ≡ keep-object (seen false) (Move Chain.Contention First) (Running ExitLeave) GoneOn false
-  -- a contender that finds the word free inflates it, and takes the flag down
+  -- a contender that finds the word free inflates it, takes the flag down, and lets the queued exits out
   pub flag-down : enter-try 1 (seen false) Free
       ≡ Do
       (record {
-        work = Move Chain.Contention All;
+        work = MoveAndLetOut;
         state = Idle;
         word = Inflated;
         flag = false;

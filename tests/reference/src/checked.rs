@@ -1,47 +1,74 @@
-//! Runs a schedule through the engine and holds every event to demands 1 and 3.
+//! Runs a schedule through the engine and holds every event to demands 1 and 3, as the requests amend them.
 
 use crate::engine::{apply, Event};
+use crate::exits::{check_parked, let_out, Ended};
 use crate::outcome::{Outcome, Returned};
 use crate::plain::PlainMonitors;
 use crate::replay::{open_schedule, Line};
 use crate::sound::is_sound;
-use crate::table::{Table, ThreadRecord};
+use crate::table::Table;
 
-/// Describes the first event at which a demand does not hold. A schedule without a good header has no events.
-pub fn check_schedule(input: &[u8]) -> Result<(), String> {
-    let Some((mut table, lines)) = open_schedule(input) else {
-        return Ok(());
+/// A run of the engine with the plain monitors beside it.
+pub struct Checked {
+    pub table: Table,
+    pub plain: PlainMonitors,
+    pub ended: Ended,
+}
+
+/// Describes the first event at which a demand does not hold; else gives how exits ended. A schedule without a good header has no events.
+pub fn check_schedule(input: &[u8]) -> Result<Ended, String> {
+    let Some((table, lines)) = open_schedule(input) else {
+        return Ok(Ended::default());
     };
-    let mut plain = PlainMonitors::new(table.objects);
+    let mut run = Checked::new(table);
     for (place, line) in lines.enumerate() {
         if let Some(Line::Event(event)) = line {
-            check_event(&mut table, &mut plain, event)
+            run.event(event)
                 .map_err(|wrong| format!("event on line {}: {wrong}", place + 2))?;
         }
     }
-    Ok(())
+    Ok(run.ended)
 }
 
-/// Applies one event to the table and to the plain monitors, and checks all that must hold after it.
-pub fn check_event(
-    table: &mut Table,
-    plain: &mut PlainMonitors,
-    event: Event,
-) -> Result<Outcome, String> {
-    let before = table.clone();
-    let outcome = apply(table, event);
-    check_refusal(before, table, event, outcome.returned)?;
-    plain.feed(event, outcome)?;
+impl Checked {
+    /// Begins with a fresh table.
+    pub fn new(table: Table) -> Checked {
+        Checked {
+            plain: PlainMonitors::new(table.objects),
+            table,
+            ended: Ended::default(),
+        }
+    }
+
+    /// Applies one event to the table and to the plain monitors, and checks all that must hold after it.
+    pub fn event(&mut self, event: Event) -> Result<Outcome, String> {
+        let before = self.table.clone();
+        let outcome = apply(&mut self.table, event);
+        check_refusal(&before, &self.table, event, outcome.returned)?;
+        self.plain.feed(event, outcome)?;
+        if !outcome.returned.is_refusal() {
+            self.ended.note(&before, &self.table, event)?;
+        }
+        for thread in let_out(&before, &self.table, event) {
+            self.plain.ended_by_another(thread)?;
+        }
+        check_table(&self.table, &self.plain)?;
+        Ok(outcome)
+    }
+}
+
+/// What holds of a table after every event from a fresh one, with the plain monitors that were fed the same events.
+pub fn check_table(table: &Table, plain: &PlainMonitors) -> Result<(), String> {
     if !is_sound(table) {
         return Err("the table after it is not sound".to_string());
     }
     plain.compare(table)?;
-    Ok(outcome)
+    check_parked(table)
 }
 
 /// A refused event gives the table back unchanged, save that no owner and too deep make the thread idle.
 fn check_refusal(
-    before: Table,
+    before: &Table,
     after: &Table,
     event: Event,
     returned: Returned,
@@ -49,10 +76,10 @@ fn check_refusal(
     if !returned.is_refusal() {
         return Ok(());
     }
-    let mut expected = before;
+    let mut expected = before.clone();
     let ended = matches!(returned, Returned::NotOwner | Returned::TooDeep);
     if let (true, Event::Step { thread }) = (ended, event) {
-        *expected.thread_mut(thread as u8) = ThreadRecord::default();
+        expected.make_idle(thread as u8);
     }
     if expected != *after {
         let number = returned.number();

@@ -1,4 +1,4 @@
-//! The lock engine: begin, single step and tick, refusals in document 01's order and the phases in the order of its steps.
+//! The lock engine: begin, single step and tick, refusals in document 01's order and the phases in the order of its steps, as the requests amend them.
 
 use crate::outcome::{Outcome, Returned};
 use crate::sound::is_sound;
@@ -21,6 +21,24 @@ pub enum Event {
     },
     /// One tick of the clock.
     Tick,
+}
+
+impl Event {
+    /// A begin; the limit is looked at where the operation is a timed wait.
+    pub fn begin(thread: u8, operation: Operation, object: u8, limit: u16) -> Event {
+        Event::Begin {
+            thread: u16::from(thread),
+            operation: operation.number(),
+            object: u16::from(object),
+            limit: u32::from(limit),
+        }
+    }
+
+    pub fn step(thread: u8) -> Event {
+        Event::Step {
+            thread: u16::from(thread),
+        }
+    }
 }
 
 pub fn apply(table: &mut Table, event: Event) -> Outcome {
@@ -116,21 +134,15 @@ pub fn tick(table: &mut Table) -> Outcome {
     Outcome::of(Returned::GoneOn)
 }
 
-/// Each waiting thread is taken out in turn and joins again behind the others, so that those that stay keep their order.
 fn tick_waiting(table: &mut Table, object: u8) {
-    for _ in 0..table.chain(object, Chain::Waiting).count() {
-        let Some(thread) = table.take_first(object, Chain::Waiting) else {
-            return;
-        };
-        let record = table.thread_mut(thread);
+    let run_out = table.take_out(object, Chain::Waiting, |record| {
         if record.operation == Some(Operation::TimedWait) {
             record.ticks -= 1;
         }
-        if record.has_run_out() {
-            table.queue(object, thread, Onward::Resume);
-        } else {
-            table.join(object, Chain::Waiting, thread);
-        }
+        record.has_run_out()
+    });
+    for thread in run_out {
+        table.queue(object, thread, Onward::Resume);
     }
 }
 
@@ -285,6 +297,10 @@ impl Turn<'_> {
     // 4 go in
 
     fn go_in(&mut self) -> Outcome {
+        // With the flag down nobody is to be told, whoever holds the monitor.
+        if self.operation == Operation::Exit && !self.object().contention_flag {
+            return self.finish();
+        }
         let onward = match self.operation {
             Operation::Enter => Onward::Check,
             Operation::Exit => Onward::Tell,
@@ -457,9 +473,8 @@ impl Turn<'_> {
         self.go_on(Phase::Store)
     }
 
-    /// The thread is idle again, all its fields zero.
     fn end(&mut self, returned: Returned, woken: u8) -> Outcome {
-        *self.record() = ThreadRecord::default();
+        self.table.make_idle(self.thread);
         Outcome {
             woken,
             ..Outcome::of(returned)
@@ -496,8 +511,17 @@ impl Turn<'_> {
             monitor: u16::from(self.object),
         });
         self.object().contention_flag = false;
+        self.let_exits_out();
         while self.move_first(Chain::Contention, Onward::Check) {}
         self.monitor().depth = depth;
+    }
+
+    /// Exits queued for entry have nobody left to tell: they are finished, by this thread's step.
+    fn let_exits_out(&mut self) {
+        let is_exit = |record: &mut ThreadRecord| record.phase == Phase::Queued(Onward::Tell);
+        for thread in self.table.take_out(self.object, Chain::Entry, is_exit) {
+            self.table.make_idle(thread);
+        }
     }
 }
 

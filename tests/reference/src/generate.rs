@@ -1,6 +1,7 @@
 //! Makes schedules from a seed: few threads and objects in the thick of it, so that they collide in many orders.
 //! It follows the engine's table to choose events that go somewhere, with some refused and malformed ones on purpose.
 
+use crate::aimed;
 use crate::engine::{apply, Event};
 use crate::random::Random;
 use crate::table::{Operation, Phase, Table, MAX_LIMIT, MAX_OBJECTS, MAX_THREADS};
@@ -35,13 +36,20 @@ struct Plan {
     /// How often a wait has a limit, and how often that is a long one.
     timed: u64,
     long_limit: u64,
+    /// How often the schedule aims at exits that end without going in before it goes on at random.
+    aims: u64,
     /// How often the clock ticks. Without timed waits and ticks no number is drawn for them: the schedules of benchmarks stay the same.
     tick: u64,
 }
 
 impl Plan {
     fn draw(random: &mut Random) -> Plan {
-        let threads = size(random, FEW_THREADS, MAX_THREADS);
+        let aims = random.pick(&AIMS);
+        let least_threads = match aims {
+            0 => 1,
+            _ => aimed::LEAST_THREADS,
+        };
+        let threads = size(random, FEW_THREADS, MAX_THREADS).max(least_threads);
         let objects = size(random, FEW_OBJECTS, MAX_OBJECTS);
         let all_busy = random.percent(5);
         let most_threads = if all_busy { threads } else { FEW_THREADS as u8 };
@@ -50,8 +58,9 @@ impl Plan {
             threads,
             objects,
             reserved: random.percent(50),
-            busy_threads: some_of(random, threads, most_threads),
-            busy_objects: some_of(random, objects, most_objects),
+            busy_threads: some_of(random, threads, least_threads, most_threads),
+            busy_objects: some_of(random, objects, 1, most_objects),
+            aims,
             length: match random.between(1, 100) {
                 1..=2 => random.between(2_000, 6_000),
                 3..=25 => random.between(300, 1_000),
@@ -80,8 +89,8 @@ fn size(random: &mut Random, few: u64, largest: usize) -> u8 {
 }
 
 /// Some neighbours among the numbers from 1 to the last.
-fn some_of(random: &mut Random, last: u8, most: u8) -> Vec<u8> {
-    let number = random.between(1, most.min(last).into()) as u8;
+fn some_of(random: &mut Random, last: u8, least: u8, most: u8) -> Vec<u8> {
+    let number = random.between(least.into(), most.min(last).into()) as u8;
     let first = random.between(1, (last - number + 1).into()) as u8;
     (first..first + number).collect()
 }
@@ -139,6 +148,7 @@ pub fn long_schedule(seed: u64, length: u64, threads: u8, objects: u8, ticks: u6
         busy_threads: (1..=threads).collect(),
         // With one busy object and no waits, or none but short timed ones, the threads cannot block each other for good.
         busy_objects: vec![1],
+        aims: 0,
         length,
         sticky: 30,
         stray: 0,
@@ -169,6 +179,7 @@ fn planned(random: Random, plan: Plan, burst: Option<Burst>) -> Vec<u8> {
 impl Generator {
     fn write(&mut self) {
         self.write_header();
+        self.write_aimed();
         for _ in 0..self.plan.length {
             if self.random.percent(self.plan.noise) {
                 self.write_noise();
@@ -181,7 +192,7 @@ impl Generator {
         }
         // A last step of every thread shows what the table was left at.
         for thread in self.plan.busy_threads.clone() {
-            self.write_event(step(thread));
+            self.write_event(Event::step(thread));
         }
         let cut = self.plan.noise > 0 && self.random.percent(20);
         if cut {
@@ -197,6 +208,14 @@ impl Generator {
             header = self.random.pick(&ODD_HEADERS).to_string();
         }
         self.text.extend_from_slice(header.as_bytes());
+    }
+
+    fn write_aimed(&mut self) {
+        let (threads, object) = (&self.plan.busy_threads, self.plan.busy_objects[0]);
+        let (random, table) = (&mut self.random, &mut self.table);
+        for event in aimed::events(random, table, threads, object, self.plan.aims) {
+            write_event_line(event, &mut self.text);
+        }
     }
 
     fn write_event(&mut self, event: Event) {
@@ -224,7 +243,7 @@ impl Generator {
         self.last_thread = thread;
         match self.table.thread(thread).phase {
             Phase::Idle => Some(self.choose_begin(thread)),
-            _ => Some(step(thread)),
+            _ => Some(Event::step(thread)),
         }
     }
 
@@ -264,10 +283,10 @@ impl Generator {
             return None;
         }
         if phase != Phase::Idle {
-            return Some(step(burst.thread));
+            return Some(Event::step(burst.thread));
         }
         burst.left -= 1;
-        Some(begin(burst.thread, burst.operation, burst.object, 0))
+        Some(Event::begin(burst.thread, burst.operation, burst.object, 0))
     }
 
     fn choose_thread(&mut self) -> Option<u8> {
@@ -316,7 +335,7 @@ impl Generator {
             Operation::TimedWait => self.choose_limit(),
             _ => 0,
         };
-        begin(thread, operation, object, limit)
+        Event::begin(thread, operation, object, limit)
     }
 
     fn choose_operation(&mut self, owner: bool) -> Operation {
@@ -382,6 +401,9 @@ const UNTIMED: [Operation; 5] = [
     Operation::Notify,
     Operation::NotifyAll,
 ];
+
+/// Three schedules in ten aim.
+const AIMS: [u64; 10] = [0, 0, 0, 0, 0, 0, 0, 1, 2, 3];
 
 /// What an owner does next: exits lead, so that objects pass from hand to hand.
 const OWNER_CHOICES: [Operation; 10] = [
@@ -450,21 +472,6 @@ const NOISE_LINES: [&str; 34] = [
     "CC",
     "c",
 ];
-
-fn begin(thread: u8, operation: Operation, object: u8, limit: u16) -> Event {
-    Event::Begin {
-        thread: u16::from(thread),
-        operation: operation.number(),
-        object: u16::from(object),
-        limit: u32::from(limit),
-    }
-}
-
-fn step(thread: u8) -> Event {
-    Event::Step {
-        thread: u16::from(thread),
-    }
-}
 
 /// Appends an event as a line of the replay's input.
 fn write_event_line(event: Event, text: &mut Vec<u8>) {

@@ -1,10 +1,12 @@
 //! A second implementation of the lock engine, its replay and the checks made with it.
 //! Written from the specification alone, so that agreement with the proved one says something. In comments "document 01" is the specification, and
-//! "request L1" the customer's request for timed waits, which adds to it.
+//! "request L1" and "request L2" the customer's requests for timed waits and on exits that waited for a stranger, which amend it.
 
+pub mod aimed;
 pub mod arguments;
 pub mod checked;
 pub mod engine;
+pub mod exits;
 pub mod generate;
 pub mod long_cases;
 pub mod outcome;

@@ -1,5 +1,6 @@
 //! Document 01's plain recursive monitors with request L1's ticks, and the check of demand 3 against them after each event.
-//! The monitors are fed events, returned numbers and commit marks; of the tables they see nothing.
+//! The monitors are fed events, returned numbers and commit marks; of the tables they see nothing. Which operations have ended is noted beside them, and
+//! that takes the tables too since request L2: an exit may end by another's event.
 
 use crate::engine::Event;
 use crate::outcome::{Outcome, Returned};
@@ -211,11 +212,7 @@ impl PlainMonitors {
         if !ends && !outcome.committed {
             return Ok(());
         }
-        let run = usize::from(thread)
-            .checked_sub(1)
-            .and_then(|index| self.runs.get_mut(index)?.as_mut())
-            .filter(|run| run.unfinished)
-            .ok_or("a step committed or ended without an unfinished operation")?;
+        let run = unfinished_run(&mut self.runs, thread)?;
         if outcome.committed {
             let monitor = &mut self.monitors[usize::from(run.object) - 1];
             run.answer = monitor.commit(run, thread as u8);
@@ -228,6 +225,16 @@ impl PlainMonitors {
         Ok(())
     }
 
+    /// The thread's operation has ended by another's event, which left the thread idle: an exit's, with the answer 1 with 0. The monitors stay.
+    pub fn ended_by_another(&mut self, thread: u8) -> Result<(), String> {
+        let run = unfinished_run(&mut self.runs, thread.into())?;
+        if run.operation != Operation::Exit {
+            return Err(format!("another's event ended {:?}", run.operation));
+        }
+        run.unfinished = false;
+        check_end(run, Outcome::of(Returned::Finished))
+    }
+
     /// Compares a table with the monitors, and looks for stranded threads.
     pub fn compare(&self, table: &Table) -> Result<(), String> {
         for (object, plain) in (1..=table.objects).zip(&self.monitors) {
@@ -235,6 +242,7 @@ impl PlainMonitors {
         }
         self.compare_woken(table)?;
         self.compare_ticks(table)?;
+        self.compare_unfinished(table)?;
         self.check_stranding(table)
     }
 
@@ -277,6 +285,19 @@ impl PlainMonitors {
         Ok(())
     }
 
+    /// A thread is idle where its last operation has ended, and else at the object of that.
+    fn compare_unfinished(&self, table: &Table) -> Result<(), String> {
+        for thread in 1..=table.threads {
+            let (at, noted) = (table.thread(thread).object, self.unfinished_on(thread));
+            if at != noted.unwrap_or(0) {
+                return Err(format!(
+                    "thread {thread} is at object {at}, by its events at {noted:?}"
+                ));
+            }
+        }
+        Ok(())
+    }
+
     /// No thread is parked for entry while no other thread owns the object it is parked on
     /// and no other unparked thread has an unfinished operation on that object.
     fn check_stranding(&self, table: &Table) -> Result<(), String> {
@@ -305,6 +326,14 @@ impl PlainMonitors {
         let run = self.runs[usize::from(thread) - 1]?;
         run.unfinished.then_some(run.object)
     }
+}
+
+fn unfinished_run(runs: &mut [Option<Run>], thread: u16) -> Result<&mut Run, String> {
+    usize::from(thread)
+        .checked_sub(1)
+        .and_then(|index| runs.get_mut(index)?.as_mut())
+        .filter(|run| run.unfinished)
+        .ok_or("a commit or an end without an unfinished operation".to_string())
 }
 
 /// An ended operation has committed once, a wait that returned 1 twice, and has the plain answer of its last commit.

@@ -28,21 +28,25 @@ impl Report {
         }
     }
 
-    /// Checks a schedule; where it fails, shrinks it to the shortest that still does, and prints that.
-    pub fn check_schedule(
+    /// Checks a schedule and gives what the check found; where it fails, shrinks it to the shortest that still does, and prints that.
+    pub fn check_schedule<T>(
         &mut self,
         name: &str,
         input: &[u8],
-        check: impl Fn(&[u8]) -> Result<(), String>,
-    ) {
-        let result = check(input);
+        check: impl Fn(&[u8]) -> Result<T, String>,
+    ) -> Option<T> {
+        let (found, result) = match check(input) {
+            Ok(found) => (Some(found), Ok(())),
+            Err(wrong) => (None, Err(wrong)),
+        };
         let failed = result.is_err();
         self.check(name, result);
         if failed && self.shrunk < MAX_SHRUNK {
             self.shrunk += 1;
             let shortest = shrink(input, |shorter| check(shorter).is_err());
-            print_schedule(&shortest, check(&shortest));
+            print_schedule(&shortest, check(&shortest).err());
         }
+        found
     }
 
     pub fn finish(self) -> ExitCode {
@@ -79,13 +83,13 @@ pub fn compare_outputs(output: &[u8], expected: &[u8]) -> Result<(), String> {
 }
 
 /// Prints a shrunk schedule one line each, bytes that are no text escaped.
-fn print_schedule(input: &[u8], result: Result<(), String>) {
+fn print_schedule(input: &[u8], wrong: Option<String>) {
     let lines: Vec<&[u8]> = input.split_inclusive(|byte| *byte == b'\n').collect();
     println!("  the shortest found has {} lines:", lines.len());
     for line in lines.iter().take(MAX_SHOWN_LINES) {
         println!("  {}", line.escape_ascii());
     }
-    if let Err(wrong) = result {
+    if let Some(wrong) = wrong {
         println!("  {wrong}");
     }
 }

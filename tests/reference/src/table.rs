@@ -313,6 +313,32 @@ impl Table {
         Some(thread)
     }
 
+    /// Takes the threads out of a chain that are picked; they come in their order, and the others keep theirs. Each record is picked or not just once.
+    pub fn take_out(
+        &mut self,
+        object: u8,
+        chain: Chain,
+        picked: impl Fn(&mut ThreadRecord) -> bool,
+    ) -> Vec<u8> {
+        let mut out = Vec::new();
+        for _ in 0..self.chain(object, chain).count() {
+            let Some(thread) = self.take_first(object, chain) else {
+                break;
+            };
+            if picked(self.thread_mut(thread)) {
+                out.push(thread);
+            } else {
+                self.join(object, chain, thread);
+            }
+        }
+        out
+    }
+
+    /// Ends what the thread is at: all its fields are zero. It must be in no chain.
+    pub fn make_idle(&mut self, thread: u8) {
+        *self.thread_mut(thread) = ThreadRecord::default();
+    }
+
     /// Parks a thread at the end of the entry chain, with the phase it goes on with.
     pub fn queue(&mut self, object: u8, thread: u8, onward: Onward) {
         self.thread_mut(thread).phase = Phase::Queued(onward);

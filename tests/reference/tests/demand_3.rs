@@ -1,10 +1,11 @@
-//! That the check of demand 3 passes good runs and notices each kind of violation.
+//! That the check of demand 3, and of what request L2 promises, passes good runs and notices each kind of violation.
 
 mod common;
 
 use common::{fresh, with_word};
-use reference::checked::{check_event, check_schedule};
+use reference::checked::{check_schedule, Checked};
 use reference::engine::Event;
+use reference::exits::{check_parked, Ended};
 use reference::outcome::{Outcome, Returned};
 use reference::plain::PlainMonitors;
 use reference::table::{Chain, Onward, Operation, Phase, Table};
@@ -105,13 +106,19 @@ fn event(word: &str) -> Event {
     }
 }
 
+/// Events that all passed the check.
+fn run(events: &str) -> Checked {
+    let mut run = Checked::new(fresh());
+    for word in events.split(' ') {
+        run.event(event(word)).expect("no violation");
+    }
+    run
+}
+
 /// The table and plain monitors after events that all passed the check.
 fn checked_run(events: &str) -> (Table, PlainMonitors) {
-    let (mut table, mut plain) = (fresh(), PlainMonitors::new(2));
-    for word in events.split(' ') {
-        check_event(&mut table, &mut plain, event(word)).expect("no violation");
-    }
-    (table, plain)
+    let run = run(events);
+    (run.table, run.plain)
 }
 
 const TWO_WAIT: &str = "E1 S1 W1 S1 S1 S1 S1 E2 S2 S2 S2 W2 S2 S2";
@@ -192,6 +199,72 @@ fn stranding() {
 #[test]
 fn schedules_without_events() {
     for input in ["", "L 1 1 0", "L 33 1 0\nE 1 1\n", "L 1 1 0\n", "x\n"] {
-        assert_eq!(check_schedule(input.as_bytes()), Ok(()));
+        assert_eq!(check_schedule(input.as_bytes()), Ok(Ended::default()));
+    }
+}
+
+/// Thread 1 is parked inside an exit; thread 2 holds the monitor and inflates with its next step.
+const ONE_IS_PARKED: &str = "E1 S1 E2 S2 S2 S2 X1 S1 S1 S1";
+
+#[test]
+fn ended_by_another() {
+    let (_, mut plain) = checked_run(ONE_IS_PARKED);
+    violation(plain.clone().ended_by_another(2), "ended Enter");
+    violation(plain.ended_by_another(3), "without an unfinished");
+    assert_eq!(plain.ended_by_another(1), Ok(()));
+    violation(plain.ended_by_another(1), "without an unfinished");
+    let mut plain = begun(Operation::Exit);
+    violation(plain.ended_by_another(1), "0 commits");
+    let refused = Outcome::of(Returned::GoneOn).committing();
+    let mut plain = begun(Operation::Exit);
+    plain.feed(STEP_1, refused).expect("no end yet");
+    violation(plain.ended_by_another(1), "NotOwner");
+}
+
+#[test]
+fn unfinished() {
+    let (table, mut plain) = checked_run(ONE_IS_PARKED);
+    let mut idle = table.clone();
+    idle.make_idle(1);
+    violation(plain.compare(&idle), "thread 1 is at object 0");
+    plain.ended_by_another(1).expect("an exit");
+    violation(plain.compare(&table), "thread 1 is at object 1");
+}
+
+#[test]
+fn let_out_and_begun_again() {
+    let mut run = run(ONE_IS_PARKED);
+    for (word, returned) in [
+        ("S2", Returned::Finished),
+        ("S1", Returned::ThreadIdle),
+        ("E1", Returned::GoneOn),
+    ] {
+        let outcome = run.event(event(word)).expect("no violation");
+        assert_eq!(outcome.returned, returned);
+    }
+}
+
+type Change = (fn(&mut Table), &'static str);
+
+#[test]
+fn whom_a_parked_exit_waits_for() {
+    let (table, _) = checked_run(ONE_IS_PARKED);
+    assert_eq!(check_parked(&table), Ok(()));
+    let changes: [Change; 7] = [
+        (|table| table.object_mut(1).monitor.holder = 0, "is 0"),
+        (|table| table.object_mut(1).monitor.holder = 1, "is 1"),
+        (|table| table.object_mut(1).monitor.depth = 1, "depth is 1"),
+        (
+            |table| table.thread_mut(2).phase = Phase::Contending,
+            "parked",
+        ),
+        (|table| table.make_idle(2), "2 is at 0"),
+        (|table| table.thread_mut(2).object = 2, "2 is at 2"),
+        (|table| table.object_mut(1).word = 0x000101, "fat"),
+    ];
+    for (change, wrong) in changes {
+        let mut changed = table.clone();
+        change(&mut changed);
+        violation(check_parked(&changed), wrong);
     }
 }

@@ -2,6 +2,7 @@
 
 use reference::checked::check_schedule;
 use reference::engine::{apply, Event};
+use reference::exits::Ended;
 use reference::generate::{long_schedule, schedule};
 use reference::outcome::{Outcome, Returned};
 use reference::replay::{open_schedule, Line};
@@ -134,7 +135,8 @@ fn timed_waits_meet_every_fate() {
     assert_eq!(found, all);
 }
 
-/// What the schedules of benchmarks add up to, so that measurements before and after a change are of the same one.
+/// What the schedules of benchmarks add up to, so that measurements before and after a change are of the same one. A change of the rules may change
+/// them, since they go by the engine's table.
 #[test]
 fn benchmarks_keep_their_schedules() {
     let sum = long_schedule(1, 1_000, 8, 3, 0)
@@ -142,7 +144,7 @@ fn benchmarks_keep_their_schedules() {
         .fold(0_u64, |sum, byte| {
             sum.wrapping_mul(31).wrapping_add(byte.into())
         });
-    assert_eq!(sum, 0xc577_eb21_079d_85cb);
+    assert_eq!(sum, 0xde83_4eea_e025_2200);
 }
 
 #[test]
@@ -156,7 +158,7 @@ fn long_schedules_have_timed_waits_and_ticks_only_if_asked() {
     assert!(letters(5).is_superset(&BTreeSet::from(*b"VC")));
     let ticked = long_schedule(1, 5_000, 4, 2, 5);
     assert!(fates_in(&ticked).contains(&Fate::FinishedRunOut));
-    assert_eq!(check_schedule(&ticked), Ok(()));
+    assert!(check_schedule(&ticked).is_ok());
 }
 
 #[test]
@@ -165,11 +167,17 @@ fn a_seed_makes_one_schedule() {
     assert_ne!(schedule(7), schedule(8));
 }
 
+/// And exits end without going in often enough, for a fifth of what the cross-check runs.
 #[test]
 fn demand_3_holds() {
+    let mut ended = Ended::default();
     for seed in SEEDS {
-        assert_eq!(check_schedule(&schedule(seed)), Ok(()), "seed {seed}");
+        match check_schedule(&schedule(seed)) {
+            Ok(found) => ended.add_all(&found),
+            Err(wrong) => panic!("seed {seed}: {wrong}"),
+        }
     }
+    assert!(ended.each_is_at_least(40), "{ended:?}");
 }
 
 #[test]

@@ -208,7 +208,10 @@ fn no_rule_while_holding() {
         table
     };
     let fat = 0x000101;
-    no_rule(held(fat, 1), Operation::Exit, Phase::GoIn);
+    // An exit goes in with the flag up alone.
+    let mut flagged = held(fat, 1);
+    flagged.object_mut(1).contention_flag = true;
+    no_rule(flagged, Operation::Exit, Phase::GoIn);
     no_rule(held(fat, 0), Operation::Enter, Phase::GoIn);
     no_rule(held(fat, 1), Operation::Enter, Phase::Check);
     no_rule(held(0x000002, 0), Operation::Enter, Phase::Check);

@@ -3,7 +3,7 @@
 use reference::engine::apply;
 use reference::generate::schedule;
 use reference::replay::{open_schedule, Line};
-use reference::table::Table;
+use reference::table::{Monitor, Table};
 
 /// Nobody owns the object, and no thread has an unfinished operation on it.
 fn is_unused(table: &Table, object: u8) -> bool {
@@ -11,16 +11,16 @@ fn is_unused(table: &Table, object: u8) -> bool {
         && (1..=table.threads).all(|thread| table.thread(thread).object != object)
 }
 
-/// Its flag is down, nobody holds its monitor, and its three chains are empty.
+/// Its flag is down, nobody holds its monitor, and its three chains are empty. Since request L2 its word is not fat either: who leaves a monitor behind
+/// that no thread is at frees the word.
 fn is_as_new(table: &Table, object: u8) -> bool {
     let record = table.object(object);
-    let monitor = &record.monitor;
-    !record.contention_flag && monitor.holder == 0 && monitor.depth == 0 && monitor.chains_empty()
+    record.word & 1 == 0 && !record.contention_flag && record.monitor == Monitor::default()
 }
 
 #[test]
 fn an_unused_object_is_as_new() {
-    let (mut unused, mut fat) = (0, 0);
+    let (mut unused, mut left) = (0, 0);
     for seed in 0..2_000 {
         let input = schedule(seed);
         let Some((mut table, lines)) = open_schedule(&input) else {
@@ -30,6 +30,7 @@ fn an_unused_object_is_as_new() {
             let Some(Line::Event(event)) = line else {
                 continue;
             };
+            let before = table.clone();
             apply(&mut table, event);
             for object in (1..=table.objects).filter(|&object| is_unused(&table, object)) {
                 assert!(
@@ -37,10 +38,10 @@ fn an_unused_object_is_as_new() {
                     "seed {seed}, object {object}: {table:?}"
                 );
                 unused += 1;
-                fat += u32::from(table.object(object).word & 1 == 1);
+                left += u32::from(before.object(object).monitor.holder != 0);
             }
         }
     }
     assert!(unused > 0, "no object was unused after an event");
-    assert!(fat > 0, "no unused object had a fat word");
+    assert!(left > 0, "no monitor was left for good");
 }

@@ -2,7 +2,7 @@
 
 use reference::engine::Event;
 use reference::table::{Chain, Onward, Operation, Phase, Table, ThreadRecord, MAX_DEPTH};
-use reference::word::LockWord;
+use reference::word::{LockWord, MAX_COUNT};
 
 pub struct Case {
     pub number: u8,
@@ -79,6 +79,8 @@ fn unsound() -> Table {
 pub fn cases() -> Vec<Case> {
     let mut cases = untimed_cases();
     cases.extend(timed_cases());
+    cases.extend(inflating_cases());
+    cases.extend(going_in_cases());
     cases
         .into_iter()
         .map(|(number, table, event)| Case {
@@ -148,6 +150,50 @@ fn timed_cases() -> Vec<(u8, Table, Event)> {
         (23, fresh(), begin(1, 6, 1)),
         (23, fresh(), timed_wait(1, 1, 65_536)),
         (23, fresh(), timed_wait(1, 1, u32::MAX)),
+    ]
+}
+
+/// The same with the other thread queued inside an exit, and the flag up.
+fn with_exit_queued(mut table: Table) -> Table {
+    table.object_mut(OBJECT).contention_flag = true;
+    *table.thread_mut(OTHER) = *at(Operation::Exit, Phase::Queued(Onward::Tell)).thread(ONE);
+    table.join(OBJECT, Chain::Entry, OTHER);
+    table
+}
+
+/// Thread one inflates with its step, which lets the other out.
+fn inflating_cases() -> Vec<(u8, Table, Event)> {
+    let own = |count: u8| LockWord::Flat {
+        thread: ONE.into(),
+        count,
+    };
+    let cases = [
+        (1, Operation::Enter, Phase::Check, own(MAX_COUNT)),
+        (1, Operation::Enter, Phase::Try, LockWord::Free),
+        (0, Operation::Wait, Phase::Inflate, own(0)),
+        (0, Operation::TimedWait, Phase::Inflate, own(2)),
+    ];
+    cases
+        .map(|(number, operation, phase, word)| {
+            let table = held(at(operation, phase), word, ONE, 0);
+            (number, with_exit_queued(table), step(1))
+        })
+        .to_vec()
+}
+
+/// Thread one is about to go in for an exit: it finishes with the flag down, whoever holds the monitor.
+fn going_in_cases() -> Vec<(u8, Table, Event)> {
+    let going_in = |word: LockWord, holder: u8| {
+        let exit = at(Operation::Exit, Phase::GoIn);
+        held(exit, word, holder, 0)
+    };
+    let mut flagged = going_in(LockWord::Free, OTHER);
+    flagged.object_mut(OBJECT).contention_flag = true;
+    vec![
+        (1, going_in(LockWord::Free, 0), step(1)),
+        (1, going_in(FAT, OTHER), step(1)),
+        (1, going_in(FAT, ONE), step(1)),
+        (2, flagged, step(1)),
     ]
 }
 

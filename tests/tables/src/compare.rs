@@ -7,6 +7,7 @@ use crate::layout::{decode, encode, TABLE_SIZE};
 use crate::questions::QUESTIONS;
 use duskclamp::raw;
 use reference::engine::{apply, Event};
+use reference::exits::Ended;
 use reference::random::Random;
 use reference::report::{compare_outputs, Report};
 use reference::table::Table;
@@ -27,6 +28,8 @@ pub struct Run {
     report: Report,
     /// How often each number was returned.
     returned: [u64; 256],
+    /// Exits that ended without going in.
+    ended: Ended,
 }
 
 impl Run {
@@ -36,6 +39,7 @@ impl Run {
             fields: fields(),
             report: Report::default(),
             returned: [0; 256],
+            ended: Ended::default(),
         }
     }
 
@@ -187,8 +191,12 @@ impl Run {
     ) -> Result<u8, String> {
         let (expected, expected_bytes) = match table {
             None => (NOT_SOUND, bytes.to_vec()),
-            Some(mut table) => {
+            Some(before) => {
+                let mut table = before.clone();
                 let outcome = apply(&mut table, event);
+                if !outcome.returned.is_refusal() {
+                    self.ended.note(&before, &table, event)?;
+                }
                 let returned = u32::from(outcome.returned.number());
                 let woken = u32::from(outcome.woken) << 8;
                 let commits = u32::from(outcome.committed) << 16;
@@ -305,6 +313,7 @@ impl Run {
             };
             self.report.check(&format!("number {number}"), result);
         }
+        self.ended.print();
         self.report.finish()
     }
 }

@@ -7,6 +7,8 @@ use reference::word::{LockWord, MAX_COUNT};
 /// Sizes up to which most tables go, so that numbers meet.
 const FEW_THREADS: u64 = 4;
 const FEW_OBJECTS: u64 = 3;
+/// In percent of tables, how often a thread is about to inflate.
+const INFLATING: u64 = 10;
 
 pub fn sound_table(random: &mut Random) -> Table {
     let large = random.percent(10);
@@ -16,8 +18,15 @@ pub fn sound_table(random: &mut Random) -> Table {
     for object in 1..=table.objects {
         draw_object(random, &mut table, object);
     }
-    for thread in 1..=table.threads {
-        draw_thread(random, &mut table, thread);
+    let inflater = match random.percent(INFLATING) {
+        true => draw_inflater(random, &mut table),
+        false => 0,
+    };
+    for thread in (1..=table.threads).filter(|thread| *thread != inflater) {
+        match inflater != 0 && random.percent(70) {
+            true => draw_behind(random, &mut table, thread, inflater),
+            false => draw_thread(random, &mut table, thread),
+        }
     }
     table
 }
@@ -103,7 +112,7 @@ fn draw_thread(random: &mut Random, table: &mut Table, thread: u8) {
     if unheld && matches!(phase, Phase::Queued(_)) {
         phase = Phase::Look;
     }
-    *table.thread_mut(thread) = ThreadRecord {
+    let record = ThreadRecord {
         operation: Some(operation),
         object,
         phase,
@@ -115,9 +124,60 @@ fn draw_thread(random: &mut Random, table: &mut Table, thread: u8) {
         next: 0,
         ticks: ticks(random, operation, phase),
     };
-    if let Some(chain) = phase.chain() {
-        table.join(object, chain, thread);
+    put(table, thread, record);
+}
+
+/// Gives a thread its record, and its place at the end of the chain that its phase names.
+fn put(table: &mut Table, thread: u8, record: ThreadRecord) {
+    *table.thread_mut(thread) = record;
+    if let Some(chain) = record.phase.chain() {
+        table.join(record.object, chain, thread);
     }
+}
+
+/// A thread that inflates with its next step: it holds the monitor, and the word is what its phase wants. Gives its number.
+fn draw_inflater(random: &mut Random, table: &mut Table) -> u8 {
+    let number = some_thread(random, table);
+    let object = random.between(1, table.objects.into()) as u8;
+    let own = LockWord::Flat {
+        thread: number.into(),
+        count: random.pick(&[0, 1, MAX_COUNT]),
+    };
+    let (operation, phase, word) = random.pick(&[
+        (Operation::Enter, Phase::Check, own),
+        (Operation::Enter, Phase::Try, LockWord::Free),
+        (Operation::Wait, Phase::Inflate, own),
+        (Operation::TimedWait, Phase::Inflate, own),
+    ]);
+    table.object_mut(object).word = word.encode();
+    table.object_mut(object).monitor.holder = number;
+    let record = ThreadRecord {
+        operation: Some(operation),
+        object,
+        phase,
+        ticks: ticks(random, operation, phase),
+        ..ThreadRecord::default()
+    };
+    put(table, number, record);
+    number
+}
+
+/// Parks a thread on the object that another is at, mostly inside an exit.
+fn draw_behind(random: &mut Random, table: &mut Table, thread: u8, other: u8) {
+    let exit = (Operation::Exit, Phase::Queued(Onward::Tell));
+    let (operation, phase) = random.pick(&[
+        exit,
+        exit,
+        (Operation::Enter, Phase::Queued(Onward::Check)),
+        (Operation::Enter, Phase::Contending),
+    ]);
+    let record = ThreadRecord {
+        operation: Some(operation),
+        object: table.thread(other).object,
+        phase,
+        ..ThreadRecord::default()
+    };
+    put(table, thread, record);
 }
 
 /// What a timed wait has left: often so little that the next tick ends it, and none at times where it may have run out.

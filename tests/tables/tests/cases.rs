@@ -1,5 +1,5 @@
 //! Cases on the proved engine, through its library: tables that are sound and tables that break one clause of document 01's "Sound means" or of request
-//! L1's, the cases K1 to K9, and ticks. What is expected is written here, and not asked of the second engine.
+//! L1's, the cases K1 to K9, ticks, and request L2's exits. What is expected is written here, and not asked of the second engine.
 
 use duskclamp::{Answer, Chain, Operation as Wanted, Refusal, Table as Engine, Words};
 use reference::table::{Monitor, ObjectRecord, Onward, Operation, Phase, Table, ThreadRecord};
@@ -459,4 +459,57 @@ fn a_tick_leaves_a_holder_its_monitor() {
         let ticks = [1, 2, 3].map(|thread| engine.ticks(thread));
         assert_eq!(ticks, [Ok(0), Ok(0), Ok(0)]);
     }
+}
+
+/// Thread 1 holds object 1, which has this word, with the flag up; thread 2 is queued inside an exit there, and thread 3 behind it to enter.
+fn exit_queued(record: ThreadRecord, word: u32) -> Engine {
+    let exit = at(EXIT, Phase::Queued(Onward::Tell));
+    let mut table = with_thread(first(record), 2, ThreadRecord { next: 3, ..exit });
+    table = with_thread(table, 3, at(ENTER, Phase::Queued(Onward::Check)));
+    table = monitored(table, 0, 1, [2, 0, 0]);
+    table.object_records[0].word = word;
+    table.object_records[0].contention_flag = true;
+    engine(&table)
+}
+
+#[test]
+fn inflating_lets_exits_out() {
+    let finished = Answer::Finished { woken: 0 };
+    for (record, word, answer, depth) in [
+        (at(ENTER, Phase::Check), 0x0001fc, finished, 65),
+        (at(ENTER, Phase::Try), 0x000000, finished, 1),
+        (at(WAIT, Phase::Inflate), 0x000108, Answer::GoneOn, 3),
+    ] {
+        let mut engine = exit_queued(record, word);
+        assert_eq!(engine.step(1).result, Ok(answer));
+        assert_eq!((engine.owner(1), engine.depth(1)), (Ok(1), Ok(depth)));
+        assert_eq!(engine.word(1), Ok(FAT));
+        assert_eq!(shown(&engine), (1, vec![3], vec![]));
+        // Thread 2 is idle, and may begin.
+        assert_eq!(engine.step(2).result, Err(Refusal::ThreadIdle));
+        assert_eq!(engine.begin(2, Wanted::Enter, 1), Ok(()));
+    }
+}
+
+/// Thread 1 is about to go in for an exit, on a fat word with this holder.
+fn exit_going_in(holder: u8, flag: bool) -> Engine {
+    let mut table = monitored(first(at(EXIT, Phase::GoIn)), 0, holder, [0; 3]);
+    table.object_records[0].contention_flag = flag;
+    engine(&table)
+}
+
+#[test]
+fn an_exit_goes_in_with_the_flag_up_alone() {
+    for holder in [0, 1, 2] {
+        let mut engine = exit_going_in(holder, false);
+        let step = engine.step(1);
+        assert_eq!(step.result, Ok(Answer::Finished { woken: 0 }));
+        assert!(!step.commits);
+        assert_eq!(shown(&engine), (holder.into(), vec![], vec![]));
+        assert_eq!(engine.phase(1).unwrap().number(), 0);
+    }
+    assert_eq!(exit_going_in(0, true).step(1).result, Ok(Answer::GoneOn));
+    assert_eq!(exit_going_in(2, true).step(1).result, Ok(Answer::Parked));
+    let no_rule = exit_going_in(1, true).step(1).result;
+    assert_eq!(no_rule, Err(Refusal::NoRule));
 }

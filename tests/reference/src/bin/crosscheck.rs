@@ -3,6 +3,7 @@
 
 use reference::arguments::number;
 use reference::checked::check_schedule;
+use reference::exits::Ended;
 use reference::generate::schedule;
 use reference::replay::replay;
 use reference::report::{compare_outputs, Report};
@@ -32,8 +33,17 @@ fn main() -> ExitCode {
         Err(error) => report.check("stored schedules", Err(error.to_string())),
     }
     check_cases(program, &long_cases::cases(), &mut report);
+    let mut ended = Ended::default();
     for place in 0..count {
-        check_generated(program, seed.wrapping_add(place), &mut report);
+        ended.add_all(&check_generated(
+            program,
+            seed.wrapping_add(place),
+            &mut report,
+        ));
+    }
+    ended.print();
+    if count >= DEFAULT_COUNT {
+        ended.check(&mut report);
     }
     report.finish()
 }
@@ -48,16 +58,14 @@ fn check_cases(program: &str, cases: &[Case], report: &mut Report) {
     }
 }
 
-/// Each generated schedule has a seed of its own, so that one that fails can be made again alone.
-fn check_generated(program: &str, seed: u64, report: &mut Report) {
+/// Each generated schedule has a seed of its own, so that one that fails can be made again alone. Gives how exits ended in it.
+fn check_generated(program: &str, seed: u64, report: &mut Report) -> Ended {
     let input = schedule(seed);
     let name = format!("generated schedule of seed {seed}");
     report.check_schedule(&format!("{name}, program"), &input, |input| {
         program::run(program, input).and_then(|output| compare_outputs(&output, &replay(input)))
     });
-    report.check_schedule(
-        &format!("{name}, demand 3 on the reference"),
-        &input,
-        check_schedule,
-    );
+    let name = format!("{name}, demand 3 on the reference");
+    let ended = report.check_schedule(&name, &input, check_schedule);
+    ended.unwrap_or_default()
 }

@@ -1,9 +1,13 @@
-//! Thirty-two threads of random operations through the wrapper, with the plain monitors as a check.
+//! Thirty-two threads of random operations through the wrapper, behind events that aim at exits which end without going in, with the plain monitors as a
+//! check.
 //! Usage: stress [STEPS] [SEED]
 
 use duskclamp::{Answer, Operation, Outcome, Phase, Refusal, Table, Words};
+use reference::aimed;
 use reference::arguments::number;
+use reference::checked::check_table;
 use reference::engine::Event;
+use reference::exits::Ended;
 use reference::outcome::Returned;
 use reference::plain::PlainMonitors;
 use reference::random::Random;
@@ -18,6 +22,12 @@ const THREADS: u32 = 32;
 const ROUND: u64 = 100_000;
 /// Events between two comparisons of the whole table.
 const COMPARED: u64 = 64;
+/// How often each table is begun with events that aim at exits which end without going in. From so many steps on, a run must have met enough of them.
+const AIMS: u64 = 12;
+const WHOLE_RUN: u64 = 1_000_000;
+/// The phases of a thread that is idle, and of one about to go in.
+const IDLE: u8 = 0;
+const GO_IN: u8 = 4;
 /// Ticks in percent of events.
 const TICKS: u64 = 5;
 /// Limits up to which most timed waits go, and up to which a few do.
@@ -39,33 +49,34 @@ fn main() -> ExitCode {
     };
     println!("seed {seed}");
     let mut report = Report::default();
+    let total = run_tables(steps, seed, &mut report);
+    total.print();
+    if steps >= WHOLE_RUN {
+        total.ended.check(&mut report);
+    }
+    report.finish()
+}
+
+/// One table after another, until there are so many steps or one fails.
+fn run_tables(steps: u64, seed: u64, report: &mut Report) -> Tally {
     let mut total = Tally::default();
-    let mut rounds = 0;
     while total.steps < steps {
-        let round_seed = seed.wrapping_add(rounds);
+        let round_seed = seed.wrapping_add(total.tables);
         let mut round = Round::new(round_seed);
         let result = round.run(ROUND.min(steps - total.steps));
         let failed = result.is_err();
         report.check(&format!("round of seed {round_seed}"), result);
         total.add(&round.tally);
-        rounds += 1;
         if failed {
             break;
         }
     }
-    println!(
-        "{} steps, {} begins, {rounds} tables",
-        total.steps, total.begins
-    );
-    println!(
-        "{} finished, {} parked, {} woken, {} ticks, {} run out",
-        total.finished, total.parked, total.woken, total.ticks, total.run_out
-    );
-    report.finish()
+    total
 }
 
 #[derive(Default)]
 struct Tally {
+    tables: u64,
     steps: u64,
     begins: u64,
     finished: u64,
@@ -73,10 +84,12 @@ struct Tally {
     woken: u64,
     ticks: u64,
     run_out: u64,
+    ended: Ended,
 }
 
 impl Tally {
     fn add(&mut self, other: &Tally) {
+        self.tables += 1;
         self.steps += other.steps;
         self.begins += other.begins;
         self.finished += other.finished;
@@ -84,6 +97,19 @@ impl Tally {
         self.woken += other.woken;
         self.ticks += other.ticks;
         self.run_out += other.run_out;
+        self.ended.add_all(&other.ended);
+    }
+
+    fn print(&self) {
+        println!(
+            "{} steps, {} begins, {} tables",
+            self.steps, self.begins, self.tables
+        );
+        println!(
+            "{} finished, {} parked, {} woken, {} ticks, {} run out",
+            self.finished, self.parked, self.woken, self.ticks, self.run_out
+        );
+        self.ended.print();
     }
 }
 
@@ -124,6 +150,7 @@ impl Round {
     }
 
     fn run(&mut self, steps: u64) -> Result<(), String> {
+        self.aim(steps)?;
         let mut events = 0;
         while self.tally.steps < steps {
             let all_parked = self.all_parked();
@@ -147,6 +174,39 @@ impl Round {
         self.compare()
     }
 
+    /// Events that aim at exits which end without going in, made by the second engine; the whole table is compared after each.
+    fn aim(&mut self, steps: u64) -> Result<(), String> {
+        let threads: Vec<u8> = (1..=THREADS as u8).collect();
+        let object = self.random.between(1, self.objects.into()) as u8;
+        let mut table = decode(self.table.bytes()).ok_or("the bytes are no table")?;
+        let events = aimed::events(&mut self.random, &mut table, &threads, object, AIMS);
+        for (place, event) in events.into_iter().enumerate() {
+            if self.tally.steps == steps {
+                break;
+            }
+            self.aimed_event(event)
+                .and_then(|()| self.compare())
+                .map_err(|wrong| format!("aimed event {place}, {event:?}: {wrong}"))?;
+        }
+        Ok(())
+    }
+
+    fn aimed_event(&mut self, event: Event) -> Result<(), String> {
+        match event {
+            Event::Begin {
+                thread,
+                operation,
+                object,
+                limit,
+            } => {
+                let operation = Operation::from_number(operation.into()).ok_or("no operation")?;
+                self.begin(thread.into(), operation, object.into(), limit)
+            }
+            Event::Step { thread } => self.step(thread.into()),
+            Event::Tick => self.tick(),
+        }
+    }
+
     /// A thread that another's step has let go on is still noted as parked until its own next step.
     fn all_parked(&self) -> bool {
         self.states.iter().all(|state| *state == State::Parked)
@@ -158,28 +218,42 @@ impl Round {
         threads.any(|thread| thread.phase == Phase::Waiting && (1..=SOON).contains(&thread.ticks))
     }
 
-    /// By the bytes, since most threads are asked most of the time.
     fn is_parked(&self, thread: u32) -> bool {
-        matches!(phase_byte(self.table.bytes(), thread as usize), 5 | 8 | 14)
+        matches!(self.phase(thread), 5 | 8 | 14)
+    }
+
+    /// By the bytes, since most threads are asked most of the time.
+    fn phase(&self, thread: u32) -> u8 {
+        phase_byte(self.table.bytes(), thread as usize)
     }
 
     fn compare(&self) -> Result<(), String> {
         let table = decode(self.table.bytes()).ok_or("the bytes are no table")?;
-        self.plain.compare(&table)
+        check_table(&table, &self.plain)
     }
 
     /// The thread begins something if it is idle, else takes a step.
     fn turn(&mut self, thread: u32) -> Result<(), String> {
         match self.states[thread as usize - 1] {
-            State::Idle => self.begin(thread),
+            State::Idle => self.begin_any(thread),
             State::Running | State::Parked => self.step(thread),
         }
     }
 
-    fn begin(&mut self, thread: u32) -> Result<(), String> {
+    fn begin_any(&mut self, thread: u32) -> Result<(), String> {
         let object = self.choose_object(thread);
         let operation = self.choose(self.table.owner(object) == Ok(thread));
         let limit = self.choose_limit();
+        self.begin(thread, operation, object, limit)
+    }
+
+    fn begin(
+        &mut self,
+        thread: u32,
+        operation: Operation,
+        object: u32,
+        limit: u32,
+    ) -> Result<(), String> {
         self.operations_of[thread as usize - 1] = operation;
         self.objects_of[thread as usize - 1] = object;
         match operation {
@@ -245,6 +319,7 @@ impl Round {
     }
 
     fn step(&mut self, thread: u32) -> Result<(), String> {
+        let phase = self.phase(thread);
         let outcome = self.table.step(thread);
         self.tally.steps += 1;
         let (returned, woken, state) = match outcome.result {
@@ -260,12 +335,30 @@ impl Round {
         self.tally.parked += u64::from(returned == Returned::Parked);
         match self.operations_of[thread as usize - 1] {
             Operation::TimedWait => self.tally.run_out += u64::from(woken),
+            Operation::Exit if phase == GO_IN && returned == Returned::Finished => {
+                self.tally.ended.add(phase, 1)?;
+            }
             _ => self.tally.woken += u64::from(woken),
         }
         let event = Event::Step {
             thread: thread as u16,
         };
-        self.plain.feed(event, fed(outcome, returned, woken))
+        self.plain.feed(event, fed(outcome, returned, woken))?;
+        self.note_let_out(phase)
+    }
+
+    /// The threads that are idle by another's step, from this phase.
+    fn note_let_out(&mut self, phase: u8) -> Result<(), String> {
+        for thread in 1..=THREADS {
+            let is_idle = self.phase(thread) == IDLE;
+            let state = &mut self.states[thread as usize - 1];
+            if is_idle && *state != State::Idle {
+                *state = State::Idle;
+                self.plain.ended_by_another(thread as u8)?;
+                self.tally.ended.add(phase, 1)?;
+            }
+        }
+        Ok(())
     }
 }
 

@@ -8,4 +8,4 @@ unfolding exit-test
 exit-test-spec =
     tie.close
     (tie.spec (λ c κs. tt) (λ c. simp (c .go-on .ensures, c .before .if1 .taken)) (λ c κs. tt)
-    (λ c. simp (c .keep-object .ensures, c .before .if1 .left)))
+    (λ c. simp (c .finish-committed .ensures, c .before .if1 .left)))
