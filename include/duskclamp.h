@@ -22,7 +22,7 @@
  *     DUSKCLAMP_RETURNED(answer) == DUSKCLAMP_FINISHED
  * and never `answer == DUSKCLAMP_FINISHED`.
  *
- * Stack: a run needs up to 7.1 KB, a step and a tick 5.7 KB, a begin and a question 5.4 KB, a fresh table 4.8 KB, beside what memcpy and memset
+ * Stack: a run needs up to 7.1 KB, a step and a tick 5.7 KB, a begin and a question 5.4 KB, a fresh table 4.7 KB, beside what memcpy and memset
  * need. So measured by bench/stack.c, on a stack filled with a pattern, over a long schedule; no function calls itself.
  */
 #ifndef DUSKCLAMP_H
@@ -67,8 +67,8 @@ extern "C" {
 #define DUSKCLAMP_PHASE_LOOK 1        /* about to do what the lock word allows */
 #define DUSKCLAMP_PHASE_STORE 2       /* about to store the reserved word that it keeps, with its count changed */
 #define DUSKCLAMP_PHASE_CANCEL 3      /* about to cancel the object's reservation */
-#define DUSKCLAMP_PHASE_GO_IN 4       /* about to become the monitor's holder, or queue for it */
-#define DUSKCLAMP_PHASE_QUEUED 5      /* parked in the entry chain */
+#define DUSKCLAMP_PHASE_GO_IN 4       /* about to become the monitor's holder, or queue for it; an exit finishes if the contention flag is down */
+#define DUSKCLAMP_PHASE_QUEUED 5      /* parked in the entry chain, until handed the monitor or, an exit, let out */
 #define DUSKCLAMP_PHASE_CHECK 6       /* holder, about to check the word */
 #define DUSKCLAMP_PHASE_TRY 7         /* holder, about to try the word once more, the contention flag up */
 #define DUSKCLAMP_PHASE_CONTENDING 8  /* parked in the contention chain, until the flat lock's owner tells */
@@ -83,12 +83,12 @@ extern "C" {
 /* The returned numbers. From 11 up nothing is changed, save that 18 and 19 make the thread idle. */
 #define DUSKCLAMP_GONE_ON 0             /* begun, or gone on */
 #define DUSKCLAMP_FINISHED 1            /* the operation is finished, and the thread idle */
-#define DUSKCLAMP_PARKED 2              /* the thread is parked until another's step or a tick lets it go on */
+#define DUSKCLAMP_PARKED 2              /* parked until another's step or a tick lets the thread go on, or another's step lets its exit out (duskclamp_step) */
 #define DUSKCLAMP_NOT_SOUND 11          /* no table, or one that is not sound */
 #define DUSKCLAMP_NO_SUCH_THREAD 12     /* the thread is not one of the table's */
 #define DUSKCLAMP_NO_SUCH_OBJECT 13     /* the object is not one of the table's */
 #define DUSKCLAMP_NOT_IDLE 14           /* begin: the thread is at an operation */
-#define DUSKCLAMP_THREAD_IDLE 15        /* step: the thread is at no operation */
+#define DUSKCLAMP_THREAD_IDLE 15        /* step: the thread is at no operation; its exit may have been let out */
 #define DUSKCLAMP_THREAD_PARKED 16      /* step: the thread is parked */
 #define DUSKCLAMP_NO_SUCH_OPERATION 17  /* begin: the operation is not 1 to 6 */
 #define DUSKCLAMP_NOT_OWNER 18          /* exit, wait or notify of a thread that does not own the object */
@@ -123,7 +123,10 @@ uint32_t duskclamp_begin(uint8_t *bytes, size_t length, uint32_t thread, uint32_
  * 14, 23 that applies. */
 uint32_t duskclamp_timed_wait(uint8_t *bytes, size_t length, uint32_t thread, uint32_t object, uint32_t limit);
 
-/* The thread takes one step of its operation. Returned: 0, 1, 2, or the first of 11, 12, 15, 16, 18, 19, 20 that applies. */
+/* The thread takes one step of its operation. Returned: 0, 1, 2, or the first of 11, 12, 15, 16, 18, 19, 20 that applies.
+ * An operation ends with the step that returns 1, 18 or 19, save that an exit which has parked, in phase 5, may be let out: a step of another thread
+ * that inflates the lock ends it. That counts as its 1 with the woken number 0, though no call returns it. The thread is idle then: its phase is 0, its
+ * next step returns 15, and its next begin is accepted. So who waits for a parked exit to end asks duskclamp_phase, or takes 15 for its 1. */
 uint32_t duskclamp_step(uint8_t *bytes, size_t length, uint32_t thread);
 
 /* One tick of the clock, taken from every timed wait that is in a waiting chain. Those with none left run out: they join the entry chain, from the lowest
@@ -185,7 +188,9 @@ uint64_t duskclamp_next(const uint8_t *bytes, size_t length, uint32_t thread);
 uint64_t duskclamp_ticks(const uint8_t *bytes, size_t length, uint32_t thread);
 
 /* Who keeps a thread that is parked for entry, in phase 5 or 8: the thread that owns its object by the lock word, where that is another; else the
- * monitor's holder, which is on its way in or out; else, and in any other phase, 0. DUSKCLAMP_IS_HOLDER tells the second from the first. */
+ * monitor's holder, which is on its way in or out; else, and in any other phase, 0. DUSKCLAMP_IS_HOLDER tells the second from the first.
+ * An owner does not keep an exit, though it is named here: in a table that began as a fresh one a parked exit waits for duskclamp_holder of its object
+ * alone, which is another thread, not parked and at depth 0, and whose operation is on that object. */
 uint64_t duskclamp_blocker(const uint8_t *bytes, size_t length, uint32_t thread);
 #define DUSKCLAMP_BLOCKER(answer) (DUSKCLAMP_VALUE(answer) & 0xffff)
 #define DUSKCLAMP_IS_HOLDER(answer) ((DUSKCLAMP_VALUE(answer) >> 16) & 1)
@@ -265,7 +270,7 @@ static inline const char *duskclamp_phase_name(uint32_t phase) {
     }
 }
 
-/* Whether a thread in this phase is parked: its steps are answered 16 until another's step or a tick lets it go on. */
+/* Whether a thread in this phase is parked: its steps are answered 16 until another's step or a tick lets it go on, or a step lets its exit out. */
 static inline int duskclamp_phase_is_parked(uint32_t phase) {
     return phase == DUSKCLAMP_PHASE_QUEUED || phase == DUSKCLAMP_PHASE_CONTENDING || phase == DUSKCLAMP_PHASE_WAITING;
 }

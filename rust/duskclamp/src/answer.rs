@@ -77,7 +77,7 @@ pub enum Answer {
         /// How many threads a notify woke, or, of a timed wait, 1 if it ran out; else 0.
         woken: u8,
     },
-    /// 2: the thread is parked until another's step or a tick lets it go on.
+    /// 2: the thread is parked until another's step or a tick lets it go on. An exit may also be let out, see [`Table::step`](crate::Table::step).
     Parked,
 }
 
@@ -98,7 +98,7 @@ pub enum Refusal {
     NoSuchObject = 13,
     /// A begin of a thread that is at an operation.
     NotIdle = 14,
-    /// A step of a thread that is at none.
+    /// A step of a thread that is at none, or at none any more: its exit was let out.
     ThreadIdle = 15,
     /// A step of a thread that is parked.
     ThreadParked = 16,

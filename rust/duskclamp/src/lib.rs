@@ -204,6 +204,33 @@ impl Table {
     /// assert_eq!(table.step(1).result, Err(Refusal::NotOwner));
     /// # Ok::<(), Refusal>(())
     /// ```
+    ///
+    /// An operation ends with the step that answers `Finished`, `NotOwner` or `TooDeep`, save that an exit which has parked may be let out: a step of
+    /// another thread that inflates the lock ends it. That counts as its `Finished`, with 0 woken, though no call returns it. Who waits for a parked
+    /// exit asks [`Table::phase`], or takes `ThreadIdle` for its end.
+    ///
+    /// ```
+    /// use duskclamp::{Answer, Onward, Operation, Phase, Refusal, Table, Words};
+    /// let mut table = Table::fresh(2, 1, Words::Free)?;
+    /// table.begin(1, Operation::Enter, 1)?;
+    /// table.step(1).result?;
+    /// table.begin(2, Operation::Enter, 1)?;
+    /// while table.phase(2)? != Phase::Try {
+    ///     table.step(2).result?;
+    /// }
+    ///
+    /// // Thread 1 leaves, has to tell thread 2, and parks, since thread 2 holds the monitor.
+    /// table.begin(1, Operation::Exit, 1)?;
+    /// while table.step(1).result? == Answer::GoneOn {}
+    /// assert_eq!(table.phase(1), Ok(Phase::Queued(Onward::Tell)));
+    ///
+    /// // Thread 2 finds the word free and inflates; there is nothing left to tell it.
+    /// assert_eq!(table.step(2).result, Ok(Answer::Finished { woken: 0 }));
+    /// assert_eq!(table.phase(1), Ok(Phase::Idle));
+    /// assert_eq!(table.step(1).result, Err(Refusal::ThreadIdle));
+    /// table.begin(1, Operation::Enter, 1)?;
+    /// # Ok::<(), Refusal>(())
+    /// ```
     pub fn step(&mut self, thread: u32) -> Outcome {
         answer::outcome(raw::step(&mut self.bytes, thread))
     }
@@ -287,7 +314,33 @@ impl Table {
         answer::value(raw::ticks(&self.bytes, thread))
     }
 
-    /// Who keeps the thread, where it is parked for entry, in phase 5 or 8.
+    /// Who keeps the thread, where it is parked for entry, in phase 5 or 8. An exit there waits for the object's holder alone, though another thread may
+    /// own the object by then, and is named:
+    ///
+    /// ```
+    /// use duskclamp::{Answer, Blocker, Operation, Phase, Table, Words};
+    /// let mut table = Table::fresh(3, 1, Words::Free)?;
+    /// table.begin(1, Operation::Enter, 1)?;
+    /// table.step(1).result?;
+    /// table.begin(2, Operation::Enter, 1)?;
+    /// while table.phase(2)? != Phase::Try {
+    ///     table.step(2).result?;
+    /// }
+    ///
+    /// // Thread 1 frees the word and parks; thread 3 takes it.
+    /// table.begin(1, Operation::Exit, 1)?;
+    /// while table.step(1).result? == Answer::GoneOn {}
+    /// assert_eq!(table.blocker(1), Ok(Some(Blocker::Holder(2))));
+    /// table.begin(3, Operation::Enter, 1)?;
+    /// assert_eq!(table.step(3).result, Ok(Answer::Finished { woken: 0 }));
+    /// assert_eq!(table.blocker(1), Ok(Some(Blocker::Owner(3))));
+    /// assert_eq!(table.object(1)?.holder, 2);
+    ///
+    /// // Thread 2 parks and hands the monitor to thread 1, which goes on while thread 3 owns the object.
+    /// assert_eq!(table.step(2).result, Ok(Answer::Parked));
+    /// assert_eq!(table.phase(1), Ok(Phase::Tell));
+    /// # Ok::<(), duskclamp::Refusal>(())
+    /// ```
     pub fn blocker(&self, thread: u32) -> Result<Option<Blocker>, Refusal> {
         answer::value(raw::blocker(&self.bytes, thread)).map(Blocker::from_value)
     }

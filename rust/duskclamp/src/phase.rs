@@ -22,9 +22,9 @@ pub enum Phase {
     Store,
     /// 3: about to cancel the object's reservation.
     Cancel,
-    /// 4: about to become the monitor's holder, or queue for it.
+    /// 4: about to become the monitor's holder, or queue for it; an exit finishes if the contention flag is down.
     GoIn,
-    /// 5: parked in the entry chain, with the phase that it goes on with.
+    /// 5: parked in the entry chain, with the phase that it goes on with; an exit may be let out before that.
     Queued(Onward),
     /// 6: holder, about to check the word.
     Check,
@@ -53,7 +53,7 @@ pub enum Phase {
 pub enum Onward {
     /// 6, of an enter.
     Check,
-    /// 10, of an exit.
+    /// 10, of an exit, unless another thread inflates the lock first and so lets it out.
     Tell,
     /// 12, of a wait that is to begin.
     Inflate,
@@ -106,7 +106,8 @@ impl Phase {
         }
     }
 
-    /// Whether a thread in this phase is parked: its steps are refused with `ThreadParked` until another's step or a tick lets it go on.
+    /// Whether a thread in this phase is parked: its steps are refused with `ThreadParked` until another's step or a tick lets it go on, or a step
+    /// lets its exit out.
     pub fn is_parked(self) -> bool {
         matches!(self, Phase::Queued(_) | Phase::Contending | Phase::Waiting)
     }

@@ -99,7 +99,7 @@ pub fn timed_wait(bytes: &mut [u8], thread: u32, object: u32, limit: u32) -> u32
     }
 }
 
-/// The thread takes a step.
+/// The thread takes a step. A step of another thread may end an exit that has parked: its thread is idle then, and its next step is answered 15.
 pub fn step(bytes: &mut [u8], thread: u32) -> u32 {
     unsafe { declared::duskclamp_step(bytes.as_mut_ptr(), bytes.len(), thread) }
 }

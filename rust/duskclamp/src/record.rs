@@ -65,7 +65,7 @@ impl Chain {
     pub const ALL: [Chain; 3] = [Chain::Entry, Chain::Contention, Chain::Waiting];
 }
 
-/// Who keeps a thread that is parked for entry.
+/// Who keeps a thread that is parked for entry. A parked exit waits for the holder alone, also where an owner is named: see [`Object::holder`].
 #[derive(Clone, Copy, Debug, PartialEq, Eq, Hash)]
 pub enum Blocker {
     /// Another thread owns the object by its lock word.
