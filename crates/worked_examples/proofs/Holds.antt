@@ -64,7 +64,7 @@ record-examples =
 
 pub rule-examples : RuleExamples
 unfolding exit-tell enter-try
-rule-examples = record { deflated = refl; inflated = refl; told = refl; flag-down = refl }
+rule-examples = record { deflated = refl; inflated = refl; told = refl; flag-down = refl; finished-number = refl; parked-number = refl }
 
 pub tick-examples : TickExamples
 unfolding thread-at set-thread object-at set-object hang moved-phase runs-out waiter-after last-behind taken-with passed part-chain handing hand-if-free tick-object ticks-fit event-from limit-from one-less no-ticks run-out

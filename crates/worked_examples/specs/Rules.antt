@@ -1,16 +1,17 @@
--- Examples of steps whose rules demand 3 alone would not tell from others.
+-- Examples of steps whose rules demand 3 alone would not tell from others, and of what a step returns.
 use mathlib.Core.Path.{_≡_}
 use mathlib.Core.Bool.{Bool, true, false}
 use Rattle.chains.specs.declared.named.Chain.{Chain}
 use Rattle.lock_rules.specs.Rules.{deflation, exit-tell, enter-try}
 use Rattle.lock_rules.specs.Actions.{keep-object}
+use Rattle.lock_rules.specs.Numbers.{returned-of}
 use Rattle.lock_rules.specs.declared.Doing.the-variants.{ExitLeave}
 use Rattle.lock_rules.specs.declared.ThreadState.the-variants.{Idle, Running}
 use Rattle.lock_rules.specs.declared.WordChange.the-variants.{Unchanged, Freed, Inflated}
 use Rattle.lock_rules.specs.declared.Sight.{Sight}
 use Rattle.lock_rules.specs.declared.Taken.the-variants.{First}
 use Rattle.lock_rules.specs.declared.ChainWork.the-variants.{Move, MoveAndLetOut}
-use Rattle.lock_rules.specs.declared.Answer.the-variants.{GoneOn, Finished}
+use Rattle.lock_rules.specs.declared.Answer.the-variants.{GoneOn, Finished, Parked}
 use Rattle.lock_rules.specs.declared.Action.the-variants.{Do}
 use Rattle.lock_word.specs.declared.meaning.WordSeen.the-variants.{Free, Fat}
 
@@ -46,3 +47,6 @@ pub record RuleExamples : Type 0 where
         answer = Finished 0;
         commits = true;
       })
+  -- a step that finishes returns 1, one that parks 2
+  pub finished-number : returned-of (Finished 0) ≡ 1
+  pub parked-number : returned-of Parked ≡ 2
