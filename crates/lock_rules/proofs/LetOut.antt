@@ -64,21 +64,22 @@ pub moved-from : (states : ℕ → ThreadState) (t : ℕ) (list : List ℕ) → 
 moved-from states t list =
     by-test (λ (state : ThreadState). T (is-queued-exit state) → T (is-queued-exit (states t))) (above-zero (count t list)) (λ there. moved-exit (states t)) (λ away exits. exits)
 
-module _ (states : ℕ → ThreadState) (t : ℕ) (busy : T (unfinished (states t))) where
-  changed-busy : (change : ThreadState → ThreadState) → ((state : ThreadState) → T (unfinished state) → T (unfinished (change state))) → (list : List ℕ)
-      → T (unfinished (changed-states change states list t))
-  changed-busy change keeps list =
-      by-test (λ (state : ThreadState). T (unfinished state)) (above-zero (count t list)) (λ there. keeps (states t) busy) (λ away. busy)
+-- a change that ends nothing, made in any threads' states
+changed-busy : (change : ThreadState → ThreadState) → ((state : ThreadState) → T (unfinished state) → T (unfinished (change state)))
+    → (states : ℕ → ThreadState) (t : ℕ) → T (unfinished (states t)) → (list : List ℕ) → T (unfinished (changed-states change states list t))
+changed-busy change keeps states t busy list =
+    by-test (λ (state : ThreadState). T (unfinished state)) (above-zero (count t list)) (λ there. keeps (states t) busy) (λ away. busy)
 
+module _ (states : ℕ → ThreadState) (t : ℕ) (busy : T (unfinished (states t))) where
   work-ends : (work : ChainWork) (o : ListObject) → states-after work states o t ≡ Idle → T (is-queued-exit (states t))
   work-ends Stay o = busy≢idle (states t) busy
   work-ends (Join chain) o = busy≢idle (states t) busy
-  work-ends (JoinAndHand chain) o = busy≢idle _ (changed-busy handed handed-busy (taken First (o .entry)))
-  work-ends Hand o = busy≢idle _ (changed-busy handed handed-busy (taken First (o .entry)))
-  work-ends (Move from which) o = busy≢idle _ (changed-busy moved moved-busy (taken which (chain-of from o)))
+  work-ends (JoinAndHand chain) o = busy≢idle _ (changed-busy handed handed-busy states t busy (taken First (o .entry)))
+  work-ends Hand o = busy≢idle _ (changed-busy handed handed-busy states t busy (taken First (o .entry)))
+  work-ends (Move from which) o = busy≢idle _ (changed-busy moved moved-busy states t busy (taken which (chain-of from o)))
   work-ends MoveAndLetOut o =
-      λ idle. moved-from states t (o .contention) (let-out-exit (moved-states Chain.Contention All states o t) (changed-busy moved moved-busy (o .contention)) idle)
-  work-ends (SendBack u) o = busy≢idle _ (changed-busy sent-back sent-back-busy (u ∷ []))
+      λ idle. moved-from states t (o .contention) (let-out-exit (moved-states Chain.Contention All states o t) (changed-busy moved moved-busy states t busy (o .contention)) idle)
+  work-ends (SendBack u) o = busy≢idle _ (changed-busy sent-back sent-back-busy states t busy (u ∷ []))
 
   step-ends : (thread : ℕ) (o : ListObject) (action : Action) → t ≢ thread → perform thread states o action .states t ≡ Idle → T (is-queued-exit (states t))
   step-ends thread o Unruled other idle = busy≢idle (states t) busy idle
@@ -90,19 +91,13 @@ module _ (states : ℕ → ThreadState) (t : ℕ) (busy : T (unfinished (states 
   tick-ends o = busy≢idle _ (at (empty (o .waiting)) (eqb (expired states o .object .holder) 0))
     where
       gone : T (unfinished (expired states o .states t))
-      gone =
-          by-test (λ (state : ThreadState). T (unfinished state)) (above-zero (count t (parting states o .gone))) (λ there. moved-busy (aged states o t) aged-so) (λ away. aged-so)
-        where
-          aged-so : T (unfinished (aged states o t))
-          aged-so = changed-busy one-tick-less ticked-busy (o .waiting)
+      gone = changed-busy moved moved-busy (aged states o) t (changed-busy one-tick-less ticked-busy states t busy (o .waiting)) (parting states o .gone)
 
       at : (none free : Bool)
           → T (unfinished (pick none (record { states = states; object = o })
           (pick free (record { states = handed-states (expired states o .states) (expired states o .object); object = handed-object (expired states o .object) }) (expired states o)) .states t))
       at true free = busy
-      at false true =
-          by-test (λ (state : ThreadState). T (unfinished state)) (above-zero (count t (taken First (expired states o .object .entry))))
-          (λ there. handed-busy (expired states o .states t) gone) (λ away. gone)
+      at false true = changed-busy handed handed-busy (expired states o .states) t gone (taken First (expired states o .object .entry))
       at false false = gone
 
 -- a queued exit has committed once, and its answer was 1 with 0
