@@ -42,11 +42,12 @@ DemandThree =
     (request : FreshRequest) → InRange request → (events : List Event)
     → let table = fresh-of request .table in Claim table events (final-of table events)
 
--- "From now on, after every schedule from a fresh table, a thread parked inside an exit waits only for another unparked thread that holds the monitor at
--- depth 0" (document 02, L2).
+-- what is claimed of every table that a schedule makes from a fresh one
 abbrev pub AfterSchedules : (Table → Type 0) → Type 0
 AfterSchedules claim = (request : FreshRequest) → InRange request → (events : List Event) → claim (final-of (fresh-of request .table) events)
 
+-- "From now on, after every schedule from a fresh table, a thread parked inside an exit waits only for another unparked thread that holds the monitor at
+-- depth 0" (document 02, L2).
 abbrev pub ExitsWaitForHolder : Type 0
 ExitsWaitForHolder = AfterSchedules (λ table. (n : ℕ) → ParkedInExit table n → WaitsForHolder table n)
 
