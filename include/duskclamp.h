@@ -18,7 +18,8 @@
  *  - a phase that a queued thread carries (phase 5) that is not 6, 10, 12 or 15, or a carried phase other than 0 in any other phase.
  * All other bytes are a table. It may still not be sound: then events are answered 11 too, and questions by what its records say.
  *
- * An answer is not its returned number: bit 16 is set beside 18 and 19, beside most 1s, and beside some 0s and 2s. Compare
+ * An answer is not its returned number: bit 16 is set beside 18 and 19, beside most 1s, and beside some 0s and 2s, and bits 32 to 63 of an accepted
+ * event's answer say who was unparked. Keep an answer in a uint64_t, compare
  *     DUSKCLAMP_RETURNED(answer) == DUSKCLAMP_FINISHED
  * and never `answer == DUSKCLAMP_FINISHED`.
  *
@@ -37,7 +38,7 @@ extern "C" {
 
 /* The version of the library that this header declares; duskclamp_version gives that of the library which is linked. */
 #define DUSKCLAMP_VERSION_MAJOR 0
-#define DUSKCLAMP_VERSION_MINOR 4
+#define DUSKCLAMP_VERSION_MINOR 5
 #define DUSKCLAMP_VERSION_PATCH 0
 #define DUSKCLAMP_VERSION ((DUSKCLAMP_VERSION_MAJOR << 16) | (DUSKCLAMP_VERSION_MINOR << 8) | DUSKCLAMP_VERSION_PATCH)
 
@@ -97,11 +98,22 @@ extern "C" {
 #define DUSKCLAMP_SIZE_OUT_OF_RANGE 22  /* fresh: threads not 1 to 32, or objects not 1 to 64 */
 #define DUSKCLAMP_LIMIT_OUT_OF_RANGE 23 /* begin of a timed wait: the limit is not 1 to DUSKCLAMP_TICKS */
 
-/* An event's answer: the returned number in bits 0 to 7; the woken number in bits 8 to 15: with 1, how many threads a notify woke, or, of a timed wait,
- * 1 if it ran out, else 0; in bit 16 whether the step committed its operation. */
+/* An event's answer, of 64 bits: the returned number in bits 0 to 7; the woken number in bits 8 to 15: with 1, how many threads a notify woke, or, of a
+ * timed wait, 1 if it ran out, else 0; in bit 16 whether the step committed its operation; in bits 32 to 63 the set of threads that the event unparked. */
 #define DUSKCLAMP_RETURNED(answer) ((uint32_t)((answer) & 0xff))
 #define DUSKCLAMP_WOKEN(answer) ((uint32_t)(((answer) >> 8) & 0xff))
 #define DUSKCLAMP_COMMITS(answer) ((uint32_t)(((answer) >> 16) & 1))
+
+/* The set: bit n - 1 says that thread n was parked before the event and is not after it, so run it again. All other bits are 0. A step or a tick may unpark
+ * several threads, a begin unparks nobody, and a refused event carries no set: its answer is below 2^32.
+ *
+ * A run queue kept from answers and sets alone:
+ *  - a thread whose begin is accepted goes in;
+ *  - a thread whose step returns 1, 2, 18 or 19, or is refused with 15, goes out;
+ *  - every thread in a set goes in.
+ * Every other refusal changes nothing in the queue. From a fresh table on it then holds every thread that is neither idle nor parked, and besides these
+ * only threads whose exit was let out (duskclamp_step) and which have neither stepped nor begun since. No phase has to be asked for. */
+#define DUSKCLAMP_UNPARKED(answer) ((uint32_t)((answer) >> 32))
 
 /* A question's answer: DUSKCLAMP_RETURNED, and where that is 0 the value above it. */
 #define DUSKCLAMP_VALUE(answer) ((uint32_t)((answer) >> 8))
@@ -117,22 +129,22 @@ uint32_t duskclamp_fresh(uint8_t *bytes, size_t length, uint32_t threads, uint32
 
 /* The thread begins the operation on the object. Returned: 0, or the first of 11, 12, 17, 13, 14, 23 that applies; 23 of a timed wait, which has no
  * limit here. */
-uint32_t duskclamp_begin(uint8_t *bytes, size_t length, uint32_t thread, uint32_t operation, uint32_t object);
+uint64_t duskclamp_begin(uint8_t *bytes, size_t length, uint32_t thread, uint32_t operation, uint32_t object);
 
 /* The thread begins a timed wait on the object: a wait that runs out after `limit` ticks in the waiting chain. Returned: 0, or the first of 11, 12, 13,
  * 14, 23 that applies. */
-uint32_t duskclamp_timed_wait(uint8_t *bytes, size_t length, uint32_t thread, uint32_t object, uint32_t limit);
+uint64_t duskclamp_timed_wait(uint8_t *bytes, size_t length, uint32_t thread, uint32_t object, uint32_t limit);
 
 /* The thread takes one step of its operation. Returned: 0, 1, 2, or the first of 11, 12, 15, 16, 18, 19, 20 that applies.
  * An operation ends with the step that returns 1, 18 or 19, save that an exit which has parked, in phase 5, may be let out: a step of another thread
- * that inflates the lock ends it. That counts as its 1 with the woken number 0, though no call returns it. The thread is idle then: its phase is 0, its
- * next step returns 15, and its next begin is accepted. So who waits for a parked exit to end asks duskclamp_phase, or takes 15 for its 1. */
-uint32_t duskclamp_step(uint8_t *bytes, size_t length, uint32_t thread);
+ * that inflates the lock ends it, and has its thread in the set. That thread is idle then: its phase is 0, its next begin is accepted, and its next step
+ * returns 15, which is the exit's 1 with the woken number 0. */
+uint64_t duskclamp_step(uint8_t *bytes, size_t length, uint32_t thread);
 
 /* One tick of the clock, taken from every timed wait that is in a waiting chain. Those with none left run out: they join the entry chain, from the lowest
- * object up and who waited longest first, and a monitor without a holder is handed to the first there. A wait that ran out finishes with the woken
- * number 1. Returned: 0 or 11. */
-uint32_t duskclamp_tick(uint8_t *bytes, size_t length);
+ * object up and who waited longest first, and a monitor without a holder is handed to the first there, who is then in the set. A wait that ran out
+ * finishes with the woken number 1. Returned: 0 or 11. */
+uint64_t duskclamp_tick(uint8_t *bytes, size_t length);
 
 /* An event of duskclamp_run, eight bytes; a tick reads the kind alone, a step the kind and the thread. */
 typedef struct duskclamp_event {
@@ -152,10 +164,9 @@ typedef struct duskclamp_event {
 #define DUSKCLAMP_EVENT_SIZE 8
 
 /* Runs the events one behind the other on the table, as calls of duskclamp_begin, duskclamp_timed_wait, duskclamp_step and duskclamp_tick would, and
- * writes the answer of each: what such a call answers in bits 0 to 31, and 0 in bits 32 to 63. `events` points to `events_length` bytes,
- * DUSKCLAMP_EVENT_SIZE for each event, and `answers` has room for `answers_length` answers; neither overlaps the table or the other. As many events
- * are run as there are whole ones and as there is room for, and that number is given back; no other answer is written. A refused event does not end
- * the run.
+ * writes the answer of each, as such a call gives it. `events` points to `events_length` bytes, DUSKCLAMP_EVENT_SIZE for each event, and `answers` has
+ * room for `answers_length` answers; neither overlaps the table or the other. As many events are run as there are whole ones and as there is room for, and
+ * that number is given back; no other answer is written. A refused event does not end the run.
  * The table is read, tested for soundness and written back once, not for each event: a sound table stays sound, and one that is not stays as it is. If
  * no event changes it, nothing is stored in it. */
 size_t duskclamp_run(uint8_t *bytes, size_t length, const uint8_t *events, size_t events_length, uint64_t *answers, size_t answers_length);

@@ -22,7 +22,7 @@ same() {
 
 # A line of 100 MB is malformed, costs no memory, and the next line is read.
 found=$({ printf 'L 1 1 0\n'; head -c 100000000 /dev/zero | tr '\0' 'E'; printf '\nE 1 1\n'; } | "$program" | tr '\n' ';')
-check 'a line of 100 MB' "$found" '21;0 1 0 000000;'
+check 'a line of 100 MB' "$found" '21;0 1 0 000000 00000000;'
 found=$(head -c 100000000 /dev/zero | tr '\0' 'L' | "$program" | tr '\n' ';')
 check 'a header of 100 MB' "$found" '21;'
 
@@ -56,13 +56,13 @@ check 'no input' "$found $(cat "$work/ending")" '21; 3'
 
 # A good header and the end of the input; descriptor 3 closed, or open for reading only, is as good as none.
 found=$(printf 'L 1 1 0\nE 1 1\n' | "$program" 3>"$work/ending" | tr '\n' ';')
-check 'all read' "$found $(cat "$work/ending")" '0 1 0 000000; 0'
+check 'all read' "$found $(cat "$work/ending")" '0 1 0 000000 00000000; 0'
 found=$(printf 'L 1 1 0\nE 1 1' | "$program" 3>"$work/ending" | tr '\n' ';')
 check 'a last line without its newline' "$found $(cat "$work/ending")" '21; 0'
 found=$(printf 'L 1 1 0\nE 1 1\n' | "$program" 3>&- 2>&1 | tr '\n' ';')
-check 'descriptor 3 closed' "$found" '0 1 0 000000;'
+check 'descriptor 3 closed' "$found" '0 1 0 000000 00000000;'
 found=$(printf 'L 1 1 0\nE 1 1\n' | "$program" 3</dev/null 2>&1 | tr '\n' ';')
-check 'descriptor 3 not for writing' "$found" '0 1 0 000000;'
+check 'descriptor 3 not for writing' "$found" '0 1 0 000000 00000000;'
 
 # A write that fails stops the run and is said on standard error; so does a read, which is not the end of the input.
 printf 'L 1 1 0\nE 1 1\n' | "$program" 3>"$work/ending" >/dev/full 2>"$work/said"
@@ -78,6 +78,6 @@ check 'a bad header on an open pipe; a pipe with nothing in it yet; an input in 
 { printf 'L 1 1 0\n'; yes 'E 1 1' | head -n 3000000; } >"$work/long"
 timeout 20 sh -c '"$1" <"$2" | head -n 1 >"$3"' sh "$program" "$work/long" "$work/first"
 check 'a closed output, status' "$?" 0
-check 'a closed output, first line' "$(cat "$work/first")" '0 1 0 000000'
+check 'a closed output, first line' "$(cat "$work/first")" '0 1 0 000000 00000000'
 
 finish

@@ -1,5 +1,5 @@
 #!/bin/sh
-# Compiles the C example against the static library, compares what it prints, and compiles the header as C++. The last line is 'N passed, M failed'.
+# Compiles the C examples against the static library, compares what they print, and compiles the header as C++. The last line is 'N passed, M failed'.
 set -u
 . "$(dirname "$0")/counting.sh"
 cd "$(dirname "$0")/.." || exit 2
@@ -13,12 +13,15 @@ if ! command -v gcc >/dev/null; then
     exit 2
 fi
 
-gcc -std=c11 -pedantic -Wall -Wextra -Werror -I include examples/c/main.c "$library" -o target/c_example
-check "compiling with gcc" $? 0
-target/c_example >target/c_example.out
-check "running" $? 0
-diff examples/c/expected target/c_example.out
-check "comparing the output" $? 0
+for source in examples/c/*.c; do
+    name=$(basename "$source" .c)
+    gcc -std=c99 -pedantic -Wall -Wextra -Werror -I include "$source" "$library" -o "target/c_$name"
+    check "compiling $source with gcc" $? 0
+    "target/c_$name" >"target/c_$name.out"
+    check "running $name" $? 0
+    diff "examples/c/$name.expected" "target/c_$name.out"
+    check "comparing the output of $name" $? 0
+done
 if command -v g++ >/dev/null; then
     g++ -x c++ -std=c++11 -pedantic -Wall -Wextra -Werror -fsyntax-only include/duskclamp.h
     check "the header as C++" $? 0

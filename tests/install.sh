@@ -1,6 +1,6 @@
 #!/bin/sh
-# Installs the library into a prefix of its own, builds the C example with what is there, and takes it away again. Flags come from pkg-config, or from
-# the prefix itself where that is missing. The last line is 'N passed, M failed'.
+# Installs the library into a prefix of its own, builds examples/c/main.c with what is there, and takes it away again. Flags come from pkg-config, or
+# from the prefix itself where that is missing. The last line is 'N passed, M failed'.
 set -u
 . "$(dirname "$0")/counting.sh"
 cd "$(dirname "$0")/.." || exit 2
@@ -26,9 +26,9 @@ else
 fi
 # The flags are words of their own, and the folder has none that a shell would split.
 # shellcheck disable=SC2086
-gcc -std=c11 examples/c/main.c $flags -o "$work/example" && "$work/example" >"$work/out"
+gcc -std=c99 examples/c/main.c $flags -o "$work/example" && "$work/example" >"$work/out"
 check "building the example with '$flags'" $? 0
-diff examples/c/expected "$work/out"
+diff examples/c/main.expected "$work/out"
 check "comparing the output" $? 0
 
 make install PREFIX=/usr/duskclamp DESTDIR="$work/stage" >"$work/log" 2>&1 || cat "$work/log"

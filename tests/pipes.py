@@ -77,13 +77,13 @@ def in_pieces(program):
         time.sleep(0.2)
     child.stdin.close()
     result = ending(child, told)
-    answers = b'0 1 0 000000\n1 0 0 000100\n0 1 0 000100\n0 9 0 000000\n'
+    answers = b'0 1 0 000000 00000000\n1 0 0 000100 00000000\n0 1 0 000100 00000000\n0 9 0 000000 00000000\n'
     return f'{"all" if child.stdout.read() == answers else "other answers"} {result}'
 
 
 def slow_reader(program):
     """A non-blocking output that fills up, and is read while the input goes on: a start of the answers is written, and the run has failed."""
-    answers = b'0 1 0 000000\n' + b'14\n' * (2 * EVENTS - 1)
+    answers = b'0 1 0 000000 00000000\n' + b'14\n' * (2 * EVENTS - 1)
     reader, writer = os.pipe()
     nonblocking(writer)
     child, told = start(program, subprocess.PIPE, writer)

@@ -47,6 +47,6 @@ check 'two files' "$(outcome "$script" "$listing" "$listing")" ' 2'
 check 'help' "$(outcome "$script" --help)" 'usage: ./replay [FILE] 0'
 { printf 'L 1 1 0\n'; yes 'E 1 1' | head -n 3000000; } >"$work/long"
 { "$script" "$work/long"; echo $? >"$work/status"; } | head -n 1 >"$work/output"
-check 'nobody reads any more' "$(cat "$work/output") $(cat "$work/status")" '0 1 0 000000 141'
+check 'nobody reads any more' "$(cat "$work/output") $(cat "$work/status")" '0 1 0 000000 00000000 141'
 
 finish

@@ -12,7 +12,7 @@
 static uint8_t table[DUSKCLAMP_TABLE_SIZE];
 
 /* Takes the steps of an operation whose begin was answered so, until it is finished, parks, or is refused. */
-static void take_steps(uint32_t answer, uint32_t thread, uint32_t operation, uint32_t object) {
+static void take_steps(uint64_t answer, uint32_t thread, uint32_t operation, uint32_t object) {
     uint32_t steps = 0;
     while (DUSKCLAMP_RETURNED(answer) == DUSKCLAMP_GONE_ON) {
         answer = duskclamp_step(table, sizeof table, thread);
@@ -31,28 +31,28 @@ static void run_out(uint32_t thread, uint32_t object) {
     run(thread, DUSKCLAMP_ENTER, object);
     take_steps(duskclamp_timed_wait(table, sizeof table, thread, object, LIMIT), thread, DUSKCLAMP_TIMED_WAIT, object);
     for (uint32_t tick = 1; tick <= LIMIT; tick++) {
-        uint32_t returned = DUSKCLAMP_RETURNED(duskclamp_tick(table, sizeof table));
+        uint64_t answer = duskclamp_tick(table, sizeof table);
         uint32_t phase = DUSKCLAMP_VALUE(duskclamp_phase(table, sizeof table, thread));
         uint32_t left = DUSKCLAMP_VALUE(duskclamp_ticks(table, sizeof table, thread));
-        printf("tick %" PRIu32 ": %" PRIu32 ", thread %" PRIu32 " %s, ticks left: %" PRIu32 "\n", tick, returned, thread,
-               duskclamp_phase_name(phase), left);
+        printf("tick %" PRIu32 ": %" PRIu32 ", unparked %08" PRIx32 ", thread %" PRIu32 " %s, ticks left: %" PRIu32 "\n", tick,
+               DUSKCLAMP_RETURNED(answer), DUSKCLAMP_UNPARKED(answer), thread, duskclamp_phase_name(phase), left);
     }
-    uint32_t answer = duskclamp_step(table, sizeof table, thread);
+    uint64_t answer = duskclamp_step(table, sizeof table, thread);
     printf("thread %" PRIu32 " %s, run out: %" PRIu32 "\n", thread, duskclamp_returned_name(DUSKCLAMP_RETURNED(answer)), DUSKCLAMP_WOKEN(answer));
 }
 
-/* An exit that parks while another thread is on its way in, and is let out by that thread's step. No step of its own answers 1: a scheduler that keeps
- * parked threads in a list takes phase 0, or the refusal 15, for it. */
+/* An exit that parks while another thread is on its way in, and is let out by that thread's step, whose set names it. No step of its own answers 1: the
+ * next is refused with 15, which stands for it. */
 static void let_out(uint32_t leaving, uint32_t entering, uint32_t object) {
     run(leaving, DUSKCLAMP_ENTER, object);
     duskclamp_begin(table, sizeof table, entering, DUSKCLAMP_ENTER, object);
     while (DUSKCLAMP_VALUE(duskclamp_phase(table, sizeof table, entering)) != DUSKCLAMP_PHASE_TRY)
         duskclamp_step(table, sizeof table, entering);
     run(leaving, DUSKCLAMP_EXIT, object);
-    uint32_t answer = duskclamp_step(table, sizeof table, entering);
+    uint64_t answer = duskclamp_step(table, sizeof table, entering);
     uint32_t phase = DUSKCLAMP_VALUE(duskclamp_phase(table, sizeof table, leaving));
-    printf("thread %" PRIu32 " enter %" PRIu32 ": %s, thread %" PRIu32 " %s\n", entering, object, duskclamp_returned_name(DUSKCLAMP_RETURNED(answer)),
-           leaving, duskclamp_phase_name(phase));
+    printf("thread %" PRIu32 " enter %" PRIu32 ": %s, unparked %08" PRIx32 ", thread %" PRIu32 " %s\n", entering, object,
+           duskclamp_returned_name(DUSKCLAMP_RETURNED(answer)), DUSKCLAMP_UNPARKED(answer), leaving, duskclamp_phase_name(phase));
     answer = duskclamp_step(table, sizeof table, leaving);
     printf("thread %" PRIu32 " steps: %s\n", leaving, duskclamp_returned_name(DUSKCLAMP_RETURNED(answer)));
 }

@@ -1,12 +1,12 @@
 -- A test with what its value says, so that a proof goes by cases on the value and has the fact at hand.
 use Prim.Native.Nat.{ℕ, _≤_, _<_}
-use mathlib.Core.Path.{_≡_, refl}
+use mathlib.Core.Path.{_≡_, refl, sym}
 use mathlib.Core.Logic.{_≢_, _⊎_, inl, inr}
-use mathlib.Core.Bool.{Bool, true, false}
+use mathlib.Core.Bool.{Bool, true, false, not}
 use native.Mathlib.Omega.{arith}
-use lib.Dec.{eqb, ltb, leb}
+use lib.Dec.{T, eqb, ltb, leb}
 use borrow.Author.Tests.{eqb-true, eqb-false, ltb-true, ltb-false, leb-true, leb-false, eq-eqb, ne-eqb, lt-ltb, le-ltb, le-leb, lt-leb}
-use Rattle.laws.specs.Choice.{pick, both}
+use Rattle.laws.specs.Choice.{pick, both, either}
 
 -- the laws that decide a test from the fact that a branch of the code hands over
 pub ruleset tests = (eq-eqb, ne-eqb, lt-ltb, le-ltb, le-leb, lt-leb)
@@ -97,3 +97,28 @@ both-of {a} {b} p q = rw p q
 pub both-no : (b : Bool) → both b false ≡ false
 both-no true = refl
 both-no false = refl
+
+pub either-no : (b : Bool) → either b false ≡ b
+either-no true = refl
+either-no false = refl
+
+pub either-yes : (b : Bool) → either b true ≡ true
+either-yes true = refl
+either-yes false = refl
+
+pub either-says : (a b : Bool) → either a b ≡ true → (a ≡ true) ⊎ (b ≡ true)
+either-says true b e = inl refl
+either-says false b e = inr e
+
+-- a test that holds, and one whose opposite passes or fails
+pub holds : (b : Bool) → T b → b ≡ true
+holds true t = refl
+holds false t = absurd t
+
+pub passed : (test : Bool) → not test ≡ false → test ≡ true
+passed true e = refl
+passed false e = false≢true (sym e)
+
+pub failed : (test : Bool) → not test ≡ true → test ≡ false
+failed true e = false≢true e
+failed false e = refl

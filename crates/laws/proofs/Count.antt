@@ -23,6 +23,10 @@ pub count-other : (n x : ℕ) (xs : List ℕ) → n ≢ x → count n (x ∷ xs)
 unfolding count
 count-other n x xs away = rw (ne-eqb n x away) (omega arith)
 
+pub count-more : (n x : ℕ) (xs : List ℕ) → count n xs ≤ count n (x ∷ xs)
+unfolding count
+count-more n x xs = omega arith
+
 pub count-append : (n : ℕ) (xs ys : List ℕ) → count n (xs ++ ys) ≡ count n xs + count n ys
 unfolding count
 count-append n [] ys = omega arith

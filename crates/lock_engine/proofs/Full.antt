@@ -23,6 +23,7 @@ use Rattle.lock_work.specs.Tick.{handing, hand-if-free, tick-object, tick-to, t
 use Rattle.lock_work.specs.Work.{work-stays, work-done}
 use Rattle.lock_engine.specs.Handle.{turn-with, outcome-of, handle-trusting, handle}
 use Rattle.lock_work.specs.declared.settling.Work.{Work}
+use Rattle.lock_work.specs.declared.settling.WorkDone.{WorkDone}
 use Rattle.lock_engine.specs.declared.turning.Turn.{Turn}
 use Rattle.lock_work.specs.declared.settling.Work.the-variants.{Chains, Tick}
 
@@ -92,18 +93,18 @@ full-handed : (table : Table) (monitor : Monitor) → Full table → Full (hand-
 unfolding hand-if-free
 full-handed table monitor full = full-relink monitor (handing monitor) 0 0 full
 
-full-object-ticked : (table : Table) (number : ℕ) → Full table → Full (tick-object table number)
+full-object-ticked : (table : Table) (number : ℕ) → Full table → Full (tick-object table number .table)
 unfolding tick-object
 full-object-ticked table number full =
-    by-test Full (eqb (object-at table number .monitor .waiting) 0) (λ none. full)
+    by-test (λ (done : WorkDone). Full (done .table)) (eqb (object-at table number .monitor .waiting) 0) (λ none. full)
     (λ some. full-object _ _ (full-handed _ _ (full-hang thread-limit _ _ _ (full-parted waiter-goes waiter-ticked true thread-limit table no-parting _ full))))
 
-full-ticked-to : (number : ℕ) (table : Table) → Full table → Full (tick-to number table)
+full-ticked-to : (number : ℕ) (table : Table) → Full table → Full (tick-to number table .table)
 unfolding tick-to
 full-ticked-to zero table full = full
-full-ticked-to (suc number) table full = full-object-ticked (tick-to number table) (suc number) (full-ticked-to number table full)
+full-ticked-to (suc number) table full = full-object-ticked (tick-to number table .table) (suc number) (full-ticked-to number table full)
 
-pub full-tick : (table : Table) → Full table → Full (tick table)
+pub full-tick : (table : Table) → Full table → Full (tick table .table)
 full-tick table full = full-ticked-to object-limit table full
 
 -- the work of a turn, and the outcome of an event

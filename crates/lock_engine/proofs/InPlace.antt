@@ -136,6 +136,7 @@ module _ (t : Table) (event : Event) (issound : Bool) where
             (work-done-of t (event-thread event) number-in-place turn .table);
         reply = turn .reply;
         commits = turn .commits;
+        unparked = pick (work-stays (turn .work)) 0 (work-done-of t (event-thread event) number-in-place turn .unparked);
       }
 
   -- a thread with a record
@@ -160,6 +161,7 @@ module _ (t : Table) (event : Event) (issound : Bool) where
             (work-done-of t (event-thread event) number-in-place turn-here .table);
         reply = turn-here .reply;
         commits = turn-here .commits;
+        unparked = pick (work-stays (turn-here .work)) 0 (work-done-of t (event-thread event) number-in-place turn-here .unparked);
       })
 
   thread-has : Has thread-limit (event-thread event) → Lacks object-limit number-in-place → handle-with t event issound own-in-place ≡ stored-outcome turn-here
@@ -224,6 +226,7 @@ module _ {t : Table} {event : Event} {issound : Bool} {thread place number home 
             (work-done-of t thread number turn .table);
         reply = turn .reply;
         commits = turn .commits;
+        unparked = pick (work-stays (turn .work)) 0 (work-done-of t thread number turn .unparked);
       }
       ≡ handle-trusting t event issound
   settled-so =
@@ -231,10 +234,10 @@ module _ {t : Table} {event : Event} {issound : Bool} {thread place number home 
 
   -- both records were stored
   pub stored-so : work-stays (turn .work) ≡ true
-      → record { table = stored t place home (turn .own) (turn .object); reply = turn .reply; commits = turn .commits } ≡ handle-trusting t event issound
+      → record { table = stored t place home (turn .own) (turn .object); reply = turn .reply; commits = turn .commits; unparked = 0 } ≡ handle-trusting t event issound
   stored-so stay = rw stay at settled-so
 
   -- work on the chains was done
   pub worked-so : work-stays (turn .work) ≡ false → {done : WorkDone} → done ≡ work-done-of t thread number turn
-      → record { table = done .table; reply = turn .reply; commits = turn .commits } ≡ handle-trusting t event issound
+      → record { table = done .table; reply = turn .reply; commits = turn .commits; unparked = done .unparked } ≡ handle-trusting t event issound
   worked-so work is = rw is (rw work at settled-so)

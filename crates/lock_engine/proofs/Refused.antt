@@ -17,7 +17,7 @@ use Rattle.lock_engine.specs.declared.outcome.Reply.the-variants.{Refuse
 use Rattle.lock_engine.specs.declared.outcome.Outcome.{Outcome}
 
 abbrev pub refusing : Table → Refusal → Outcome
-refusing table refusal = record { table = table; reply = Refused refusal; commits = false }
+refusing table refusal = record { table = table; reply = Refused refusal; commits = false; unparked = 0 }
 
 -- a turn that is refused, of the records that stand there
 pub refused-stays : (t : Table) (n o : ℕ) (refusal : Refusal) → outcome-of t n o (refused (thread-at t n) (object-at t o) refusal) ≡ refusing t refusal

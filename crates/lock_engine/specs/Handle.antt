@@ -35,7 +35,7 @@ turn-with table event issound own object =
 abbrev pub work-done-of : Table → ℕ → ℕ → Turn → WorkDone
 work-done-of table thread number turn = work-done (turn .work) table thread number (turn .own) (turn .object)
 
--- both records are written, and the work is done where there is some
+-- both records are written, and the work is done where there is some; only work on chains unparks anybody
 abbrev pub outcome-of : Table → ℕ → ℕ → Turn → Outcome
 outcome-of table thread number turn =
     record {
@@ -43,6 +43,7 @@ outcome-of table thread number turn =
           (work-done-of table thread number turn .table);
       reply = turn .reply;
       commits = turn .commits;
+      unparked = pick (work-stays (turn .work)) 0 (work-done-of table thread number turn .unparked);
     }
 
 abbrev pub handle-with : Table → Event → Bool → ThreadRecord → Outcome

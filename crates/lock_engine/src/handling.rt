@@ -60,16 +60,20 @@ pub fn handle_trusting(table: Table, event: Event, issound: bool) -> Outcome
     let objectafter = turn.object;
     let work = turn.work;
     let reply = turn.reply;
+    let mut unparked: u32 = 0;
     if work_stays(work) {
         changed.threads[place] = ownafter;
         changed.objects[home] = objectafter;
     } else {
-        changed = work_done(changed, thread, number, ownafter, objectafter, work).table;
+        let done = work_done(changed, thread, number, ownafter, objectafter, work);
+        unparked = done.unparked;
+        changed = done.table;
     }
     Outcome {
         table: changed,
         reply: reply,
         commits: turn.commits,
+        unparked: unparked,
     }
 }
 

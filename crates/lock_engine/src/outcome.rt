@@ -19,6 +19,8 @@ pub struct Outcome {
     pub reply: Reply,
     // the event is a committing step
     pub commits: bool,
+    // the set of the other threads that the event unparked: bit n - 1 for thread n
+    pub unparked: u32,
 }
 
 // The number of a refusal before any rule.

@@ -35,6 +35,7 @@ use Rattle.lock_engine.specs.declared.outcome.{Reply.Reply, Outcome.Outcome}
 use Rattle.lock_engine.specs.declared.outcome.Reply.the-variants.{Accepted, Refused, Answered}
 use Rattle.lock_refusals.specs.Demand.{returned, left-by}
 use Rattle.lock_refusals.proofs.Theorem.{demand-one}
+use Rattle.lock_refusals.proofs.Interpreter.{refused-carry-none}
 use Rattle.table_bytes.specs.Layout.{object-start}
 use Rattle.table_bytes.specs.Reading.{AreBytes, object-from, enough, table-of, is-table}
 use Rattle.table_bytes.specs.Writing.{bytes-of, write-thread}
@@ -43,7 +44,7 @@ use Rattle.table_bytes.proofs.SameBytes.{bytes-back}
 use Rattle.table_bytes.proofs.Enough.{enough-bytes}
 use Rattle.table_bytes.proofs.SetRecords.{thread-written, object-written}
 use Rattle.lock_engine_c.proofs.FullTables.{read-full}
-use Rattle.lock_engine_c.specs.Calls.{packed-of, returned-in, outcome-answer, event-answer, event-bytes, left-bytes, RefusedLeaves, begun-on, ticked-on}
+use Rattle.lock_engine_c.specs.Calls.{RefusedTo, set-unit, packed-of, returned-in, outcome-answer, event-answer, event-bytes, left-bytes, RefusedLeaves, begun-on, ticked-on}
 use Rattle.lock_engine_c.specs.Calls.{stepped-on, answer-changes, reply-changes, event-number, event-turn, store-turn, event-over}
 
 -- a begin that is refused leaves the table
@@ -136,13 +137,31 @@ number-small (Answered NotOwner) = omega arith
 number-small (Answered TooDeep) = omega arith
 number-small (Answered NoRule) = omega arith
 
-packed-number : (returned woken : ℕ) (commits : Bool) → returned < 256 → packed-of returned woken commits % 256 ≡ returned
+packed-number : (returned woken : ℕ) (commits : Bool) (unparked : ℕ) → returned < 256 → packed-of returned woken commits unparked % 256 ≡ returned
 unfolding packed-of
-packed-number returned woken true small = omega (arith, small)
-packed-number returned woken false small = omega (arith, small)
+packed-number returned woken true unparked small = omega (arith, small)
+packed-number returned woken false unparked small = omega (arith, small)
 
 outcome-number : (outcome : Outcome) → returned-in (outcome-answer outcome) ≡ returned outcome
-outcome-number outcome = packed-number (returned outcome) (reply-woken (outcome .reply)) (outcome .commits) (number-small (outcome .reply))
+outcome-number outcome =
+    packed-number (returned outcome) (reply-woken (outcome .reply)) (outcome .commits) (outcome .unparked) (number-small (outcome .reply))
+
+-- a refusal goes with the woken number 0, and its number alone lies below the set
+refused-woken : (reply : Reply) → 11 ≤ reply-returned reply → reply-woken reply ≡ 0
+unfolding reply-returned reply-woken
+refused-woken Accepted high = refl
+refused-woken (Refused refusal) high = refl
+refused-woken (Answered GoneOn) high = refl
+refused-woken (Answered (Finished woken)) high = absurd (omega (arith, high))
+refused-woken (Answered Parked) high = refl
+refused-woken (Answered NotOwner) high = refl
+refused-woken (Answered TooDeep) high = refl
+refused-woken (Answered NoRule) high = refl
+
+packed-alone : (returned : ℕ) (commits : Bool) → returned < 256 → packed-of returned 0 commits 0 < set-unit
+unfolding packed-of
+packed-alone returned true small = omega (arith, small)
+packed-alone returned false small = omega (arith, small)
 
 module _ (bytes : List ℕ) (small : AreBytes bytes) where
   abbrev table : Table
@@ -161,16 +180,18 @@ module _ (bytes : List ℕ) (small : AreBytes bytes) where
       let number = event-number table event in
       let own = thread-written bytes table (sym (bytes-back bytes small known)) (event-thread event) (read-full bytes .threads) (turn .own) in
       let full = full-thread (event-thread event) (turn .own) (read-full bytes) in
-      split (reply-changes (turn .reply))
-      (λ changed. rw changed (split (work-stays (turn .work)) (λ stay. rw stay (object-written (write-thread bytes (event-thread event) (turn .own)) (set-thread table (event-thread event) (turn .own)) own number (full .objects) (turn .object)))
-      (λ work. rw work (kept-is bytes (work-done-of table (event-thread event) number turn .table) (table-long bytes known)))))
-      (λ unchanged. rw unchanged (sym (ap bytes-of (unchanged-same table (read-well-typed bytes small) event unchanged) ∙ bytes-back bytes small known)))
+      split (work-stays (turn .work))
+      (λ stay. rw stay (split (reply-changes (turn .reply))
+      (λ changed. rw changed (object-written (write-thread bytes (event-thread event) (turn .own)) (set-thread table (event-thread event) (turn .own)) own number (full .objects) (turn .object)))
+      (λ unchanged. rw unchanged (rw stay at (sym (ap bytes-of (unchanged-same table (read-well-typed bytes small) event unchanged) ∙ bytes-back bytes small known))))))
+      (λ work. rw work (kept-is bytes (work-done-of table (event-thread event) number turn .table) (table-long bytes known)))
 
   pub event-stored : (event : Event) → event-over (is-table bytes) bytes table event ≡ event-bytes (is-table bytes) bytes (handle table event)
   event-stored event = split (is-table bytes) (λ known. rw known (turn-stored known event)) (λ unknown. rw unknown refl)
 
   pub refused-left : (event : Event) → let outcome = handle table event in
-      RefusedLeaves bytes (event-thread event) (event-bytes (is-table bytes) bytes outcome) (event-answer (is-table bytes) outcome)
+      11 ≤ returned-in (event-answer (is-table bytes) outcome)
+      → event-bytes (is-table bytes) bytes outcome ≡ left-bytes (returned-in (event-answer (is-table bytes) outcome)) bytes (event-thread event)
   unfolding refusal-number
   refused-left event =
       let outcome = handle table event in
@@ -182,6 +203,16 @@ module _ (bytes : List ℕ) (small : AreBytes bytes) where
           (λ ends. rw ends (sym (thread-written bytes table (sym (bytes-back bytes small known)) (event-thread event) (read-full bytes .threads) (idle (thread-at table (event-thread event))))))
           (λ other. rw other (bytes-back bytes small known))
 
+  -- the answer of a refused event carries no set
+  pub refused-alone : (event : Event) → let answer = event-answer (is-table bytes) (handle table event) in 11 ≤ returned-in answer → answer < set-unit
+  unfolding refusal-number
+  refused-alone event =
+      let outcome = handle table event in
+      split (is-table bytes)
+      (λ known. rw known (rw (outcome-number outcome) (λ refused. rw (refused-carry-none table (read-well-typed bytes small) event refused, refused-woken (outcome .reply) refused)
+      (packed-alone (returned outcome) (outcome .commits) (number-small (outcome .reply))))))
+      (λ unknown. rw unknown (λ refused. omega arith))
+
   -- an outcome that leaves the table where it is refused, with neither 18 nor 19
   left-whole : (outcome : Outcome) → (11 ≤ returned outcome → outcome .table ≡ table)
       → 11 ≤ returned-in (event-answer (is-table bytes) outcome) → event-bytes (is-table bytes) bytes outcome ≡ bytes
@@ -190,19 +221,26 @@ module _ (bytes : List ℕ) (small : AreBytes bytes) where
       (λ known. rw known (rw (outcome-number outcome) (λ refused. ap bytes-of (leaves refused) ∙ bytes-back bytes small known)))
       (λ unknown. rw unknown (λ refused. refl))
 
+  -- both, of a refused event
+  both-so : {left after : List ℕ} {answer : ℕ} → (11 ≤ returned-in answer → after ≡ left) → (11 ≤ returned-in answer → answer < set-unit) → RefusedTo left after answer
+  both-so leaves alone refused = (leaves refused, alone refused)
+
   -- what the calls promise, from what their code answers and writes of the numbers made narrow
   pub begin-promised : (thread operation object limit answer : ℕ) (after : List ℕ)
       → let narrowed = Begin (narrow-of operation) (narrow-of thread) (narrow-of object) limit in
       let outcome = begun-on bytes thread operation object limit in
       answer ≡ event-answer (is-table bytes) (handle table narrowed) → after ≡ event-over (is-table bytes) bytes table narrowed
-      → (after ≡ event-bytes (is-table bytes) bytes outcome) × (11 ≤ returned-in answer → after ≡ bytes)
+      → (after ≡ event-bytes (is-table bytes) bytes outcome) × RefusedTo bytes after answer
   begin-promised thread operation object limit answer after answers stores =
       let outcome = begun-on bytes thread operation object limit in
       let same = narrow-begin table thread operation object limit in
       let answered : answer ≡ event-answer (is-table bytes) outcome = answers ∙ ap (event-answer (is-table bytes)) same in
       let written : after ≡ event-bytes (is-table bytes) bytes outcome =
-      stores ∙ event-stored (Begin (narrow-of operation) (narrow-of thread) (narrow-of object) limit) ∙ ap (event-bytes (is-table bytes) bytes) same in
-      (written, rw (answered, written) (left-whole outcome (begin-leaves table thread operation object limit)))
+      stores ∙ event-stored (Begin (narrow-of operation) (narrow-of thread) (narrow-of object) limit) ∙ ap (event-bytes (is-table bytes) bytes) same in (
+        written,
+        both-so (rw (answered, written) (left-whole outcome (begin-leaves table thread operation object limit)))
+            (rw answers (refused-alone (Begin (narrow-of operation) (narrow-of thread) (narrow-of object) limit))),
+      )
 
   pub step-promised : (thread answer : ℕ) (after : List ℕ) → let outcome = stepped-on bytes thread in
       answer ≡ event-answer (is-table bytes) (handle table (Step (narrow-of thread))) → after ≡ event-over (is-table bytes) bytes table (Step (narrow-of thread))
@@ -213,12 +251,12 @@ module _ (bytes : List ℕ) (small : AreBytes bytes) where
       let answered : answer ≡ event-answer (is-table bytes) outcome = answers ∙ ap (event-answer (is-table bytes)) same in
       let written : after ≡ event-bytes (is-table bytes) bytes outcome =
       stores ∙ event-stored (Step (narrow-of thread)) ∙ ap (event-bytes (is-table bytes) bytes) same in
-      (written, rw (answered, written) (refused-left (Step thread)))
+      (written, both-so (rw (answered, written) (refused-left (Step thread))) (rw answers (refused-alone (Step (narrow-of thread)))))
 
   pub tick-promised : (answer : ℕ) (after : List ℕ) → let outcome = ticked-on bytes in
       answer ≡ event-answer (is-table bytes) outcome → after ≡ event-over (is-table bytes) bytes table Tick
-      → (after ≡ event-bytes (is-table bytes) bytes outcome) × (11 ≤ returned-in answer → after ≡ bytes)
+      → (after ≡ event-bytes (is-table bytes) bytes outcome) × RefusedTo bytes after answer
   tick-promised answer after answers stores =
       let outcome = ticked-on bytes in
       let written : after ≡ event-bytes (is-table bytes) bytes outcome = stores ∙ event-stored Tick in
-      (written, rw (answers, written) (left-whole outcome (tick-leaves table)))
+      (written, both-so (rw (answers, written) (left-whole outcome (tick-leaves table))) (rw answers (refused-alone Tick)))

@@ -1,5 +1,5 @@
 -- What each exported call that changes a table answers and makes of the bytes: the engine's begin, step, tick and fresh table on the table that the bytes say.
-use Prim.Native.Nat.{ℕ, _+_, _*_, _%_, _≤_}
+use Prim.Native.Nat.{ℕ, _+_, _*_, _%_, _≤_, _<_}
 use mathlib.Core.Path.{_≡_}
 use mathlib.Core.Bool.{Bool, true, false, not}
 use mathlib.Core.List.{List}
@@ -30,24 +30,29 @@ use Rattle.table_bytes.specs.Layout.{table-size}
 use Rattle.table_bytes.specs.Reading.{table-of}
 use Rattle.table_bytes.specs.Writing.{bytes-of, kept-over, write-thread, write-object, idled-bytes}
 
--- the library's version, 0.4.0 in three bytes
+-- the library's version, 0.5.0 in three bytes
 abbrev pub version : ℕ
-version = 1024
+version = 1280
 
 -- bytes that are no table are refused as the engine refuses a table that is not sound
 abbrev pub not-sound : ℕ
 not-sound = refusal-number NotSound
 
--- the returned number, the woken number and whether the event is a committing step, packed: bits 0 to 7, bits 8 to 15, bit 16
-unfoldable pub packed-of : ℕ → ℕ → Bool → ℕ
-packed-of returned woken commits = pick commits (returned + woken * 256 + 65536) (returned + woken * 256)
+-- the set of an answer begins at bit 32
+abbrev pub set-unit : ℕ
+set-unit = 4294967296
+
+-- the returned number, the woken number, whether the event is a committing step, and the set of threads that it unparked, packed: bits 0 to 7, bits 8 to
+-- 15, bit 16, bits 32 to 63
+unfoldable pub packed-of : ℕ → ℕ → Bool → ℕ → ℕ
+packed-of returned woken commits unparked = pick commits (returned + woken * 256 + 65536) (returned + woken * 256) + unparked * set-unit
 
 -- the returned number of a packed answer
 abbrev pub returned-in : ℕ → ℕ
 returned-in answer = answer % 256
 
 abbrev pub outcome-answer : Outcome → ℕ
-outcome-answer outcome = packed-of (reply-returned (outcome .reply)) (reply-woken (outcome .reply)) (outcome .commits)
+outcome-answer outcome = packed-of (reply-returned (outcome .reply)) (reply-woken (outcome .reply)) (outcome .commits) (outcome .unparked)
 
 -- an event: on bytes that are no table 11, and the bytes stay
 abbrev pub event-answer : Bool → Outcome → ℕ
@@ -60,9 +65,13 @@ event-bytes istable bytes outcome = pick istable (bytes-of (outcome .table)) byt
 abbrev pub left-bytes : ℕ → List ℕ → ℕ → List ℕ
 left-bytes number bytes thread = pick (either (eqb number (returned-of NotOwner)) (eqb number (returned-of TooDeep))) (idled-bytes bytes thread) bytes
 
+-- refused, an event leaves these bytes, and its answer carries no set
+abbrev pub RefusedTo : List ℕ → List ℕ → ℕ → Type 0
+RefusedTo left after answer = first-refusal ≤ returned-in answer → (after ≡ left) × (answer < set-unit)
+
 -- an event of the thread on these bytes, what it left and what it answered
 abbrev pub RefusedLeaves : List ℕ → ℕ → List ℕ → ℕ → Type 0
-RefusedLeaves before thread after answer = first-refusal ≤ returned-in answer → after ≡ left-bytes (returned-in answer) before thread
+RefusedLeaves before thread after answer = RefusedTo (left-bytes (returned-in answer) before thread) after answer
 
 -- which replies go with a table that may have changed: all but the refusals before any rule and 20
 unfoldable pub answer-changes : Answer → Bool
@@ -90,13 +99,12 @@ abbrev pub event-turn : Table → Event → Turn
 event-turn table event =
     turn-with table event (sound-of table) (thread-at table (event-thread event)) (object-at table (event-number table event))
 
--- the bytes after a turn: both records are stored, or the whole table where there was more work
+-- the bytes after a turn: both records are stored, where the reply says that they may have changed, or the whole table where there was more work
 unfoldable pub store-turn : List ℕ → Table → ℕ → ℕ → Turn → Bool → List ℕ
 store-turn bytes table thread number turn changed =
-    pick changed
-    (pick (work-stays (turn .work)) (write-object (write-thread bytes thread (turn .own)) number (turn .object))
-    (kept-over bytes (work-done-of table thread number turn .table)))
-    bytes
+    pick (work-stays (turn .work))
+    (pick changed (write-object (write-thread bytes thread (turn .own)) number (turn .object)) bytes)
+    (kept-over bytes (work-done-of table thread number turn .table))
 
 abbrev pub event-over : Bool → List ℕ → Table → Event → List ℕ
 event-over istable bytes table event =

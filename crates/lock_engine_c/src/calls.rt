@@ -29,30 +29,31 @@ use table_bytes::write_object;
 use table_bytes::write_table;
 use table_bytes::write_thread;
 ghost use mathlib.Core.Path.{_≡_};
-ghost use Prim.Native.Nat.{_≤_};
-ghost use Rattle.lock_rules.specs.Numbers.{first-refusal};
 ghost use Rattle.lock_rules.specs.Operations.{timed-wait};
 ghost use Rattle.lock_engine.specs.Handle.{handle};
 ghost use Rattle.lock_table.specs.Fresh.{fresh-of};
 ghost use Rattle.table_bytes.specs.Layout.{table-size};
 ghost use Rattle.table_bytes.specs.Reading.{is-table, table-of};
-ghost use Rattle.lock_engine_c.specs.Calls.{packed-of, returned-in, event-answer, event-bytes, RefusedLeaves};
+ghost use Rattle.lock_engine_c.specs.Calls.{packed-of, event-answer, event-bytes, RefusedTo, RefusedLeaves};
 ghost use Rattle.lock_engine_c.specs.Calls.{answer-changes, reply-changes, stored-over, store-turn, event-over};
 ghost use Rattle.lock_engine_c.specs.Calls.{begun-on, stepped-on, ticked-on, fresh-on, has-size, fresh-answer, fresh-bytes, fresh-if-sized};
 
-const WOKEN_UNIT: u32 = 256;
+const WOKEN_UNIT: u64 = 256;
 
-const COMMITS_UNIT: u32 = 65536;
+const COMMITS_UNIT: u64 = 65536;
+
+const SET_UNIT: u64 = 4294967296;
 
 const NO_LIMIT: u32 = 0;
 
-pub(crate) fn packed(returned: u8, woken: u8, commits: bool) -> u32
-    ensures { λ r. ⌜ r ≡ packed-of returned woken commits ⌝ }
+pub(crate) fn packed(returned: u8, woken: u8, commits: bool, unparked: u32) -> u64
+    ensures { λ r. ⌜ r ≡ packed-of returned woken commits unparked ⌝ }
 {
+    let set = (unparked as u64) * SET_UNIT;
     if commits {
-        return (returned as u32) + (woken as u32) * WOKEN_UNIT + COMMITS_UNIT;
+        return (returned as u64) + (woken as u64) * WOKEN_UNIT + COMMITS_UNIT + set;
     }
-    (returned as u32) + (woken as u32) * WOKEN_UNIT
+    (returned as u64) + (woken as u64) * WOKEN_UNIT + set
 }
 
 fn answer_changes(answer: Answer) -> bool
@@ -86,10 +87,10 @@ pub(crate) fn store(bytes: &mut [u8], table: Table, changed: bool)
     }
 }
 
-// On bytes that are a table, the event on the table that they say. Nothing is stored where nothing changed, so that a refused event can be tried on
-// memory that may only be read; and no more than the two records where there is no more work. These are read from the bytes: to read them from the
-// table would copy it.
-fn handle_if_table(bytes: &mut [u8], event: Event, istable: bool) -> u32
+// On bytes that are a table, the event on the table that they say. Nothing is stored where nothing changed, so that a refused event, which leaves no
+// work, can be tried on memory that may only be read; and no more than the two records where there is no more work. These are read from the bytes: to
+// read them from the table would copy it.
+fn handle_if_table(bytes: &mut [u8], event: Event, istable: bool) -> u64
     ensures { λ r. ⌜ r ≡ event-answer istable (handle (table-of (now (bytes .entry))) event) ⌝ }
     ensures { λ _. ⌜ now (bytes .exit) ≡ event-over istable (now (bytes .entry)) (table-of (now (bytes .entry))) event ⌝ }
 {
@@ -101,24 +102,24 @@ fn handle_if_table(bytes: &mut [u8], event: Event, istable: bool) -> u32
         let number = event_object(event, own.object);
         let object = read_object(bytes, number);
         let turn = turn_with(table, event, issound, own, object);
-        let reply = turn.reply;
+        let ownafter = turn.own;
+        let objectafter = turn.object;
         let work = turn.work;
-        if reply_changes(reply) {
-            let ownafter = turn.own;
-            let objectafter = turn.object;
-            if work_stays(work) {
+        let reply = turn.reply;
+        let mut unparked: u32 = 0;
+        if work_stays(work) {
+            if reply_changes(reply) {
                 write_thread(bytes, thread, ownafter);
                 write_object(bytes, number, objectafter);
-            } else {
-                write_table(
-                    bytes,
-                    work_done(table, thread, number, ownafter, objectafter, work).table,
-                );
             }
+        } else {
+            let done = work_done(table, thread, number, ownafter, objectafter, work);
+            unparked = done.unparked;
+            write_table(bytes, done.table);
         }
-        return packed(returned(reply), woken(reply), turn.commits);
+        return packed(returned(reply), woken(reply), turn.commits, unparked);
     }
-    refusal_number(Refusal::NotSound) as u32
+    refusal_number(Refusal::NotSound) as u64
 }
 
 // With the right number of bytes, a fresh table as asked.
@@ -168,10 +169,10 @@ pub extern "C" fn duskclamp_fresh(
 
 // The thread begins the operation with this number on the object, without a limit. Refused, it leaves every byte.
 #[no_mangle]
-pub extern "C" fn duskclamp_begin(bytes: &mut [u8], thread: u32, operation: u32, object: u32) -> u32
+pub extern "C" fn duskclamp_begin(bytes: &mut [u8], thread: u32, operation: u32, object: u32) -> u64
     ensures { λ r. ⌜ r ≡ event-answer (is-table (now (bytes .entry))) (begun-on (now (bytes .entry)) thread operation object 0) ⌝ }
     ensures { λ _. ⌜ now (bytes .exit) ≡ event-bytes (is-table (now (bytes .entry))) (now (bytes .entry)) (begun-on (now (bytes .entry)) thread operation object 0) ⌝ }
-    ensures { λ r. ⌜ (first-refusal ≤ returned-in r → now (bytes .exit) ≡ now (bytes .entry)) ⌝ }
+    ensures { λ r. ⌜ RefusedTo (now (bytes .entry)) (now (bytes .exit)) r ⌝ }
 {
     let istable = is_table(bytes);
     let event = Event::Begin {
@@ -190,10 +191,10 @@ pub extern "C" fn duskclamp_timed_wait(
     thread: u32,
     object: u32,
     limit: u32,
-) -> u32
+) -> u64
     ensures { λ r. ⌜ r ≡ event-answer (is-table (now (bytes .entry))) (begun-on (now (bytes .entry)) thread timed-wait object limit) ⌝ }
     ensures { λ _. ⌜ now (bytes .exit) ≡ event-bytes (is-table (now (bytes .entry))) (now (bytes .entry)) (begun-on (now (bytes .entry)) thread timed-wait object limit) ⌝ }
-    ensures { λ r. ⌜ (first-refusal ≤ returned-in r → now (bytes .exit) ≡ now (bytes .entry)) ⌝ }
+    ensures { λ r. ⌜ RefusedTo (now (bytes .entry)) (now (bytes .exit)) r ⌝ }
 {
     let istable = is_table(bytes);
     let event = Event::Begin {
@@ -207,7 +208,7 @@ pub extern "C" fn duskclamp_timed_wait(
 
 // The thread takes one step. Refused, it leaves every byte; with 18 and 19, every byte but those of the thread's record.
 #[no_mangle]
-pub extern "C" fn duskclamp_step(bytes: &mut [u8], thread: u32) -> u32
+pub extern "C" fn duskclamp_step(bytes: &mut [u8], thread: u32) -> u64
     ensures { λ r. ⌜ r ≡ event-answer (is-table (now (bytes .entry))) (stepped-on (now (bytes .entry)) thread) ⌝ }
     ensures { λ _. ⌜ now (bytes .exit) ≡ event-bytes (is-table (now (bytes .entry))) (now (bytes .entry)) (stepped-on (now (bytes .entry)) thread) ⌝ }
     ensures { λ r. ⌜ RefusedLeaves (now (bytes .entry)) thread (now (bytes .exit)) r ⌝ }
@@ -221,10 +222,10 @@ pub extern "C" fn duskclamp_step(bytes: &mut [u8], thread: u32) -> u32
 
 // One tick of the clock. Refused, it leaves every byte.
 #[no_mangle]
-pub extern "C" fn duskclamp_tick(bytes: &mut [u8]) -> u32
+pub extern "C" fn duskclamp_tick(bytes: &mut [u8]) -> u64
     ensures { λ r. ⌜ r ≡ event-answer (is-table (now (bytes .entry))) (ticked-on (now (bytes .entry))) ⌝ }
     ensures { λ _. ⌜ now (bytes .exit) ≡ event-bytes (is-table (now (bytes .entry))) (now (bytes .entry)) (ticked-on (now (bytes .entry))) ⌝ }
-    ensures { λ r. ⌜ (first-refusal ≤ returned-in r → now (bytes .exit) ≡ now (bytes .entry)) ⌝ }
+    ensures { λ r. ⌜ RefusedTo (now (bytes .entry)) (now (bytes .exit)) r ⌝ }
 {
     let istable = is_table(bytes);
     handle_if_table(bytes, Event::Tick, istable)

@@ -14,7 +14,7 @@ ghost use Rattle.table_questions.specs.declared.asking.ThreadQuestion.the-varia
 ghost use Rattle.table_questions.specs.declared.asking.ObjectQuestion.the-variants.{WordOf, OwnerOf, DepthOf, FlagOf, HolderOf, MonitorDepthOf};
 ghost use Rattle.table_questions.specs.declared.asking.ObjectQuestion.the-variants.{EntryOf, ContentionOf, WaitingOf};
 
-const VERSION: u32 = 1024;
+const VERSION: u32 = 1280;
 
 // The library's version: major, minor and patch number in a byte each, the patch number lowest.
 #[no_mangle]

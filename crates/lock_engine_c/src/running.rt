@@ -84,14 +84,17 @@ pub extern "C" fn duskclamp_run(bytes: &mut [u8], events: &[u8], answers: &mut [
         let objectafter = turn.object;
         let work = turn.work;
         let reply = turn.reply;
+        let mut unparked: u32 = 0;
         if work_stays(work) {
             table.threads[place] = ownafter;
             table.objects[home] = objectafter;
         } else {
-            table = work_done(table, thread, number, ownafter, objectafter, work).table;
+            let worked = work_done(table, thread, number, ownafter, objectafter, work);
+            unparked = worked.unparked;
+            table = worked.table;
         }
         changed = changed | reply_changes(reply);
-        answers[done] = packed(returned(reply), woken(reply), turn.commits) as u64;
+        answers[done] = packed(returned(reply), woken(reply), turn.commits, unparked);
         at += EVENT_SIZE;
         done += 1;
     }

@@ -1,4 +1,5 @@
 -- The laws of performing.
+pub mod ThreadSets
 pub mod Lengths
 pub mod InPlace
 pub mod PartInPlace

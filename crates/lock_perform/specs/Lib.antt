@@ -1,6 +1,7 @@
 -- What a step does to the table's records, in document 01's words.
 pub mod State
 pub mod Sight
+pub mod ThreadSet
 pub mod Parting
 pub mod Moving
 pub mod Perform

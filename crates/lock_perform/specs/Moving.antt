@@ -22,7 +22,8 @@ use Rattle.lock_table.specs.declared.phase.Phase.the-variants.{GiveUp, Waiting,
 use Rattle.lock_table.specs.declared.record.ThreadRecord.{ThreadRecord}
 use Rattle.lock_table.specs.declared.record.Monitor.{Monitor}
 use Rattle.lock_table.specs.declared.record.Table.{Table}
-use Rattle.lock_perform.specs.Parting.{thread-set, no-parting, part-chain}
+use Rattle.lock_perform.specs.ThreadSet.{thread-set}
+use Rattle.lock_perform.specs.Parting.{no-parting, part-chain}
 use Rattle.lock_perform.specs.declared.moving.ChainPlan.{ChainPlan}
 
 -- cancel: the word's thread, if in phase 2 on this object, goes back to 1; its kept word falls out of use

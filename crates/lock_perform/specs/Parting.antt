@@ -1,8 +1,7 @@
 -- A chain parted in one pass: each of its threads stays in it or goes, and those that go are chained together or are in no chain. Who goes and what
 -- becomes of a record are functions of records.
-use Prim.Native.Nat.{ℕ, zero, suc, _-_, _^_}
+use Prim.Native.Nat.{ℕ, zero, suc}
 use mathlib.Core.Bool.{Bool}
-use lib.Dec.{eqb, ltb}
 use lib.Bits.{bitOr}
 use Rattle.laws.specs.Choice.{pick, within}
 use Rattle.chains.specs.Joining.{no-ends, grown}
@@ -12,11 +11,8 @@ use Rattle.lock_table.specs.Record.{with-next}
 use Rattle.lock_table.specs.Access.{thread-at, set-thread}
 use Rattle.lock_table.specs.declared.record.ThreadRecord.{ThreadRecord}
 use Rattle.lock_table.specs.declared.record.Table.{Table}
+use Rattle.lock_perform.specs.ThreadSet.{thread-set}
 use Rattle.lock_perform.specs.declared.parting.Parting.{Parting}
-
--- a set of threads has bit n - 1 for thread n: the set of one, of nobody for a number that has no record
-unfoldable pub thread-set : ℕ → ℕ
-thread-set thread = pick (eqb thread 0) 0 (pick (ltb thread-limit thread) 0 (2 ^ (thread - 1)))
 
 -- the chain of those that stay, that of those that go, and who goes
 abbrev pub no-parting : Parting

@@ -6,6 +6,7 @@ mod parting;
 mod performing;
 mod sighting;
 mod state;
+mod thread_set;
 
 pub use letting_out::let_out;
 pub use letting_out::let_out_by;

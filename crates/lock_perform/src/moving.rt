@@ -1,6 +1,6 @@
 // What the work of a rule on chains does to thread records and to the monitor of the step's object. No table is looked at: the engine, which has it
 // in one local, goes along the chains and asks here what becomes of each record.
-use crate::parting::thread_set;
+use crate::thread_set::thread_set;
 use chains::Chain;
 use lock_rules::ChainWork;
 use lock_rules::Taken;

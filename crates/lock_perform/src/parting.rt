@@ -1,26 +1,13 @@
 // A chain parted in one pass: each of its threads stays in it or goes, and those that go are chained together or are in no chain. No table is looked at:
 // who has it in a local goes along the chain and asks here who stands behind whom.
 use crate::moving::if_record;
+use crate::thread_set::thread_set;
 use chains::Ends;
 use chains::no_ends;
-use lock_table::THREADS;
 use lock_table::ThreadRecord;
 ghost use mathlib.Core.Path.{_≡_};
-ghost use Rattle.lock_perform.specs.Parting.{thread-set, no-parting, last-behind, taken-with, passed};
+ghost use Rattle.lock_perform.specs.Parting.{no-parting, last-behind, taken-with, passed};
 ghost use Rattle.lock_perform.specs.InPlace.{linked-to};
-
-// A set of threads has bit n - 1 for thread n. This one has the one thread, or nobody for a number that has no record.
-pub(crate) fn thread_set(thread: u8) -> u32
-    ensures { λ r. ⌜ r ≡ thread-set thread ⌝ }
-{
-    if thread == 0 {
-        return 0;
-    }
-    if THREADS < thread {
-        return 0;
-    }
-    1u32 << ((thread as u32) - 1)
-}
 
 // The chain of those that stay, that of those that go, if they go together, and the set of those that go.
 pub struct Parting {

@@ -2,7 +2,7 @@
 use Prim.Native.Nat.{ℕ, _≤_, _<_}
 use mathlib.Core.Path.{_≡_, refl, sym, ap, _∙_, subst}
 use mathlib.Core.Logic.{_⊎_, inl, inr}
-use mathlib.Core.Bool.{true}
+use mathlib.Core.Bool.{Bool, true, false}
 use mathlib.Core.List.{List, [], _∷_}
 use native.Mathlib.Omega.{arith}
 use lib.Dec.{eqb}
@@ -23,7 +23,7 @@ use Rattle.lock_rules.specs.declared.ChainWork.the-variants.{Stay, Join, JoinAn
 use Rattle.lock_rules.proofs.{Each.each-chain, ListSound.SoundTable}
 use Rattle.lock_rules.proofs.Objects.{ListObject, chain-of, with-chain}
 use Rattle.lock_rules.proofs.Perform.{count-entered-all, taken, left as left-list, first-of, changed-states, handed-object, moved-object, moved-states, let-out-states}
-use Rattle.lock_rules.proofs.Perform.{states-after, object-after, effected}
+use Rattle.lock_rules.proofs.Perform.{is-handed, states-after, unparks, object-after, effected}
 use Rattle.lock_rules.proofs.{Invariant.in-entry, LetOut.exit-is, LetOut.moved-from}
 use Rattle.lock_rules.proofs.Tables.{ListThread, ListTable}
 use Rattle.lock_rules.proofs.ListChains.{member-at, member-in, short, both-short}
@@ -41,6 +41,9 @@ use Rattle.lock_records.proofs.Written.{handed-written, moved-written}
 use Rattle.lock_records.proofs.Represents.{monitor-record, Represents, next-is}
 use Rattle.lock_records.proofs.Readings.{nobody, past-idle, first-is, chained as chained-in}
 use Rattle.lock_records.proofs.Moves.{change, Moves, Inside, moves-hang, moves-first, moves-send, moves-all}
+use Rattle.lock_perform.specs.ThreadSet.{thread-set, has-thread}
+use Rattle.lock_perform.proofs.ThreadSets.{has-none}
+use Rattle.lock_records.proofs.HandNames.{hand-names}
 use Rattle.lock_records.proofs.LetOuts.{let-outs-moves}
 use Rattle.lock_records.proofs.Placing.{sees, placed, placed-none, placed-before, placed-first, placed-all, placed-sent}
 
@@ -65,10 +68,13 @@ word-kept (Move from which) thread states o = let same = scalars-with from o _ i
 word-kept MoveAndLetOut thread states o = (refl, refl)
 word-kept (SendBack owner) thread states o = (refl, refl)
 
--- after a work at object o on table t: its threads are in these states, written with these links, and its monitor has these chains, holder and depth
-pub record Acted (given : ℕ → ThreadRecord) (t : Table) (lists : ListTable) (o : ℕ) (links : Links) (after : CarriedOut) (states : ℕ → ThreadState) (holder depth : ℕ) : Type 0 where
+-- after a work at object o on table t: its threads are in these states, written with these links, its monitor has these chains, holder and depth, and
+-- these are whom it names as unparked
+pub record Acted (given : ℕ → ThreadRecord) (t : Table) (lists : ListTable) (o : ℕ) (links : Links) (after : CarriedOut) (states : ℕ → ThreadState) (holder depth : ℕ) (named : ℕ → Bool)
+    : Type 0 where
   pub moves : Moves given t (after .table) (placed o (lists .threads) states) (links .next)
   pub monitor : after .monitor ≡ monitor-record o links holder depth
+  pub names : (n : ℕ) → has-thread (after .unparked) n ≡ named n
 
 -- the monitor of object o with other links
 module _ (o : ℕ) (links : Links) (holder depth : ℕ) where
@@ -250,10 +256,14 @@ module _ (threads objects : ℕ) (t : Table) (lists : ListTable) (represents : R
             out : (n : ℕ) → thread-limit < n → sent n ≡ t
             out n past = set-thread-out t n (sent-back-of o (thread-at t n)) (inr past)
 
+        -- whom a hand names
+        handed-names : (n : ℕ) → has-thread (thread-set (first Chain.Entry)) n ≡ is-handed now n
+        handed-names n = rw (headed Chain.Entry) (hand-names (list Chain.Entry) (inside Chain.Entry) n)
+
         -- all of a chain have moved to the entry chain
         acted-all : (from : Chain)
             → Acted (represents .given .thread) t lists o (move-links thread-limit (number o from) (number o Chain.Entry) (represents .links))
-            (after-whole t (first-in monitor from) monitor (Move from All) i o) (moved-states from All seen now) (effect .holder) (effect .depth)
+            (after-whole t (first-in monitor from) monitor (Move from All) i o) (moved-states from All seen now) (effect .holder) (effect .depth) (λ n. false)
         acted-all from =
             let recorded = first-recorded o (represents .links) (effect .holder) (effect .depth) from in
             let left : Links = record { next = represents .links .next; first = update (represents .links .first) (number o from) 0 } in
@@ -262,10 +272,11 @@ module _ (threads objects : ℕ) (t : Table) (lists : ListTable) (represents : R
             let queued = move-all thread-limit t (first from) in
             subst
             (λ (after : CarriedOut). Acted (represents .given .thread) t lists o (move-links thread-limit (number o from) (number o Chain.Entry) (represents .links)) after
-            (moved-states from All seen now) (effect .holder) (effect .depth)) (sym (moved-first from))
+            (moved-states from All seen now) (effect .holder) (effect .depth) (λ n. false)) (sym (moved-first from))
             (record {
               moves = rw (recorded, unwritten queued (thread-at queued 0), rest, same-list from) (all-moved from);
               monitor = rw (recorded, rest) (joined-recorded o left (effect .holder) (effect .depth) Chain.Entry (first from));
+              names = has-none;
             })
 
         -- and the exits are let out of it
@@ -305,35 +316,38 @@ module _ (threads objects : ℕ) (t : Table) (lists : ListTable) (represents : R
         acted-out : let after = after-whole t (first-in monitor Chain.Contention) monitor (Move Chain.Contention All) i o in
             let moves = moved-states Chain.Contention All seen now in
             Acted (represents .given .thread) t lists o (drop-links thread-limit (λ n. is-queued-exit (moves n)) (number o Chain.Entry) queue-links)
-            (let-outs (after .table) (after .monitor)) (let-out-states moves) (effect .holder) (effect .depth)
+            (let-outs (after .table) (after .monitor)) (let-out-states moves) (effect .holder) (effect .depth) (λ n. is-queued-exit (moves n))
         acted-out =
             let base = acted-all Chain.Contention in
             let after = after-whole t (first-in monitor Chain.Contention) monitor (Move Chain.Contention All) i o in
             let moves = moved-states Chain.Contention All seen now in
-            let (out, left) = let-outs-moves o (lists .threads) moves (queue .entry) (λ n h. queue-from (lists .threads n .object ≡ o) n h (λ chain. home chain n)) exit-queued
+            let (out, left, names) = let-outs-moves o (lists .threads) moves (queue .entry) (λ n h. queue-from (lists .threads n .object ≡ o) n h (λ chain. home chain n)) exit-queued
             (represents .given .thread) t (after .table) (queue-links .next) (queue-links .first (number o Chain.Entry)) (base .moves) queue-chained queue-short
             (λ n h. queue-from ((0 < n) × (n ≤ thread-limit)) n h (λ chain. inside chain n)) in
             subst
             (λ (m : Monitor). Acted (represents .given .thread) t lists o (drop-links thread-limit (λ n. is-queued-exit (moves n)) (number o Chain.Entry) queue-links)
-            (let-outs (after .table) m) (let-out-states moves) (effect .holder) (effect .depth)) (sym (base .monitor))
+            (let-outs (after .table) m) (let-out-states moves) (effect .holder) (effect .depth) (λ n. is-queued-exit (moves n))) (sym (base .monitor))
             (record {
               moves = out;
               monitor = ap (λ (ends : Ends). with-first (monitor-record o queue-links (effect .holder) (effect .depth)) Chain.Entry (ends .first)) left
                   ∙ left-recorded o queue-links (effect .holder) (effect .depth) Chain.Entry _;
+              names = names;
             })
 
         pub acted : (work : ChainWork)
             → Acted (represents .given .thread) t lists o (work-links (λ n. is-queued-exit (moved-states Chain.Contention All seen now n)) i o work (represents .links))
             (carry-out t monitor work i o) (states-after work seen now) (object-after work i seen now .holder) (object-after work i seen now .depth)
+            (unparks work seen now)
         unfolding after-whole
         acted Stay =
-            record { moves = rw (unwritten t (thread-at t 0), hang-none thread-limit t 0, ← (placed-none o (lists .threads))) begun; monitor = refl }
+            record { moves = rw (unwritten t (thread-at t 0), hang-none thread-limit t 0, ← (placed-none o (lists .threads))) begun; monitor = refl; names = has-none }
         acted (Join chain) =
             let same : SameScalars now (object-after (Join chain) i seen now) = scalars-with chain now _ in
             record {
               moves = rw (unwritten t (thread-at t 0), first-recorded o (represents .links) (effect .holder) (effect .depth) chain, ← (placed-none o (lists .threads)))
                   (moves-hang (represents .given .thread) t t (lists .threads) (represents .links .next) begun (list chain) (first chain) i (chained chain) (brief chain) (inside chain));
               monitor = rw (same .holder, same .depth) (joined-recorded o (represents .links) (effect .holder) (effect .depth) chain i);
+              names = has-none;
             }
         acted (JoinAndHand chain) =
             let same : SameScalars (handed-object now) (object-after (JoinAndHand chain) i seen now) = scalars-with chain (handed-object now) _ in
@@ -342,12 +356,14 @@ module _ (threads objects : ℕ) (t : Table) (lists : ListTable) (represents : R
                   (hung-left Chain.Entry chain i _ _ (leaves Chain.Entry handed-of handed refl handed-written));
               monitor = rw (same .holder, same .depth, ← holds, after-hand)
                   (joined-recorded o (leave-links (number o Chain.Entry) (represents .links)) (first Chain.Entry) 0 chain i);
+              names = handed-names;
             }
         acted Hand =
             record {
               moves = rw (hang-none thread-limit (set-thread t (first Chain.Entry) (handed-of (thread-at t (first Chain.Entry)))) 0)
                   (leaves Chain.Entry handed-of handed refl handed-written);
               monitor = rw (← holds) after-hand;
+              names = handed-names;
             }
         acted (Move from First) =
             let same : SameScalars now (with-chain from now (left-list First (chain-of from now))) = scalars-with from now _ in
@@ -362,6 +378,7 @@ module _ (threads objects : ℕ) (t : Table) (lists : ListTable) (represents : R
                   (leaves from (λ (thread : ThreadRecord). with-next (moved-record thread) 0) moved refl moved-alone));
               monitor = rw (same .holder, same .depth, recorded, rest)
                   (joined-recorded o left (effect .holder) (effect .depth) Chain.Entry (first from));
+              names = has-none;
             }
         acted (Move from All) =
             let same : SameScalars now (with-chain from now []) = scalars-with from now _ in
@@ -375,4 +392,5 @@ module _ (threads objects : ℕ) (t : Table) (lists : ListTable) (represents : R
                 ← (placed-sent o (lists .threads) owner),
               ) (moves-send (represents .given .thread) t t (lists .threads) (represents .links .next) begun o owner outside);
               monitor = refl;
+              names = has-none;
             }

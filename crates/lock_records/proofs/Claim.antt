@@ -71,9 +71,12 @@ owner-small threads Fat holder depth fine small = by-test (λ (n : ℕ). n ≤ t
 owner-small threads (Flat thread count) holder depth fine small = fine .1
 owner-small threads (Reserved thread count) holder depth fine small = by-test (λ (n : ℕ). n ≤ threads) (eqb count 0) (λ e. omega arith) (λ e. fine .1)
 
--- a thread that can take a step is neither idle nor parked
+-- a thread that can take a step is neither parked nor idle
+abbrev pub UnparkedPhase : ℕ → Type 0
+UnparkedPhase phase = (phase ≢ 5) × (phase ≢ 8) × (phase ≢ 14)
+
 abbrev pub Steps : ℕ → Type 0
-Steps phase = ((phase ≢ 5) × (phase ≢ 8) × (phase ≢ 14)) × (phase ≢ 0)
+Steps phase = UnparkedPhase phase × (phase ≢ 0)
 
 pub doing-steps : (doing : Doing) → Steps (phase-of-doing doing)
 doing-steps = each-doing _ (search arith)

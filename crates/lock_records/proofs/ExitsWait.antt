@@ -1,7 +1,7 @@
 -- A thread parked inside an exit, by its record, is a queued exit, and so waits for the holder that the lists have.
 use Prim.Native.Nat.{ℕ}
 use mathlib.Core.Path.{_≡_, refl, sym, ap, _∙_}
-use mathlib.Core.Logic.{_≢_, _⊎_}
+use mathlib.Core.Logic.{_≢_}
 use native.Mathlib.Omega.{arith}
 use lib.Dec.{T}
 use Rattle.laws.proofs.Choice.{either-way}
@@ -11,7 +11,7 @@ use Rattle.lock_rules.specs.declared.ThreadState.{ThreadState}
 use Rattle.lock_rules.specs.declared.OnwardStep.the-variants.{ToTell}
 use Rattle.lock_rules.specs.declared.ThreadState.the-variants.{Queued}
 use Rattle.lock_rules.proofs.Each.{each-limit, each-suspension, each-state, each-carried}
-use Rattle.lock_rules.proofs.Status.{unparked, unfinished}
+use Rattle.lock_rules.proofs.Status.{unfinished, Runs}
 use Rattle.lock_rules.proofs.Tables.{ListTable, states-at, seen-here}
 use Rattle.lock_rules.proofs.Lift.{ghost-at, World}
 use Rattle.lock_rules.proofs.LetOut.{HolderRuns, exit-waits}
@@ -25,24 +25,18 @@ use Rattle.lock_records.specs.ExitsWait.{ParkedInExit, WaitsForBusyHolde
 use Rattle.lock_records.proofs.Represents.{monitor-record, Represents}
 use Rattle.lock_records.proofs.Readings.{busy-in, thread-is, home-is}
 use Rattle.lock_records.proofs.Claim.{phase-is, doing-steps, Steps, steps-unparked}
+use Rattle.lock_records.proofs.Parking.{ParkedPhase, not-both, idle-unparked}
 
 -- a parked phase, and an exit's operation: none but a queued exit has both
-abbrev Parked : ℕ → Type 0
-Parked phase = (phase ≡ 5) ⊎ ((phase ≡ 8) ⊎ (phase ≡ 14))
-
-unparked-phase : {A : Type 0} (phase : ℕ) → phase ≢ 5 → phase ≢ 8 → phase ≢ 14 → Parked phase → A
-unparked-phase phase five eight fourteen parked =
-    either-way parked (λ e. absurd (five e)) (λ more. either-way more (λ e. absurd (eight e)) (λ e. absurd (fourteen e)))
-
 not-exit : {A : Type 0} (number : ℕ) → number ≢ 2 → number ≡ 2 → A
 not-exit number other is = absurd (other is)
 
-exit-parked : (n o : ℕ) (state : ThreadState) → operation-number (write-activity n o state .operation) ≡ 2 → Parked (phase-of state) → state ≡ Queued ToTell
+exit-parked : (n o : ℕ) (state : ThreadState) → operation-number (write-activity n o state .operation) ≡ 2 → ParkedPhase (phase-of state) → state ≡ Queued ToTell
 unfolding write-activity carried-activity wait-activity operation-number
 exit-parked n o =
     each-state _ (
-      λ exit parked. unparked-phase 0 (λ e. omega (arith, e)) (λ e. omega (arith, e)) (λ e. omega (arith, e)) parked,
-      λ doing exit parked. (let (free, busy) = doing-steps doing in unparked-phase (phase-of-doing doing) (free .0) (free .1) (free .2) parked),
+      λ exit parked. not-both 0 parked idle-unparked,
+      λ doing exit parked. not-both (phase-of-doing doing) parked (doing-steps doing .0),
       each-carried _ (
         λ exit parked. not-exit 1 (λ e. omega (arith, e)) exit,
         λ exit parked. refl,
@@ -79,7 +73,7 @@ module _ (threads objects : ℕ) (t : Table) (lists : ListTable) (represents : R
   holder-there : lists .threads holder .object ≡ home
   holder-there = either-way (seen-or-at home (lists .threads holder)) (λ idle. absurd (rw idle at (waits .runs .1))) (λ there. there)
 
-  holder-runs : T (unparked (lists .threads holder .state)) × T (unfinished (lists .threads holder .state))
+  holder-runs : Runs (lists .threads holder .state)
   holder-runs = rw (seen-here home (lists .threads holder) holder-there) at (waits .runs)
 
   monitor-is : object-at t (thread-at t n .object) .monitor ≡ monitor-record home (represents .links) holder (lists .objects home .depth)

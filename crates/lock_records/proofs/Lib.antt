@@ -6,6 +6,7 @@ pub mod Represents
 pub mod Readings
 pub mod Moves
 pub mod Placing
+pub mod HandNames
 pub mod PartWalk
 pub mod LetOuts
 pub mod Actions
@@ -18,6 +19,7 @@ pub mod Operations
 pub mod RecordKind
 pub mod FreshRecords
 pub mod Claim
+pub mod Parking
 pub mod ExitsWait
 pub mod Ruled
 pub mod Naming

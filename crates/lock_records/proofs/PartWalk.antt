@@ -1,4 +1,4 @@
--- The walk that parts a chain, on records: the threads that it writes are changed, and the next indexes part their chain.
+-- The walk that parts a chain, on records: the threads that it writes are changed, the next indexes part their chain, and its set is of those that go.
 use Prim.Native.Nat.{ℕ, zero, suc, _≤_, _<_}
 use mathlib.Core.Path.{_≡_, refl, sym, ap, _∙_}
 use mathlib.Core.Logic.{_≢_, _⊎_, inl, inr}
@@ -12,6 +12,7 @@ use Rattle.laws.specs.{Choice.pick, Update.update, Count.count}
 use Rattle.laws.proofs.Choice.{either-way, equal?, by-test}
 use Rattle.laws.proofs.Update.{update-other, update-id}
 use Rattle.laws.proofs.Count.{count-none, count-same, count-other, count-append}
+use Rattle.laws.proofs.Filter.{passing}
 use Rattle.chains.specs.Joining.{no-ends}
 use Rattle.chains.proofs.Chain.{Chain, chain-head, last-member, chain-first-once}
 use Rattle.chains.proofs.Parting.{Parted, behind, part, end, Midway, part-start, midway-passes, midway-fails}
@@ -24,6 +25,7 @@ use Rattle.lock_table.specs.declared.record.{ThreadRecord.ThreadRecord, Table.T
 use Rattle.lock_table.proofs.Records.{set-thread-out}
 use Rattle.lock_perform.specs.Parting.{PartedChain, no-parting, last-behind, taken-with, passed, part-chain}
 use Rattle.lock_perform.specs.declared.parting.Parting.{Parting}
+use Rattle.lock_perform.proofs.ThreadSets.{set-with}
 use Rattle.lock_records.proofs.Represents.{thread-record, record-is}
 use Rattle.lock_records.proofs.Moves.{change, Moves, Inside, moves-set}
 
@@ -98,37 +100,40 @@ module _ (goes : ThreadRecord → Bool) (after : ThreadRecord → Bool → Threa
       ap (λ (thread : ThreadRecord). after thread b) (record-is given t threads next (moves .written) x) ∙ becomes in
       rw same (moves-link given before _ _ _ (moves-set given before t threads next moves x low high (change f (threads x)) 0) (last-behind parting b) x ends)
 
-  -- what is shown of a walk
-  abbrev Result : PartedChain → (ℕ → ListThread) → Parted → Type 0
-  Result walked threads p = Moves given before (walked .table) threads (p .next) × (walked .parting .left ≡ p .left) × (walked .parting .taken ≡ p .taken)
+  -- what is shown of a walk; `out` are those that went
+  abbrev Result : PartedChain → (ℕ → ListThread) → Parted → ℕ → List ℕ → Type 0
+  Result walked threads p set out =
+      Moves given before (walked .table) threads (p .next) × (walked .parting .left ≡ p .left) × (walked .parting .taken ≡ p .taken)
+      × (walked .parting .set ≡ set-with set out)
 
-  abbrev Walked : (ℕ → ℕ) → (ℕ → Bool) → ℕ → ℕ → Table → (ℕ → ListThread) → (ℕ → ℕ) → Parting → Type 0
-  Walked next₀ test fuel at t threads next parting =
+  abbrev Walked : (ℕ → ℕ) → (ℕ → Bool) → List ℕ → ℕ → ℕ → Table → (ℕ → ListThread) → (ℕ → ℕ) → Parting → Type 0
+  Walked next₀ test list fuel at t threads next parting =
       Result (part-chain goes after together fuel t parting at) (walk fuel next₀ (change f) threads at)
-      (part fuel together test next (parting .left) (parting .taken) at)
+      (part fuel together test next (parting .left) (parting .taken) at) (parting .set) (passing test list)
 
   -- one turn, either way
-  either-turn : (next₀ : ℕ → ℕ) (test : ℕ → Bool) (fuel x here : ℕ) (t : Table) (threads : ℕ → ListThread) (next : ℕ → ℕ) (parting : Parting) (b : Bool)
+  either-turn : (next₀ : ℕ → ℕ) (test : ℕ → Bool) (rest : List ℕ) (fuel x here : ℕ) (t : Table) (threads : ℕ → ListThread) (next : ℕ → ℕ) (parting : Parting) (b : Bool)
       → here ≡ next x
       → let changed = update threads x (change f (threads x)) in
       Moves given before (linked-after t x parting b) changed (behind next (last-behind parting b) x)
       → (Moves given before (linked-after t x parting true) changed (behind next (parting .taken .last) x)
-      → Walked next₀ test fuel (next x) (linked-after t x parting true) changed (behind next (parting .taken .last) x) (passed together parting true x))
+      → Walked next₀ test rest fuel (next x) (linked-after t x parting true) changed (behind next (parting .taken .last) x) (passed together parting true x))
       → (Moves given before (linked-after t x parting false) changed (behind next (parting .left .last) x)
-      → Walked next₀ test fuel (next x) (linked-after t x parting false) changed (behind next (parting .left .last) x) (passed together parting false x))
+      → Walked next₀ test rest fuel (next x) (linked-after t x parting false) changed (behind next (parting .left .last) x) (passed together parting false x))
       → Result (part-chain goes after together fuel (linked-after t x parting b) (passed together parting b x) here) (walk fuel next₀ (change f) changed (next x))
       (pick b (part fuel together test (behind next (parting .taken .last) x) (parting .left) (taken-with together (parting .taken) x) (next x))
       (part fuel together test (behind next (parting .left .last) x) (passed together parting false x .left) (parting .taken) (next x)))
+      (parting .set) (pick b (x ∷ passing test rest) (passing test rest))
   unfolding last-behind passed
-  either-turn next₀ test fuel x here t threads next parting true is moves goes-on stays = rw is (goes-on moves)
-  either-turn next₀ test fuel x here t threads next parting false is moves goes-on stays = rw is (stays moves)
+  either-turn next₀ test rest fuel x here t threads next parting true is moves goes-on stays = rw is (goes-on moves)
+  either-turn next₀ test rest fuel x here t threads next parting false is moves goes-on stays = rw is (stays moves)
 
   -- what a walk along `list` from `at` on does, whoever has left or stayed before
   abbrev WalksOn : (ℕ → ℕ) → (ℕ → Bool) → List ℕ → ℕ → ℕ → Type 0
   WalksOn next₀ test list fuel at =
       (t : Table) (threads : ℕ → ListThread) (next : ℕ → ℕ) (parting : Parting) (lefts takens : List ℕ) → Moves given before t threads next
       → Midway together next (parting .left) (parting .taken) at lefts takens list → Inside lefts → Inside takens → Becomes goes after f given threads test list
-      → Walked next₀ test fuel at t threads next parting
+      → Walked next₀ test list fuel at t threads next parting
 
   -- one thread, then the rest
   turn : (next₀ : ℕ → ℕ) (test : ℕ → Bool) (x : ℕ) (rest : List ℕ) (fuel at : ℕ) → Chain next₀ at (x ∷ rest) → (0 < x) × (x ≤ thread-limit)
@@ -142,7 +147,7 @@ module _ (goes : ThreadRecord → Bool) (after : ThreadRecord → Bool → Threa
       let same : next₀ x ≡ next x = chain-head next₀ (next₀ x) rest (chain .2) ∙ sym (chain-head next (next x) rest (midway .rest .2)) in
       let rest-becomes = becomes-later test x rest threads next at (midway .rest) becomes in
       rw (midway .rest .0, le-leb 1 x low, le-leb x thread-limit high, ne-eqb x 0 (midway .rest .1), asked, same)
-      (either-turn next₀ test fuel x (thread-at t x .next) t threads next parting (test x) on
+      (either-turn next₀ test rest fuel x (thread-at t x .next) t threads next parting (test x) on
       (thread-moves t threads next moves x parting (test x) low high (ends-in parting lefts takens midway left-in taken-in (test x)) changes)
       (λ moved. (rw same at on-rest) _ _ _ (passed together parting true x) lefts (takens ++ (x ∷ [])) moved
       (midway-passes together next (parting .left) (parting .taken) at lefts takens x rest midway) left-in (grown-in takens x taken-in (low, high)) rest-becomes)
@@ -152,9 +157,9 @@ module _ (goes : ThreadRecord → Bool) (after : ThreadRecord → Bool → Threa
   walks-on : (next₀ : ℕ → ℕ) (test : ℕ → Bool) (list : List ℕ) (fuel at : ℕ) → Chain next₀ at list → length list ≤ fuel → Inside list
       → WalksOn next₀ test list fuel at
   unfolding part-chain part walk count
-  walks-on next₀ test [] zero at chain short inside t threads next parting lefts takens moves midway left-in taken-in becomes = (moves, refl, refl)
+  walks-on next₀ test [] zero at chain short inside t threads next parting lefts takens moves midway left-in taken-in becomes = (moves, refl, refl, refl)
   walks-on next₀ test [] (suc fuel) at chain short inside t threads next parting lefts takens moves midway left-in taken-in becomes =
-      rw (midway .rest) (moves, refl, refl)
+      rw (midway .rest) (moves, refl, refl, refl)
   walks-on next₀ test (x ∷ rest) zero at chain short inside t threads next parting lefts takens moves midway left-in taken-in becomes =
       absurd (omega (arith, short))
   walks-on next₀ test (x ∷ rest) (suc fuel) at chain short inside t threads next parting lefts takens moves midway left-in taken-in becomes =
@@ -168,5 +173,6 @@ module _ (goes : ThreadRecord → Bool) (after : ThreadRecord → Bool → Threa
       → let walked = part-chain goes after together fuel t no-parting at in
       let p = part fuel together test next no-ends no-ends at in
       Moves given before (walked .table) (walk fuel next (change f) threads at) (p .next) × (walked .parting .left ≡ p .left) × (walked .parting .taken ≡ p .taken)
+      × (walked .parting .set ≡ set-with 0 (passing test list))
   walk-moves next test list fuel at chain short inside t threads moves =
       walks-on next test list fuel at chain short inside t threads next no-parting [] [] moves (part-start together next at list chain) none-in none-in

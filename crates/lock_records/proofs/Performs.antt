@@ -11,7 +11,7 @@ use Rattle.lock_rules.specs.declared.{Doing.Doing, ThreadState.ThreadState, Eff
 use Rattle.lock_rules.specs.declared.ThreadState.the-variants.{Running}
 use Rattle.lock_rules.specs.declared.Action.the-variants.{Unruled, Do}
 use Rattle.lock_rules.proofs.Objects.{ListObject}
-use Rattle.lock_rules.proofs.Perform.{perform, states-after, object-after, effected}
+use Rattle.lock_rules.proofs.Perform.{perform, states-after, unparks, action-unparks, object-after, effected}
 use Rattle.lock_rules.proofs.Tables.{ListThread, ListTable, states-at, put-back}
 use Rattle.chains.specs.declared.named.Chain.{Chain}
 use Rattle.lock_rules.proofs.ListChains.{times-in, short, both-short, out-of-chain}
@@ -21,6 +21,7 @@ use Rattle.lock_table.specs.Access.{thread-at, set-thread, object-at, set-objec
 use Rattle.lock_table.specs.declared.record.{ObjectRecord.ObjectRecord, Table.Table}
 use Rattle.lock_perform.specs.State.{write-thread}
 use Rattle.lock_perform.specs.Moving.{CarriedOut, carry-out}
+use Rattle.lock_perform.specs.{ThreadSet.has-thread, Perform.object-after as object-after-record}
 use Rattle.lock_perform.proofs.Performed.{perform-of}
 use Rattle.lock_records.proofs.Numbering.{lists-of, list-at, by-number, work-links, Room, represent-work, goes, lists-work}
 use Rattle.lock_records.proofs.Written.{word-written, word-changed}
@@ -86,7 +87,7 @@ module _ (threads objects : ℕ) (t : Table) (lists : ListTable) (represents : R
   -- a step at object o
   module _ (o : ℕ) (home : lists .threads i .object ≡ o) (real : 1 ≤ o) (small : o ≤ objects) (unchained : Unchained (lists .threads i .state)) where
     -- no rule fits: nothing changes
-    pub unruled-represents : Represents threads objects t (put-back lists o (perform i (states-at lists o) (lists .objects o) Unruled) .table)
+    pub unruled-represents : Represents threads objects t (put-back lists o (perform i (states-at lists o) (lists .objects o) Unruled))
     unruled-represents =
         subst (Represents threads objects t)
         (λ j. record { threads = placed-none o (lists .threads) j; objects = sym (update-id (lists .objects) o (lists .objects o) refl) j }) represents
@@ -123,6 +124,7 @@ module _ (threads objects : ℕ) (t : Table) (lists : ListTable) (represents : R
           (represent-work (goes (lists .objects) (states-at lists o) i o effect) i o (represents .links) (lists-of (lists .objects)) (represents .chains) (room unchained) (effect .work))
 
       action : Acted (represents .given .thread) t lists o links moved (states-after (effect .work) (states-at lists o) now) (new .holder) (new .depth)
+          (unparks (effect .work) (states-at lists o) now)
       action = acted threads objects t lists represents sound o i effect (effect .work)
 
       threads-after : Moves (represents .given .thread) t own-written (placed o (lists .threads) states) (links .next)
@@ -144,12 +146,12 @@ module _ (threads objects : ℕ) (t : Table) (lists : ListTable) (represents : R
           λ j. with-flag (with-monitor (with-word (represents .given .object o) (word-written o (sym same-word j))) (action .monitor j)) (sym same-flag j)
 
       effect-represents : Represents threads objects (set-object own-written o object-written)
-          (put-back lists o (perform i (states-at lists o) (lists .objects o) (Do effect)) .table)
+          (put-back lists o (perform i (states-at lists o) (lists .objects o) (Do effect)))
       effect-represents = replaced-represents threads objects t lists represents o real small new links own-written states object-written represented threads-after written-is
 
       -- the effect on the records as they are: the word is changed by its bits
       pub perform-represents : Represents threads objects (perform-of t i o (object-at t o) effect)
-          (put-back lists o (perform i (states-at lists o) (lists .objects o) (Do effect)) .table)
+          (put-back lists o (perform i (states-at lists o) (lists .objects o) (Do effect)))
       perform-represents =
           rw (
             represents .object-is o real small,
@@ -157,3 +159,8 @@ module _ (threads objects : ℕ) (t : Table) (lists : ListTable) (represents : R
                 (sound .sound o .word) (effect .word),
           )
           effect-represents
+
+      -- and whom it names
+      pub perform-names : (n : ℕ) → has-thread (carry-out t (object-after-record i o (object-at t o) effect .monitor) (effect .work) i o .unparked) n
+          ≡ action-unparks i (states-at lists o) (lists .objects o) (Do effect) n
+      perform-names n = rw (represents .object-is o real small) (action .names n)

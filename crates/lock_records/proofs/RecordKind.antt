@@ -7,7 +7,7 @@ use Rattle.lock_word.specs.Read.{read-word}
 use Rattle.lock_word.specs.declared.reading.Decoded.{Decoded}
 use Rattle.lock_word.specs.declared.reading.Decoded.the-variants.{Valid, Invalid}
 use Rattle.lock_rules.specs.Rules.{begun, decide}
-use Rattle.lock_rules.proofs.{Status.unfinished, Objects.sight-of, Perform.perform, ListSound.SoundTable, SoundKept.sound-turn}
+use Rattle.lock_rules.proofs.{Status.unfinished, Objects.sight-of, ListSound.SoundTable, SoundKept.sound-turn}
 use Rattle.lock_rules.specs.declared.event.Event.{Event}
 use Rattle.lock_rules.specs.Events.{Refused, Answered}
 use Rattle.lock_rules.specs.Operations.{Operation}
@@ -16,30 +16,35 @@ use Rattle.lock_rules.specs.declared.ThreadState.the-variants.{Idle, Running}
 use Rattle.lock_rules.specs.declared.Answer.the-variants.{NoRule}
 use Rattle.lock_rules.specs.declared.Action.the-variants.{Unruled, Do}
 use Rattle.lock_rules.proofs.TableKinds.{TurnOf, Kind, turn-on}
-use Rattle.lock_rules.proofs.Tables.{ListTable, states-at, put-back, begin-at, step-at, turn}
-use Rattle.lock_rules.proofs.Simulation.{Simulates, simulated-turn}
+use Rattle.lock_rules.proofs.Tables.{ListTable, acted-at, begin-at, step-at, turn}
+use Rattle.lock_rules.proofs.Simulation.{SameTurnOf, Simulates, simulated-turn}
 use Rattle.lock_table.specs.Access.{thread-at, set-thread, object-at}
 use Rattle.lock_table.specs.Record.{with-activity}
 use Rattle.lock_table.specs.declared.record.{Activity.Activity, ObjectRecord.ObjectRecord, Table.Table}
 use Rattle.lock_perform.specs.State.{read-thread}
 use Rattle.lock_perform.specs.Sight.{sight-at}
+use Rattle.lock_perform.specs.{Moving.carry-out, Perform.object-after, ThreadSet.has-thread}
 use Rattle.lock_perform.proofs.Performed.{perform-of}
 use Rattle.lock_records.proofs.Represents.{Represents}
 use Rattle.lock_records.proofs.Readings.{busy-in, state-is, home-is, word-is, sight-is}
-use Rattle.lock_records.proofs.Performs.{running-unchained, begin-represents, unruled-represents, perform-represents}
+use Rattle.lock_records.proofs.Performs.{running-unchained, begin-represents, unruled-represents, perform-represents, perform-names}
 use Rattle.lock_records.proofs.Operations.{begun-activity, begun-written}
-use Rattle.lock_records.proofs.TickRepresents.{tick-represents}
+use Rattle.lock_records.proofs.TickRepresents.{tick-represents, tick-names}
 use Rattle.lock_work.specs.Tick.{tick}
 
 -- what a rule decided, carried out by thread n on the object of this number
 abbrev pub step-acts : Table → ℕ → ℕ → ObjectRecord → Action → TurnOf Table
-step-acts t n number object Unruled = record { table = t; reply = Answered NoRule false }
+step-acts t n number object Unruled = record { table = t; reply = Answered NoRule false; unparked = λ m. false }
 step-acts t n number object (Do effect) =
-    record { table = perform-of t n number object effect; reply = Answered (effect .answer) (effect .commits) }
+    record {
+      table = perform-of t n number object effect;
+      reply = Answered (effect .answer) (effect .commits);
+      unparked = has-thread (carry-out t (object-after n number object effect .monitor) (effect .work) n number .unparked);
+    }
 
 -- 11 for a word that is none, which no sound table has
 abbrev pub step-reads : Table → ℕ → ℕ → ObjectRecord → Doing → Decoded → TurnOf Table
-step-reads t n number object doing Invalid = record { table = t; reply = Refused 11 }
+step-reads t n number object doing Invalid = record { table = t; reply = Refused 11; unparked = λ m. false }
 step-reads t n number object doing (Valid word) = step-acts t n number object (decide n (sight-at t object word) doing)
 
 abbrev pub step-records : Table → ℕ → Doing → TurnOf Table
@@ -53,7 +58,14 @@ begin-records t operation limit n o = set-thread t n (with-activity (thread-at t
 
 abbrev pub record-kind : Kind
 record-kind =
-    record { Table = Table; state = λ t n. read-thread (thread-at t n); begins = begin-records; steps = step-records; ticks = tick }
+    record {
+      Table = Table;
+      state = λ t n. read-thread (thread-at t n);
+      begins = begin-records;
+      steps = step-records;
+      ticks = λ t. tick t .table;
+      unparks = λ t. has-thread (tick t .unparked);
+    }
 
 module _ (threads objects : ℕ) (t : Table) (lists : ListTable) (represents : Represents threads objects t lists) (sound : SoundTable threads objects lists)
     (n : ℕ) (low : 1 ≤ n) (high : n ≤ threads) where
@@ -64,20 +76,23 @@ module _ (threads objects : ℕ) (t : Table) (lists : ListTable) (represents : R
       (begun-written n o limit operation)
       (begin-represents threads objects t lists represents sound n low high (record { object = o; state = Running (begun operation limit) }))
 
-  -- the same table and the same reply
+  -- the same table, the same reply, and the same threads unparked
   abbrev Alike : TurnOf Table → TurnOf ListTable → Type 0
-  Alike a b = Represents threads objects (a .table) (b .table) × (a .reply ≡ b .reply)
+  Alike = SameTurnOf record-kind (Represents threads objects)
 
   module _ (doing : Doing) (running : lists .threads n .state ≡ Running doing) where
     abbrev home : ℕ
     home = lists .threads n .object
 
     acts-alike : 1 ≤ home → home ≤ objects → (action : Action)
-        → Alike (step-acts t n home (object-at t home) action) (put-back lists home (perform n (states-at lists home) (lists .objects home) action))
+        → Alike (step-acts t n home (object-at t home) action) (acted-at lists home n action)
     acts-alike real small Unruled =
-        (unruled-represents threads objects t lists represents sound n low high home refl real small (rw running (running-unchained doing)), refl)
-    acts-alike real small (Do effect) =
-        (perform-represents threads objects t lists represents sound n low high home refl real small (rw running (running-unchained doing)) effect, refl)
+        (unruled-represents threads objects t lists represents sound n low high home refl real small (rw running (running-unchained doing)), refl, λ m. refl)
+    acts-alike real small (Do effect) = (
+      perform-represents threads objects t lists represents sound n low high home refl real small (rw running (running-unchained doing)) effect,
+      refl,
+      perform-names threads objects t lists represents sound n low high home refl real small (rw running (running-unchained doing)) effect,
+    )
 
     steps-alike : Alike (step-records t n doing) (step-at lists n doing)
     steps-alike =
@@ -98,17 +113,18 @@ sound-simulates threads objects =
       begins = λ t lists represents sound operation limit n o low high real small idle.
           begins-alike threads objects t lists represents sound n low high operation limit o idle;
       steps = λ t lists represents sound n doing low high running. steps-alike threads objects t lists represents sound n low high doing running;
-      ticks = tick-represents threads objects;
+      ticks = λ t lists represents sound. (tick-represents threads objects t lists represents sound, tick-names threads objects t lists represents sound);
       keeps = λ lists event sound. sound-turn threads objects lists sound event;
     }
 
--- so an event on a represented sound table represents the same event, gives the same reply, and keeps both
+-- so an event on a represented sound table represents the same event, gives the same reply, names the same threads, and keeps both
 pub turn-represents : (threads objects : ℕ) (t : Table) (lists : ListTable) → Represents threads objects t lists → SoundTable threads objects lists
     → (event : Event)
     → Represents threads objects (turn-on record-kind threads objects t event .table) (turn threads objects lists event .table)
     × SoundTable threads objects (turn threads objects lists event .table)
     × (turn-on record-kind threads objects t event .reply ≡ turn threads objects lists event .reply)
+    × ((n : ℕ) → turn-on record-kind threads objects t event .unparked n ≡ turn threads objects lists event .unparked n)
 turn-represents threads objects t lists represents sound event =
-    let (after, same) = simulated-turn record-kind threads objects (Represents threads objects) (SoundTable threads objects) (sound-simulates threads objects)
+    let (after, same, named) = simulated-turn record-kind threads objects (Represents threads objects) (SoundTable threads objects) (sound-simulates threads objects)
     t lists represents sound event in
-    (after, sound-turn threads objects lists sound event, same)
+    (after, sound-turn threads objects lists sound event, same, named)

@@ -2,15 +2,17 @@
 -- the chains, both with what the work gave them.
 use Prim.Native.Nat.{ℕ}
 use mathlib.Core.Path.{_≡_, refl, sym, ap}
-use Rattle.lock_rules.specs.declared.{ChainWork.ChainWork, Effect.Effect}
-use Rattle.lock_rules.specs.declared.ChainWork.the-variants.{Stay, Join, JoinAndHand, Hand, Move, MoveAndLetOut, SendBack}
+use mathlib.Core.Bool.{true}
+use Rattle.laws.specs.Choice.{pick}
+use Rattle.laws.proofs.Choice.{by-test}
+use Rattle.lock_rules.specs.declared.Effect.{Effect}
 use Rattle.lock_table.specs.Access.{thread-at}
 use Rattle.lock_table.specs.declared.record.{ThreadRecord.ThreadRecord, ObjectRecord.ObjectRecord, Table.Table}
 use Rattle.lock_perform.specs.State.{write-thread}
 use Rattle.lock_perform.specs.Moving.{CarriedOut, carry-out}
 use Rattle.lock_perform.specs.Perform.{object-after, stays, settled}
 use Rattle.lock_perform.proofs.Performed.{write-back, perform-of}
-use Rattle.lock_perform.proofs.Staying.{carry-out-stay}
+use Rattle.lock_perform.proofs.Staying.{stays-carried}
 
 module _ (t : Table) (n o : ℕ) (object : ObjectRecord) (effect : Effect) where
   abbrev own : ThreadRecord
@@ -19,15 +21,18 @@ module _ (t : Table) (n o : ℕ) (object : ObjectRecord) (effect : Effect) where
   abbrev after : ObjectRecord
   after = object-after n o object effect
 
-  by-work : (work : ChainWork) → settled t n o own after work ≡ write-back (carry-out t (after .monitor) work n o) n o own after
-  unfolding stays
-  by-work Stay = sym (ap (λ (carried : CarriedOut). write-back carried n o own after) (carry-out-stay t (after .monitor) n o))
-  by-work (Join chain) = refl
-  by-work (JoinAndHand chain) = refl
-  by-work Hand = refl
-  by-work (Move from which) = refl
-  by-work MoveAndLetOut = refl
-  by-work (SendBack owner) = refl
+  abbrev carried : CarriedOut
+  carried = carry-out t (after .monitor) (effect .work) n o
+
+  left-alone : stays (effect .work) ≡ true → carried ≡ record { table = t; monitor = after .monitor; unparked = 0 }
+  left-alone = stays-carried t (after .monitor) n o (effect .work)
 
   pub settled-performs : settled t n o own after (effect .work) ≡ perform-of t n o object effect
-  settled-performs = by-work (effect .work)
+  settled-performs =
+      by-test (λ (written : Table). written ≡ write-back carried n o own after) (stays (effect .work))
+      (λ stay. sym (ap (λ (x : CarriedOut). write-back x n o own after) (left-alone stay))) (λ more. refl)
+
+  -- and it names the same: where the chains are left alone, nobody
+  pub settled-names : pick (stays (effect .work)) 0 (carried .unparked) ≡ carried .unparked
+  settled-names =
+      by-test (λ (set : ℕ). set ≡ carried .unparked) (stays (effect .work)) (λ stay. sym (ap (λ (x : CarriedOut). x .unparked) (left-alone stay))) (λ more. refl)

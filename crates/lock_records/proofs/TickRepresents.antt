@@ -1,31 +1,35 @@
--- A tick on the records represents the tick on the table with lists: the objects one after the other against all at once.
+-- A tick on the records represents the tick on the table with lists: the objects one after the other against all at once. It names whom that unparks.
 use Prim.Native.Nat.{ℕ, zero, suc, _≤_, _<_}
 use mathlib.Core.Path.{_≡_, refl, sym, ap, _∙_, subst, fun-ext}
 use mathlib.Core.Logic.{_≢_, _⊎_, inl, inr}
-use mathlib.Core.Bool.{Bool, true, false}
+use mathlib.Core.Bool.{Bool, true, false, not}
 use mathlib.Core.List.{List, [], _∷_}
 use native.Mathlib.Omega.{arith}
 use lib.Dec.{eqb, leb}
 use borrow.Author.Tests.{eq-eqb, ne-eqb, le-leb, lt-leb, leb-true, leb-false}
-use Rattle.laws.specs.{Choice.pick, Update.update, Count.count}
-use Rattle.laws.proofs.Choice.{either-way, equal?, split}
+use Rattle.laws.specs.{Choice.pick, Choice.both, Choice.either, Update.update, Count.count}
+use Rattle.laws.proofs.Choice.{either-way, equal?, split, both-no, either-no}
 use Rattle.laws.proofs.Count.{count-same}
 use Rattle.laws.proofs.Update.{update-same, update-other, update-id}
 use Rattle.chains.specs.declared.named.Chain.{Chain}
 use Rattle.lock_rules.specs.declared.ThreadState.{ThreadState}
 use Rattle.lock_rules.proofs.Objects.{empty}
-use Rattle.lock_rules.proofs.Tick.{Ticked, tick-at, expired, handed-if-free}
+use Rattle.lock_rules.proofs.Tick.{Ticked, tick-at, expired, handed-if-free, tick-unparks}
+use Rattle.lock_rules.proofs.{Status.unparked, Perform.is-handed, Unparks.tick-passed}
 use Rattle.lock_rules.proofs.Invariant.{in-waiting}
 use Rattle.lock_rules.proofs.{ListSound.SoundTable, ListChains.member-at, SoundKept.sound-tick, Lift.tick-seen}
-use Rattle.lock_rules.proofs.Tables.{ListThread, ListTable, states-at, seen-here, seen-idle, ticked-at, tick-where, tick-all}
+use Rattle.lock_rules.proofs.Tables.{ListThread, ListTable, states-at, seen-here, seen-idle, seen-elsewhere, ticked-at, tick-where, tick-all, tick-all-unparks}
 use Rattle.lock_table.specs.Limits.{object-limit}
 use Rattle.lock_table.specs.Access.{object-at}
 use Rattle.lock_table.specs.declared.record.{ObjectRecord.ObjectRecord, Table.Table}
-use Rattle.lock_work.specs.Tick.{tick-waited, tick-object, tick-to, tick}
+use Rattle.lock_work.specs.declared.settling.WorkDone.{WorkDone}
+use Rattle.lock_work.specs.Tick.{tick-waited, untouched, tick-object, tick-to, tick}
+use Rattle.lock_perform.specs.ThreadSet.{has-thread}
+use Rattle.lock_perform.proofs.ThreadSets.{has-none, has-either}
 use Rattle.lock_records.proofs.Represents.{Represents}
 use Rattle.lock_records.proofs.Readings.{chain-empty}
 use Rattle.lock_records.proofs.Placing.{placed, placed-none}
-use Rattle.lock_records.proofs.TickWaited.{waited-represents}
+use Rattle.lock_records.proofs.TickWaited.{waited-represents, waited-names}
 
 -- where nobody waits, a tick changes nothing
 unwaited : (lists : ListTable) (o : ℕ) → lists .objects o .waiting ≡ [] → ticked-at lists o ≡ record { states = states-at lists o; object = lists .objects o }
@@ -33,6 +37,13 @@ unwaited lists o none =
     let here = lists .objects o in
     let states = states-at lists o in
     ap (λ (b : Bool). pick b (record { states = states; object = here }) (handed-if-free states here (expired states here))) (ap empty none)
+
+-- and nobody is unparked there
+abbrev unparks-at : ListTable → ℕ → ℕ → Bool
+unparks-at lists o = tick-unparks (states-at lists o) (lists .objects o)
+
+unwaited-unnamed : (lists : ListTable) (o n : ℕ) → lists .objects o .waiting ≡ [] → unparks-at lists o n ≡ false
+unwaited-unnamed lists o n none = rw (ap empty none) refl
 
 -- so it makes no difference whether such an object is ticked
 tick-same : (lists : ListTable) (which which′ : ℕ → Bool) → ((o : ℕ) → (lists .objects o .waiting ≡ []) ⊎ (which o ≡ which′ o))
@@ -74,14 +85,20 @@ module _ (lists : ListTable) (k : ℕ) where
   not-yet : leb (suc k) k ≡ false
   not-yet = lt-leb (suc k) k (omega arith)
 
-  same-here : ticked-at so-far (suc k) ≡ ticked-at lists (suc k)
-  same-here =
-      let seen : states-at so-far (suc k) ≡ states-at lists (suc k) =
+  seen-then : states-at so-far (suc k) ≡ states-at lists (suc k)
+  seen-then =
       fun-ext (tick-seen (λ o. leb o k) lists (suc k))
-      ∙ ap (λ (b : Bool). pick b (ticked-at lists (suc k) .states) (states-at lists (suc k))) not-yet in
-      let object : so-far .objects (suc k) ≡ lists .objects (suc k) =
-      ap (λ (b : Bool). pick b (ticked-at lists (suc k) .object) (lists .objects (suc k))) not-yet in
-      λ j. tick-at (seen j) (object j)
+      ∙ ap (λ (b : Bool). pick b (ticked-at lists (suc k) .states) (states-at lists (suc k))) not-yet
+
+  object-then : so-far .objects (suc k) ≡ lists .objects (suc k)
+  object-then = ap (λ (b : Bool). pick b (ticked-at lists (suc k) .object) (lists .objects (suc k))) not-yet
+
+  same-here : ticked-at so-far (suc k) ≡ ticked-at lists (suc k)
+  same-here = λ j. tick-at (seen-then j) (object-then j)
+
+  -- and names the same
+  so-far-unparks : (n : ℕ) → unparks-at so-far (suc k) n ≡ unparks-at lists (suc k) n
+  so-far-unparks n = λ j. tick-unparks (seen-then j) (object-then j) n
 
   others : (p : ℕ) → p ≢ suc k → leb p k ≡ leb p (suc k)
   others p away =
@@ -122,29 +139,52 @@ module _ (threads objects : ℕ) where
           (λ idle. absurd (omega (arith, here, sound .sound o .placed x .waiting, ap in-waiting (seen-idle o (lists .threads x) idle))))
           (λ bounds. inr (omega (arith, bounds .1, home), omega (arith, bounds .2, home)))
 
+  -- whether anybody waits there is seen by the first of the chain
+  waited-or-not : (t : Table) (lists : ListTable) → Represents threads objects t lists → SoundTable threads objects lists → (o : ℕ) → 1 ≤ o → o ≤ objects
+      → eqb (object-at t o .monitor .waiting) 0 ≡ empty (lists .objects o .waiting)
+  waited-or-not t lists represents sound o real small =
+      ap (λ (object : ObjectRecord). eqb (object .monitor .waiting) 0) (represents .object-is o real small) ∙ chain-empty threads objects t lists represents sound o Chain.Waiting
+
   -- one object of the table
   object-represents : (t : Table) (lists : ListTable) → Represents threads objects t lists → SoundTable threads objects lists → (o : ℕ) → 1 ≤ o → o ≤ objects
-      → Represents threads objects (tick-object t o) (tick-one lists o)
+      → Represents threads objects (tick-object t o .table) (tick-one lists o)
   unfolding tick-object
   object-represents t lists represents sound o real small =
-      let waiting : eqb (object-at t o .monitor .waiting) 0 ≡ empty (lists .objects o .waiting) =
-      ap (λ (object : ObjectRecord). eqb (object .monitor .waiting) 0) (represents .object-is o real small) ∙ chain-empty threads objects t lists represents sound o Chain.Waiting in
-      rw waiting (at (empty (lists .objects o .waiting)))
+      rw (waited-or-not t lists represents sound o real small) (at (empty (lists .objects o .waiting)))
     where
       at : (b : Bool)
           → let here = lists .objects o in
           let states = states-at lists o in
           let after : Ticked = pick b (record { states = states; object = here }) (handed-if-free states here (expired states here)) in
-          Represents threads objects (pick b t (tick-waited t o))
+          Represents threads objects (pick b (untouched t) (tick-waited t o) .table)
           (record { threads = placed o (lists .threads) (after .states); objects = update (lists .objects) o (after .object) })
       at true =
           subst (Represents threads objects t)
           (λ j. record { threads = placed-none o (lists .threads) j; objects = sym (update-id (lists .objects) o (lists .objects o) refl) j }) represents
       at false = waited-represents threads objects t lists represents sound o real small
 
+  object-names : (t : Table) (lists : ListTable) → Represents threads objects t lists → SoundTable threads objects lists → (o : ℕ) → 1 ≤ o → o ≤ objects → (n : ℕ)
+      → has-thread (tick-object t o .unparked) n ≡ unparks-at lists o n
+  unfolding tick-object
+  object-names t lists represents sound o real small n =
+      rw (waited-or-not t lists represents sound o real small) (at (empty (lists .objects o .waiting)))
+    where
+      at : (b : Bool)
+          → let after = expired (states-at lists o) (lists .objects o) in
+          has-thread (pick b (untouched t) (tick-waited t o) .unparked) n
+          ≡ pick b false (pick (eqb (after .object .holder) 0) (is-handed (after .object) n) false)
+      at true = has-none n
+      at false = waited-names threads objects t lists represents sound o real small n
+
+  -- who is at another object is not named there
+  elsewhere-unnamed : (lists : ListTable) → SoundTable threads objects lists → (o n : ℕ) → lists .threads n .object ≢ o → unparks-at lists o n ≡ false
+  elsewhere-unnamed lists sound o n away =
+      tick-passed threads (states-at lists o) (lists .objects o) (sound .sound o) n .names
+      ∙ ap (λ (state : ThreadState). both (not (unparked state)) (unparked (ticked-at lists o .states n))) (seen-elsewhere o (lists .threads n) away)
+
   module _ (t : Table) (lists : ListTable) (represents : Represents threads objects t lists) (sound : SoundTable threads objects lists) where
     -- the objects up to k
-    tick-to-represents : (k : ℕ) → Represents threads objects (tick-to k t) (tick-where (λ o. leb o k) lists)
+    tick-to-represents : (k : ℕ) → Represents threads objects (tick-to k t .table) (tick-where (λ o. leb o k) lists)
     unfolding tick-to tick-object
     tick-to-represents zero =
         subst (Represents threads objects t)
@@ -153,24 +193,68 @@ module _ (threads objects : ℕ) where
         let lists-then = tick-where (λ o. leb o k) lists in
         let before = tick-to-represents k in
         split (leb (suc k) objects)
-        (λ e. subst (Represents threads objects (tick-object (tick-to k t) (suc k))) (next-ticked lists k)
-        (object-represents (tick-to k t) lists-then before (sound-tick threads objects lists sound (λ o. leb o k)) (suc k) (omega arith) (leb-true (suc k) objects e)))
+        (λ e. subst (Represents threads objects (tick-object (tick-to k t .table) (suc k) .table)) (next-ticked lists k)
+        (object-represents (tick-to k t .table) lists-then before (sound-tick threads objects lists sound (λ o. leb o k)) (suc k) (omega arith) (leb-true (suc k) objects e)))
         (λ e. past k before (leb-false (suc k) objects e))
       where
         -- there are no objects past the table's
-        past : (k : ℕ) → Represents threads objects (tick-to k t) (tick-where (λ o. leb o k) lists) → objects < suc k
-            → Represents threads objects (tick-object (tick-to k t) (suc k)) (tick-where (λ o. leb o (suc k)) lists)
+        past : (k : ℕ) → Represents threads objects (tick-to k t .table) (tick-where (λ o. leb o k) lists) → objects < suc k
+            → Represents threads objects (tick-object (tick-to k t .table) (suc k) .table) (tick-where (λ o. leb o (suc k)) lists)
         past k before far =
-            let still : tick-object (tick-to k t) (suc k) ≡ tick-to k t =
-            ap (λ (object : ObjectRecord). pick (eqb (object .monitor .waiting) 0) (tick-to k t) (tick-waited (tick-to k t) (suc k))) (before .object-past (suc k) far) in
-            subst (λ (table : Table). Represents threads objects table (tick-where (λ o. leb o (suc k)) lists)) (sym still)
-            (subst (Represents threads objects (tick-to k t))
+            let still : tick-object (tick-to k t .table) (suc k) ≡ untouched (tick-to k t .table) =
+            ap (λ (object : ObjectRecord). pick (eqb (object .monitor .waiting) 0) (untouched (tick-to k t .table)) (tick-waited (tick-to k t .table) (suc k))) (before .object-past (suc k) far) in
+            subst (λ (done : WorkDone). Represents threads objects (done .table) (tick-where (λ o. leb o (suc k)) lists)) (sym still)
+            (subst (Represents threads objects (tick-to k t .table))
             (tick-same lists (λ o. leb o k) (λ o. leb o (suc k))
             (λ o. either-way (waited-in lists sound o) inl (λ bounds. inr (others lists k o (λ e. omega (arith, e, bounds .1, far)))))) before)
 
-    pub tick-represents : Represents threads objects (tick t) (tick-all lists)
+    pub tick-represents : Represents threads objects (tick t .table) (tick-all lists)
     tick-represents =
-        subst (Represents threads objects (tick t))
+        subst (Represents threads objects (tick t .table))
         (tick-same lists (λ o. leb o object-limit) (λ o. true)
         (λ o. either-way (waited-in lists sound o) inl (λ bounds. inr (le-leb o object-limit (omega (arith, bounds .1, represents .object-room))))))
         (tick-to-represents object-limit)
+
+    -- whom the objects up to k unparked: of those at them, whom each unparks
+    module _ (n : ℕ) where
+      abbrev home : ℕ
+      home = lists .threads n .object
+
+      abbrev named : Bool
+      named = unparks-at lists home n
+
+      -- where nobody waits it makes no difference which objects were ticked
+      alike : {a b : Bool} → ((1 ≤ home) → (home ≤ objects) → a ≡ b) → both a named ≡ both b named
+      alike {a} {b} same =
+          either-way (waited-in lists sound home) (λ none. rw (unwaited-unnamed lists home n none) (both-no a ∙ sym (both-no b)))
+          (λ bounds. ap (λ (x : Bool). both x named) (same (bounds .0) (bounds .1)))
+
+      next-named : (k : ℕ) → either (both (leb home k) named) (unparks-at lists (suc k) n) ≡ both (leb home (suc k)) named
+      next-named k =
+          either-way (equal? home (suc k))
+          (λ e. rw (e, not-yet lists k, le-leb (suc k) (suc k) (omega arith)) refl)
+          (λ away. rw (elsewhere-unnamed lists sound (suc k) n away, either-no (both (leb home k) named), others lists k home away) refl)
+
+      tick-to-names : (k : ℕ) → has-thread (tick-to k t .unparked) n ≡ both (leb home k) named
+      unfolding tick-to tick-object
+      tick-to-names zero = has-none n ∙ alike {a = false} (λ real small. sym (lt-leb home 0 real))
+      tick-to-names (suc k) =
+          has-either (tick-to k t .unparked) (tick-object (tick-to k t .table) (suc k) .unparked) n
+          ∙ split (leb (suc k) objects)
+          (λ e. rw (
+            tick-to-names k,
+            object-names (tick-to k t .table) (tick-where (λ o. leb o k) lists) (tick-to-represents k) (sound-tick threads objects lists sound (λ o. leb o k))
+                (suc k) (omega arith) (leb-true (suc k) objects e) n,
+            so-far-unparks lists k n,
+          )
+          (next-named k))
+          (λ e. past (leb-false (suc k) objects e) (tick-to-names k))
+        where
+          past : objects < suc k → has-thread (tick-to k t .unparked) n ≡ both (leb home k) named
+              → either (has-thread (tick-to k t .unparked) n) (has-thread (tick-object (tick-to k t .table) (suc k) .unparked) n) ≡ both (leb home (suc k)) named
+          past far before =
+              rw (tick-to-represents k .object-past (suc k) far, has-none n, either-no (has-thread (tick-to k t .unparked) n))
+              (before ∙ alike (λ real small. others lists k home (λ e. omega (arith, e, small, far))))
+
+      pub tick-names : has-thread (tick t .unparked) n ≡ tick-all-unparks lists n
+      tick-names = tick-to-names object-limit ∙ alike {b = true} (λ real small. le-leb home object-limit (omega (arith, small, represents .object-room)))

@@ -1,4 +1,4 @@
--- A tick at one object on which somebody waits, on records: it stands for the tick at that object with lists.
+-- A tick at one object on which somebody waits, on records: it stands for the tick at that object with lists, and names whom that unparks.
 use Prim.Native.Nat.{ℕ, zero, suc, _≤_, _<_}
 use mathlib.Core.Path.{_≡_, refl, sym, ap, _∙_, subst, fun-ext}
 use mathlib.Core.Logic.{_≢_}
@@ -27,7 +27,7 @@ use Rattle.lock_rules.specs.declared.ChainWork.the-variants.{Hand, Stay}
 use Rattle.lock_rules.proofs.Changes.{moved, handed}
 use Rattle.lock_rules.proofs.Each.{each-chain}
 use Rattle.lock_rules.proofs.Objects.{ListObject, chain-of}
-use Rattle.lock_rules.proofs.Perform.{changed-states, first-of, handed-object, handed-states, count-entered-all}
+use Rattle.lock_rules.proofs.Perform.{changed-states, is-handed, first-of, handed-object, handed-states, count-entered-all}
 use Rattle.lock_rules.proofs.Tick.{Ticked, one-tick-less, run-out-in, aged, due, parting, expired, handed-if-free}
 use Rattle.lock_rules.proofs.{Reliances.is-waiting, Invariant.in-waiting}
 use Rattle.lock_rules.proofs.{SharedFacts.idle-changed, ListSound.SoundTable}
@@ -43,12 +43,16 @@ use Rattle.lock_table.proofs.Walks.{hang-none}
 use Rattle.lock_perform.specs.Moving.{CarriedOut, plan-hand, carried-out, relink}
 use Rattle.lock_perform.specs.Parting.{PartedChain, no-parting}
 use Rattle.lock_perform.specs.declared.parting.Parting.{Parting}
+use Rattle.lock_perform.specs.ThreadSet.{thread-set, has-thread}
+use Rattle.lock_perform.proofs.ThreadSets.{has-none}
 use Rattle.lock_work.specs.Waiters.{waiter-goes, waiter-ticked, part-waiters}
+use Rattle.lock_work.specs.declared.settling.WorkDone.{WorkDone}
 use Rattle.lock_work.specs.Tick.{moved-monitor, handing, hand-if-free, tick-waited}
 use Rattle.lock_records.proofs.Numbering.{number, place-of, lists-of, list-at, update-number, lists-replaced, chain-handed, entered-all, first-is-head}
 use Rattle.lock_records.proofs.Represents.{monitor-record, object-record, Represents, next-is}
 use Rattle.lock_records.proofs.Written.{handed-written}
 use Rattle.lock_records.proofs.Readings.{nobody, chained}
+use Rattle.lock_records.proofs.HandNames.{hand-names}
 use Rattle.lock_records.proofs.Moves.{change, Moves, Inside, moves-hang, moves-first}
 use Rattle.lock_records.proofs.Placing.{placed, placed-all, placed-first}
 use Rattle.lock_records.proofs.Actions.{left-recorded, joined-recorded, handed-recorded}
@@ -172,7 +176,7 @@ module _ (threads objects : ℕ) (t : Table) (lists : ListTable) (represents : R
       let same : walk thread-limit (old .next) (change ticked-by) (lists .threads) (first Chain.Waiting) ≡ placed-after =
       placed-all o (lists .threads) ticked-by (old .next) list thread-limit (first Chain.Waiting) chain (brief Chain.Waiting) (member-at threads objects lists sound Chain.Waiting o)
       ∙ ap (placed o (lists .threads)) (ticked-alike states here) in
-      let (moves, left, taken) = walk-moves waiter-goes waiter-ticked true ticked-by given t (old .next) (due states here) list thread-limit (first Chain.Waiting)
+      let (moves, left, taken, set) = walk-moves waiter-goes waiter-ticked true ticked-by given t (old .next) (due states here) list thread-limit (first Chain.Waiting)
       chain (brief Chain.Waiting) (inside Chain.Waiting) t (lists .threads) begun becomes in
       (subst (λ after. Moves given t (walked .table) after (p .next)) same moves, left, taken)
 
@@ -307,8 +311,10 @@ module _ (threads objects : ℕ) (t : Table) (lists : ListTable) (represents : R
       (ap (with-monitor before) free-monitor)
 
   -- either way
-  abbrev finished : Table → Monitor → Table
-  finished table after = let handed = hand-if-free table after in set-object (handed .table) o (with-monitor before (handed .monitor))
+  abbrev finished : Table → Monitor → WorkDone
+  finished table after =
+      let handed = hand-if-free table after in
+      record { table = set-object (handed .table) o (with-monitor before (handed .monitor)); unparked = handed .unparked }
 
   finishes : tick-waited t o ≡ finished hung (monitor-record o links (here .holder) (here .depth))
   finishes =
@@ -317,7 +323,7 @@ module _ (threads objects : ℕ) (t : Table) (lists : ListTable) (represents : R
       let parted = part-waiters thread-limit t no-parting (monitor .waiting) in
       let hung = hang thread-limit (parted .table) (monitor .entry) (parted .parting .taken .first) in
       let after = hand-if-free hung (moved-monitor monitor (parted .parting)) in
-      set-object (after .table) o (with-monitor object (after .monitor))) (represents .object-is o real small)
+      record { table = set-object (after .table) o (with-monitor object (after .monitor)); unparked = after .unparked }) (represents .object-is o real small)
       ∙ (ap (λ (parting : Parting).
       finished (hang thread-limit (walked .table) (first Chain.Entry) (parting .taken .first)) (moved-monitor monitor parting)) parted-is
       ∙ ap (finished hung) moved-recorded)
@@ -339,10 +345,13 @@ module _ (threads objects : ℕ) (t : Table) (lists : ListTable) (represents : R
       Represents threads objects (set-object (handed .table) o (with-monitor before (handed .monitor)))
       (record { threads = placed o (lists .threads) (after .states); objects = update (lists .objects) o (after .object) })
 
-  pub waited-represents : Represents threads objects (tick-waited t o)
+  pub waited-represents : Represents threads objects (tick-waited t o .table)
       (record { threads = placed o (lists .threads) (at-object .states); objects = update (lists .objects) o (at-object .object) })
   unfolding handing hand-if-free
-  waited-represents = rw finishes (at (eqb (here .holder) 0))
+  waited-represents =
+      subst (λ (done : WorkDone). Represents threads objects (done .table)
+      (record { threads = placed o (lists .threads) (at-object .states); objects = update (lists .objects) o (at-object .object) })) (sym finishes)
+      (at (eqb (here .holder) 0))
     where
       free : Ticked
       free = record { states = handed-states (result .states) (result .object); object = handed-object (result .object) }
@@ -350,3 +359,15 @@ module _ (threads objects : ℕ) (t : Table) (lists : ListTable) (represents : R
       at : (b : Bool) → Handed (relink hung at-hand (pick b Hand Stay) 0 0) (pick b free result)
       at true = subst (λ (handed : CarriedOut). Handed handed free) (sym freed-is) free-represents
       at false = subst (λ (handed : CarriedOut). Handed handed result) (sym held-is) held-represents
+
+  -- and whom it names: who is handed a monitor that nobody holds
+  pub waited-names : (n : ℕ) → has-thread (tick-waited t o .unparked) n ≡ pick (eqb (here .holder) 0) (is-handed (result .object) n) false
+  unfolding handing hand-if-free
+  waited-names n = ap (λ (done : WorkDone). has-thread (done .unparked) n) finishes ∙ at (eqb (here .holder) 0)
+    where
+      queue-in : Inside (result .object .entry)
+      queue-in m h = entry-from ((0 < m) × (m ≤ thread-limit)) m h (λ chain. inside chain m)
+
+      at : (b : Bool) → has-thread (relink hung at-hand (pick b Hand Stay) 0 0 .unparked) n ≡ pick b (is-handed (result .object) n) false
+      at true = ap (λ (first : ℕ). has-thread (thread-set first) n) handed-head ∙ hand-names (result .object .entry) queue-in n
+      at false = has-none n

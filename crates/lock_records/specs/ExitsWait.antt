@@ -1,17 +1,17 @@
 -- What a thread parked inside an exit waits for, in terms of the records alone (document 02, L2).
 use Prim.Native.Nat.{ℕ}
 use mathlib.Core.Path.{_≡_}
-use mathlib.Core.Logic.{_≢_, _⊎_}
+use mathlib.Core.Logic.{_≢_}
 use Rattle.lock_table.specs.Access.{thread-at, object-at, phase-number-at}
 use Rattle.lock_table.specs.declared.operation.Operation.the-variants.{Exit}
 use Rattle.lock_table.specs.declared.record.Monitor.{Monitor}
 use Rattle.lock_table.specs.declared.record.Table.{Table}
 use Rattle.lock_records.specs.Agrees.{Unparked, IsThread}
+use Rattle.lock_records.specs.Unparked.{Parked}
 
--- "a thread parked inside an exit": in whichever of the phases 5, 8 and 14
+-- "a thread parked inside an exit"
 abbrev pub ParkedInExit : Table → ℕ → Type 0
-ParkedInExit table n =
-    (thread-at table n .operation ≡ Exit) × ((phase-number-at table n ≡ 5) ⊎ ((phase-number-at table n ≡ 8) ⊎ (phase-number-at table n ≡ 14)))
+ParkedInExit table n = (thread-at table n .operation ≡ Exit) × Parked table n
 
 -- the monitor of the thread's object
 abbrev pub monitor-at : Table → ℕ → Monitor

@@ -6,6 +6,7 @@ use native.Mathlib.Omega.{arith}
 use borrow.Author.Tests.{ne-eqb}
 use Rattle.lock_word.specs.declared.reading.LockWord.{LockWord}
 use Rattle.lock_rules.specs.declared.{Answer.Answer, Effect.Effect, Action.Action}
+use Rattle.lock_rules.specs.declared.ChainWork.the-variants.{Stay}
 use Rattle.lock_rules.specs.declared.Answer.the-variants.{GoneOn, Finished, Parked, NotOwner, TooDeep, NoRule}
 use Rattle.lock_rules.specs.Numbers.{refusal-number}
 use Rattle.lock_rules.specs.declared.event.Refusal.{Refusal}
@@ -14,7 +15,8 @@ use Rattle.lock_rules.specs.declared.event.Refusal.the-variants.{NoSuchOperatio
 use Rattle.lock_rules.specs.declared.Action.the-variants.{Unruled, Do}
 use Rattle.lock_table.specs.Access.{thread-at, object-at}
 use Rattle.lock_table.specs.declared.record.{ThreadRecord.ThreadRecord, Table.Table}
-use Rattle.lock_perform.specs.{Sight.sight-at, Perform.stays}
+use Rattle.laws.specs.Choice.{pick}
+use Rattle.lock_perform.specs.{Sight.sight-at, Moving.carry-out, Perform.stays, Perform.object-after}
 use Rattle.lock_table.proofs.Records.{object-unchanged, thread-unchanged}
 use Rattle.lock_perform.proofs.Performed.{perform-of}
 use Rattle.lock_records.proofs.Settled.{settled-performs}
@@ -25,6 +27,7 @@ use Rattle.lock_engine.specs.declared.outcome.Reply.the-variants.{Answered}
 use Rattle.lock_engine.specs.declared.outcome.Outcome.{Outcome}
 use Rattle.lock_engine.proofs.Refused.{refusing}
 use Rattle.lock_refusals.specs.Demand.{returned, refused-number, Leaves}
+use Rattle.lock_refusals.specs.Interpreter.{CarriesNone}
 use Rattle.lock_refusals.proofs.RuleEnds.{EndsAs, Ends}
 use Rattle.lock_refusals.proofs.IdleAgain.{idle-again-performed}
 
@@ -32,11 +35,13 @@ use Rattle.lock_refusals.proofs.IdleAgain.{idle-again-performed}
 pub record Ended (table : Table) (thread : ℕ) (outcome : Outcome) (number : ℕ) : Type 0 where
   pub refused : refused-number outcome ≡ number
   pub left : Leaves table thread outcome
+  pub nobody : CarriesNone outcome
 
--- the same of an event that comes to no rule: refused, it leaves the table as it is, and it is not refused with 18 or 19
+-- the same of an event that comes to no rule: refused, it leaves the table as it is and unparks nobody, and it is not refused with 18 or 19
 pub record EndedSame (table : Table) (outcome : Outcome) (number : ℕ) : Type 0 where
   pub refused : refused-number outcome ≡ number
   pub same : 11 ≤ returned outcome → outcome .table ≡ table
+  pub nobody : outcome .unparked ≡ 0
   pub before-rule : (returned outcome ≢ 18) × (returned outcome ≢ 19)
 
 pub same-ended : {table : Table} {outcome : Outcome} {number : ℕ} (thread : ℕ) → EndedSame table outcome number → Ended table thread outcome number
@@ -46,18 +51,19 @@ same-ended {table} {outcome} thread ended =
       left = λ high.
           let (owner, shallow) = ended .before-rule in
           simp (ne-eqb (returned outcome) 18 owner, ne-eqb (returned outcome) 19 shallow) (ended .same high);
+      nobody = λ high. ended .nobody;
     }
 
 pub refuse-same : (table : Table) (refusal : Refusal) → EndedSame table (refusing table refusal) (refusal-number refusal)
 unfolding refusal-number reply-returned
-refuse-same table NotSound = record { refused = refl; same = λ high. refl; before-rule = (omega arith, omega arith) }
-refuse-same table NoSuchThread = record { refused = refl; same = λ high. refl; before-rule = (omega arith, omega arith) }
-refuse-same table NoSuchObject = record { refused = refl; same = λ high. refl; before-rule = (omega arith, omega arith) }
-refuse-same table NotIdle = record { refused = refl; same = λ high. refl; before-rule = (omega arith, omega arith) }
-refuse-same table ThreadIdle = record { refused = refl; same = λ high. refl; before-rule = (omega arith, omega arith) }
-refuse-same table ThreadParked = record { refused = refl; same = λ high. refl; before-rule = (omega arith, omega arith) }
-refuse-same table NoSuchOperation = record { refused = refl; same = λ high. refl; before-rule = (omega arith, omega arith) }
-refuse-same table LimitOutOfRange = record { refused = refl; same = λ high. refl; before-rule = (omega arith, omega arith) }
+refuse-same table NotSound = record { refused = refl; same = λ high. refl; nobody = refl; before-rule = (omega arith, omega arith) }
+refuse-same table NoSuchThread = record { refused = refl; same = λ high. refl; nobody = refl; before-rule = (omega arith, omega arith) }
+refuse-same table NoSuchObject = record { refused = refl; same = λ high. refl; nobody = refl; before-rule = (omega arith, omega arith) }
+refuse-same table NotIdle = record { refused = refl; same = λ high. refl; nobody = refl; before-rule = (omega arith, omega arith) }
+refuse-same table ThreadIdle = record { refused = refl; same = λ high. refl; nobody = refl; before-rule = (omega arith, omega arith) }
+refuse-same table ThreadParked = record { refused = refl; same = λ high. refl; nobody = refl; before-rule = (omega arith, omega arith) }
+refuse-same table NoSuchOperation = record { refused = refl; same = λ high. refl; nobody = refl; before-rule = (omega arith, omega arith) }
+refuse-same table LimitOutOfRange = record { refused = refl; same = λ high. refl; nobody = refl; before-rule = (omega arith, omega arith) }
 
 pub refuse-ended : (table : Table) (thread : ℕ) (refusal : Refusal) → Ended table thread (refusing table refusal) (refusal-number refusal)
 refuse-ended table thread refusal = same-ended thread (refuse-same table refusal)
@@ -69,31 +75,40 @@ module _ (table : Table) (thread : ℕ) where
   abbrev o : ℕ
   o = own .object
 
-  -- the table and the answer of an effect
-  performed-ended : (word : LockWord) (effect : Effect) (answer : Answer) (number : ℕ) → EndsAs (sight-at table (object-at table o) word) effect answer number
-      → Ended table thread (record { table = perform-of table thread o (object-at table o) effect; reply = Answered answer; commits = effect .commits }) number
+  -- the table and the answer of an effect; without work on chains it unparks nobody
+  performed-ended : (word : LockWord) (effect : Effect) (answer : Answer) (number unparked : ℕ) → (effect .work ≡ Stay → unparked ≡ 0)
+      → EndsAs (sight-at table (object-at table o) word) effect answer number
+      → Ended table thread
+      (record { table = perform-of table thread o (object-at table o) effect; reply = Answered answer; commits = effect .commits; unparked = unparked }) number
   unfolding reply-returned
-  performed-ended word effect GoneOn number none = record { refused = sym none; left = λ high. absurd (omega (arith, high)) }
-  performed-ended word effect (Finished woken) number none = record { refused = sym none; left = λ high. absurd (omega (arith, high)) }
-  performed-ended word effect Parked number none = record { refused = sym none; left = λ high. absurd (omega (arith, high)) }
-  performed-ended word effect NotOwner number (is, same) =
+  performed-ended word effect GoneOn number unparked unworked none =
+      record { refused = sym none; left = λ high. absurd (omega (arith, high)); nobody = λ high. absurd (omega (arith, high)) }
+  performed-ended word effect (Finished woken) number unparked unworked none =
+      record { refused = sym none; left = λ high. absurd (omega (arith, high)); nobody = λ high. absurd (omega (arith, high)) }
+  performed-ended word effect Parked number unparked unworked none =
+      record { refused = sym none; left = λ high. absurd (omega (arith, high)); nobody = λ high. absurd (omega (arith, high)) }
+  performed-ended word effect NotOwner number unparked unworked (is, same) =
       record {
         refused = sym is;
         left = λ high. ap (perform-of table thread o (object-at table o)) same ∙ idle-again-performed table thread o word NotOwner;
+        nobody = λ high. unworked (ap (λ (effect : Effect). effect .work) same);
       }
-  performed-ended word effect TooDeep number (is, same) =
+  performed-ended word effect TooDeep number unparked unworked (is, same) =
       record {
         refused = sym is;
         left = λ high. ap (perform-of table thread o (object-at table o)) same ∙ idle-again-performed table thread o word TooDeep;
+        nobody = λ high. unworked (ap (λ (effect : Effect). effect .work) same);
       }
-  performed-ended word effect NoRule number never = absurd never
+  performed-ended word effect NoRule number unparked unworked never = absurd never
 
   -- what a rule decided, carried out
   pub action-ended : (word : LockWord) (action : Action) (number : ℕ) → Ends (sight-at table (object-at table o) word) action number
       → Ended table thread (outcome-of table thread o (action-turn thread own (object-at table o) action)) number
   unfolding action-turn reply-returned work-stays work-done stays
   action-ended word Unruled number ends =
-      record { refused = sym ends; left = λ high. rw (thread-unchanged table thread, object-unchanged table o) refl }
+      record { refused = sym ends; left = λ high. rw (thread-unchanged table thread, object-unchanged table o) refl; nobody = λ high. refl }
   action-ended word (Do effect) number ends =
-      subst (λ (after : Table). Ended table thread (record { table = after; reply = Answered (effect .answer); commits = effect .commits }) number)
-      (sym (settled-performs table thread o (object-at table o) effect)) (performed-ended word effect (effect .answer) number ends)
+      let unparked = pick (stays (effect .work)) 0 (carry-out table (object-after thread o (object-at table o) effect .monitor) (effect .work) thread o .unparked) in
+      subst (λ (after : Table). Ended table thread (record { table = after; reply = Answered (effect .answer); commits = effect .commits; unparked = unparked }) number)
+      (sym (settled-performs table thread o (object-at table o) effect))
+      (performed-ended word effect (effect .answer) number unparked (λ stay. rw (stay) refl) ends)

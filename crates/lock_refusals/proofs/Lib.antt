@@ -6,3 +6,4 @@ pub mod IdleAgain
 pub mod Ended
 pub mod Steps
 pub mod Theorem
+pub mod Interpreter

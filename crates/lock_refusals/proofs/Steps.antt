@@ -113,9 +113,9 @@ module _ (table : Table) (typed : WellTyped table) where
       Ended table (event-thread event) (outcome-of table (event-thread event) number (open-turn event own object (waiters-of table object)))
       (first-applies (rule-rows table event))
   unfolding open-turn reply-returned
-  open-ended sound (Begin operation thread object limit) passed = record { refused = refl; left = λ high. absurd (omega (arith, high)) }
+  open-ended sound (Begin operation thread object limit) passed = record { refused = refl; left = λ high. absurd (omega (arith, high)); nobody = λ high. absurd (omega (arith, high)) }
   open-ended sound (Step thread) (low, high, ready) = step-ended table typed sound thread (λ none. omega (arith, none, low)) ready
-  open-ended sound Tick passed = record { refused = refl; left = λ high. absurd (omega (arith, high)) }
+  open-ended sound Tick passed = record { refused = refl; left = λ high. absurd (omega (arith, high)); nobody = λ high. absurd (omega (arith, high)) }
 
   -- on a sound table
   sound-ended : sound-of table ≡ true → (event : Event)

@@ -1,3 +1,4 @@
 -- What is claimed of refused events.
 pub mod Refusals
 pub mod Demand
+pub mod Interpreter

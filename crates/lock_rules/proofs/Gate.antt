@@ -5,7 +5,7 @@ use mathlib.Core.Bool.{Bool, true, false, not}
 use native.Mathlib.Omega.{arith}
 use lib.Dec.{leb}
 use Rattle.laws.specs.Choice.{both, within}
-use Rattle.laws.proofs.Choice.{AtMost, at-most, split, by-test, false≢true}
+use Rattle.laws.proofs.Choice.{AtMost, at-most, split, by-test, false≢true, passed, failed}
 use Rattle.lock_rules.specs.Operations.{operation-limit}
 use Rattle.lock_rules.specs.Numbers.{first-refusal, refusal-number}
 use Rattle.lock_rules.specs.Gate.{first-refusing, is-idle, is-parked, limit-fits, event-rows, gate, event-thread}
@@ -24,14 +24,6 @@ within-says {low} {high} {n} passes = at (leb low n) (leb n high) (at-most low n
     at true true l m e = (l, m)
     at true false l m e = false≢true e
     at false b l m e = false≢true e
-
-passed : (test : Bool) → not test ≡ false → test ≡ true
-passed true e = refl
-passed false e = false≢true (sym e)
-
-failed : (test : Bool) → not test ≡ true → test ≡ false
-failed true e = false≢true e
-failed false e = refl
 
 idle-status : (status : ThreadStatus) → is-idle status ≡ true → status ≡ Idle
 idle-status Idle e = refl

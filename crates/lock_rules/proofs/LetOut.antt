@@ -24,7 +24,7 @@ use Rattle.lock_rules.specs.declared.event.Event.{Event}
 use Rattle.lock_rules.specs.declared.event.Event.the-variants.{Step}
 use Rattle.lock_rules.proofs.Each.{each-state, each-carried}
 use Rattle.lock_rules.proofs.Changes.{handed, moved, is-queued-exit, let-out-state, sent-back}
-use Rattle.lock_rules.proofs.Status.{unparked, unfinished}
+use Rattle.lock_rules.proofs.Status.{unfinished, Runs}
 use Rattle.lock_rules.proofs.Objects.{ListObject, chain-of, empty, sight-of}
 use Rattle.lock_rules.proofs.Perform.{taken, changed-states, handed-object, handed-states, moved-states, states-after, effected, perform}
 use Rattle.lock_rules.proofs.Tick.{one-tick-less, aged, parting, expired, tick-at}
@@ -142,7 +142,7 @@ module _ (threads objects : ℕ) (table : ListTable) (plain : Plain) (world : Wo
 pub record HolderRuns (states : ℕ → ThreadState) (o : ListObject) (t : ℕ) : Type 0 where
   pub other : o .holder ≢ t
   pub shallow : o .depth ≡ 0
-  pub runs : T (unparked (states (o .holder))) × T (unfinished (states (o .holder)))
+  pub runs : Runs (states (o .holder))
 
 pub exit-waits : (states : ℕ → ThreadState) (o : ListObject) (ghost : Ghost) → Invariant states o ghost → (t : ℕ) → states t ≡ Queued ToTell
     → HolderRuns states o t
@@ -154,7 +154,7 @@ exit-waits states o ghost inv t e =
   where
     -- at depth 0 a holder is neither idle nor parked
     at : o .holder ≢ 0 → o .depth ≡ 0 → (state : ThreadState) → Seated (seat state) (o .holder) (o .holder) (o .depth)
-        → T (unparked state) × T (unfinished state)
+        → Runs state
     at someone shallow Idle s = absurd (omega (arith, s refl someone, shallow))
     at someone shallow (Running doing) s = (tt, tt)
     at someone shallow (Queued carried) s = absurd (s .0 refl)

@@ -33,6 +33,8 @@ pub mod ListSound
 pub mod SoundEffects
 pub mod SoundPerform
 pub mod SoundTick
+pub mod Unparks
+pub mod RunQueue
 pub mod ListChains
 pub mod SoundKept
 pub mod Simulation

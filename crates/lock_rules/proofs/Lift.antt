@@ -127,7 +127,7 @@ pick-is false a b old e = refl
 -- how the threads are seen after a rule's result result is put back at object o, if it leaves the idle threads idle
 module _ (table : ListTable) (o : ℕ) (result : Performed) where
   abbrev after : ListTable
-  after = put-back table o result .table
+  after = put-back table o result
 
   pub seen-there : ((t : ℕ) → table .threads t .object ≢ o → result .states t ≡ Idle) → (t : ℕ) → result .states t ≡ states-at after o t
   seen-there stays t = at (eqb (table .threads t .object) o) (equal (table .threads t .object) o)
@@ -176,7 +176,7 @@ module _ (table : ListTable) (plain : Plain) (t : ℕ) (result : Performed) (wor
   home = table .threads t .object
 
   abbrev next : ListTable
-  next = put-back table home result .table
+  next = put-back table home result
 
   abbrev fed : Plain
   fed = fed-step plain t (result .answer) (result .commits)

@@ -119,6 +119,20 @@ states-after (Move from which) states o = moved-states from which states o
 states-after MoveAndLetOut states o = let-out-states (moved-states Chain.Contention All states o)
 states-after (SendBack u) states o = changed-states sent-back states (u ∷ [])
 
+-- who is handed the monitor
+abbrev pub is-handed : ListObject → ℕ → Bool
+is-handed o t = above-zero (count t (taken First (o .entry)))
+
+-- whom the work unparks: who is handed the monitor, and the exits that are let out; who moves stays parked
+abbrev pub unparks : ChainWork → (ℕ → ThreadState) → ListObject → ℕ → Bool
+unparks Stay states o t = false
+unparks (Join chain) states o t = false
+unparks (JoinAndHand chain) states o t = is-handed o t
+unparks Hand states o t = is-handed o t
+unparks (Move from which) states o t = false
+unparks MoveAndLetOut states o t = is-queued-exit (moved-states Chain.Contention All states o t)
+unparks (SendBack u) states o t = false
+
 -- the object after the work of `thread`, with the threads' states before it
 abbrev pub object-after : ChainWork → ℕ → (ℕ → ThreadState) → ListObject → ListObject
 object-after Stay thread states o = o
@@ -149,3 +163,7 @@ perform thread states o (Do effect) =
       answer = effect .answer;
       commits = effect .commits;
     }
+
+abbrev pub action-unparks : ℕ → (ℕ → ThreadState) → ListObject → Action → ℕ → Bool
+action-unparks thread states o Unruled t = false
+action-unparks thread states o (Do effect) t = unparks (effect .work) states (effected thread effect o) t

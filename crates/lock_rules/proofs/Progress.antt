@@ -9,7 +9,7 @@ use Rattle.laws.specs.Count.{count}
 use Rattle.laws.proofs.Count.{count-none}
 use Rattle.lock_word.specs.Meaning.{owner-of}
 use Rattle.lock_rules.proofs.{Each.each-state, SharedFacts.fat-owner}
-use Rattle.lock_rules.proofs.Status.{parked-for-entry, unparked, unfinished}
+use Rattle.lock_rules.proofs.Status.{parked-for-entry, unparked, unfinished, Runs}
 use Rattle.lock_rules.specs.declared.ThreadState.{ThreadState}
 use Rattle.lock_rules.specs.declared.ThreadState.the-variants.{Idle, Running, Queued, Contending, Waiting}
 use Rattle.lock_word.specs.declared.meaning.WordSeen.{WordSeen}
@@ -17,7 +17,7 @@ use Rattle.lock_word.specs.declared.meaning.WordSeen.the-variants.{Free, Anonym
 use Rattle.lock_rules.proofs.Objects.{ListObject, object-owner}
 use Rattle.lock_rules.proofs.Invariant.{seat, telling?, Seated, NotOwn, Ghost, ThreadOk, MonitorOk, Told, Unstranded, Invariant}
 
-telling-runs : (state : ThreadState) → T (telling? (seat state)) → T (unparked state) × T (unfinished state)
+telling-runs : (state : ThreadState) → T (telling? (seat state)) → Runs state
 telling-runs = each-state _ (search)
 
 deep-owner : (word : WordSeen) (holder depth : ℕ) → MonitorOk word holder depth → 0 < depth → owner-of word holder depth ≡ holder

@@ -1,4 +1,5 @@
 -- What each rule's effect owes to soundness: the ranges of what it writes, the chain that the thread joins, and that only a held monitor is queued for.
+-- And that its answer says whether the thread goes on, is parked or is idle.
 use Prim.Native.Nat.{ℕ, _+_, _-_, _≤_, _<_}
 use mathlib.Core.Path.{_≡_, refl, sym, _∙_}
 use mathlib.Core.Logic.{_≢_, _⊎_, inl, inr}
@@ -26,8 +27,9 @@ use Rattle.lock_word.specs.declared.meaning.WordSeen.{WordSeen}
 use Rattle.lock_word.specs.declared.meaning.WordSeen.the-variants.{Fat, Reserved}
 use Rattle.lock_rules.specs.declared.WordChange.the-variants.{Unchanged, Freed, OwnFlat, OwnReserved, Cancelled, Inflated}
 use Rattle.lock_rules.specs.declared.ChainWork.the-variants.{Stay, Join, JoinAndHand, Hand, Move, MoveAndLetOut, SendBack}
-use Rattle.lock_rules.specs.declared.Answer.the-variants.{GoneOn, Finished}
+use Rattle.lock_rules.specs.declared.Answer.the-variants.{GoneOn, Finished, Parked, NotOwner, TooDeep, NoRule}
 use Rattle.lock_rules.specs.declared.Action.the-variants.{Unruled, Do}
+use Rattle.lock_rules.proofs.Status.{unparked, Runs}
 use Rattle.lock_rules.proofs.Invariant.{in-entry, in-contention, in-waiting}
 use Rattle.lock_rules.proofs.SharedFacts.{fat-owned, reserved-owned}
 use Rattle.lock_rules.proofs.ListSound.{DoingFine, StateFine, WordFine}
@@ -71,6 +73,15 @@ ChangeFine (OwnReserved c) = c ≤ count-limit
 ChangeFine Cancelled = Unit {0}
 ChangeFine Inflated = Unit {0}
 
+-- an answer, and the state of the thread that it goes with
+abbrev pub Answers : Answer → ThreadState → Type 0
+Answers GoneOn state = Runs state
+Answers (Finished woken) state = state ≡ Idle
+Answers Parked state = unparked state ≡ false
+Answers NotOwner state = state ≡ Idle
+Answers TooDeep state = state ≡ Idle
+Answers NoRule state = Runs state
+
 pub record EffectFine (thread was : ℕ) (effect : Effect) : Type 0 where
   pub state : StateFine (effect .state)
   pub word : ChangeFine (effect .word)
@@ -79,6 +90,7 @@ pub record EffectFine (thread was : ℕ) (effect : Effect) : Type 0 where
   pub joins : Joins (effect .work) (effect .state)
   pub entry : EntryHeld (effect .work) was (effect .holder)
   pub holder : (effect .holder ≡ was) ⊎ (effect .holder ≡ thread)
+  pub answers : Answers (effect .answer) (effect .state)
 
 abbrev pub ActionFine : ℕ → ℕ → Action → Type 0
 ActionFine thread was Unruled = Unit {0}
@@ -97,8 +109,8 @@ module _ (threads thread : ℕ) (sight : Sight) (real : thread ≢ 0) (deep : si
   word-fine change fine = search inl
 
   inflate-fine : (depth : ℕ) (state : ThreadState) (answer : Answer) (commits : Bool) → depth ≤ depth-limit → sight .holder ≢ 0 → StateFine state → InNone state
-      → Fine (inflate sight depth state answer commits)
-  inflate-fine depth state answer commits low held fine none = search (inl, arith)
+      → Answers answer state → Fine (inflate sight depth state answer commits)
+  inflate-fine depth state answer commits low held fine none answers = search (inl, arith)
 
   -- either way of a test, with what it says where that matters
   either-fine : (test : Bool) (x y : Action) → Fine x → Fine y → Fine (pick test x y)
@@ -168,18 +180,18 @@ module _ (threads thread : ℕ) (sight : Sight) (real : thread ≢ 0) (deep : si
         search,
         λ w. either-fine (eqb (sight .depth) 0) _ _ (search (inl, arith)) tt,
         λ owner c w. either-fine (eqb owner thread) _ _
-            (inflate-fine (c + 2) Idle (Finished 0) true (omega (arith, w .2)) held tt (refl, refl, refl)) (search inl),
+            (inflate-fine (c + 2) Idle (Finished 0) true (omega (arith, w .2)) held tt (refl, refl, refl) refl) (search inl),
         search,
       ) word)
   decide-fine EnterTry fine = λ word. by-held _ (λ held.
       by-word (enter-try thread sight)
-      (λ w. inflate-fine 1 Idle (Finished 0) true (omega arith) held tt (refl, refl, refl), search, search, search (either-fine, inl), search) word)
+      (λ w. inflate-fine 1 Idle (Finished 0) true (omega arith) held tt (refl, refl, refl) refl, search, search, search (either-fine, inl), search) word)
   decide-fine ExitLook fine =
       by-owned (exit-owned sight) (
         (search inl),
         (search inl),
         λ w own. either-fine (ltb 1 (sight .depth)) _ _
-            (record { state = tt; word = tt; deep = omega (arith, deep); shallow = λ e. omega (arith, shallow e); joins = search; entry = search; holder = inl refl })
+            (record { state = tt; word = tt; deep = omega (arith, deep); shallow = λ e. omega (arith, shallow e); joins = search; entry = search; holder = inl refl; answers = refl })
             (record {
               state = tt;
               word = either-way ChangeFine (both (sight .entryempty) (both (sight .contentionempty) (eqb (sight .waiters) 0))) tt tt;
@@ -188,6 +200,7 @@ module _ (threads thread : ℕ) (sight : Sight) (real : thread ≢ 0) (deep : si
               joins = search;
               entry = search;
               holder = inl refl;
+              answers = (tt, tt);
             }),
         λ owner c w own. either-fine (ltb 0 c) _ _ (word-fine (OwnFlat (c - 1)) (omega (arith, w .2))) (search inl),
         λ owner c w own. (let above = reserved-above owner c own in let few = w .2 in search inl),
@@ -206,7 +219,7 @@ module _ (threads thread : ℕ) (sight : Sight) (real : thread ≢ 0) (deep : si
         search,
         search,
         λ owner c w. either-fine (eqb owner thread) _ _
-            (inflate-fine (c + 1) (Running (WaitGiveUp limit)) GoneOn false (omega (arith, w .2)) held fine (refl, refl, refl)) tt,
+            (inflate-fine (c + 1) (Running (WaitGiveUp limit)) GoneOn false (omega (arith, w .2)) held fine (refl, refl, refl) (tt, tt)) tt,
         search,
       ) word)
   decide-fine (WaitGiveUp limit) fine = λ word. by-held _ (λ held.

@@ -95,6 +95,10 @@ module _ (threads : ℕ) (states : ℕ → ThreadState) (o : ListObject) (sound 
   members-after : Members 0 (after .states) (after .object)
   members-after = members-moved 0 (aged states o) o aged-placed Chain.Waiting (parting states o)
 
+  -- every thread is in the chain that its state names when those that ran out have moved
+  pub expired-placed : (t : ℕ) → PlacedAt t (after .states t) (after .object)
+  expired-placed = with-zero after members-after idle-zero placed-zero
+
   module _ (entry-in : (t : ℕ) → 0 < count t (o .entry) → (0 < t) × (t ≤ threads)) (waiting-in : (t : ℕ) → 0 < count t (o .waiting) → (0 < t) × (t ≤ threads)) where
     queue-in : (t : ℕ) → 0 < count t (after .object .entry) → (0 < t) × (t ≤ threads)
     queue-in t h =
@@ -106,7 +110,7 @@ module _ (threads : ℕ) (states : ℕ → ThreadState) (o : ListObject) (sound 
     held-sound held =
         record {
           nobody = idle-zero;
-          placed = with-zero after members-after idle-zero placed-zero;
+          placed = expired-placed;
           word = sound .word;
           holder = sound .holder;
           deep = sound .deep;

@@ -1,6 +1,6 @@
--- What document 01 says of a thread in a state: woken, parked for entry, unparked, with an unfinished operation.
+-- What document 01 says of a thread in a state: woken, parked for entry, unparked, with an unfinished operation; and that it can take a step.
 use mathlib.Core.Bool.{Bool, true, false}
-use lib.Dec.{eqb}
+use lib.Dec.{T, eqb}
 use Rattle.lock_rules.specs.{Numbers.phase-of-doing, Rules.onward}
 use Rattle.lock_rules.specs.declared.ThreadState.{ThreadState}
 use Rattle.lock_rules.specs.declared.ThreadState.the-variants.{Idle, Running, Queued, Contending, Waiting}
@@ -36,3 +36,7 @@ unfinished (Running doing) = true
 unfinished (Queued carried) = true
 unfinished Contending = true
 unfinished (Waiting suspension) = true
+
+-- a thread that can take a step
+abbrev pub Runs : ThreadState → Type 0
+Runs state = T (unparked state) × T (unfinished state)

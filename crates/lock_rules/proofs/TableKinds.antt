@@ -1,7 +1,7 @@
 -- One event on any kind of table: what the gate lets through, once for all kinds.
 use Prim.Native.Nat.{ℕ, _≤_, _<_}
 use mathlib.Core.Path.{_≡_, refl, sym, ap}
-use mathlib.Core.Bool.{true}
+use mathlib.Core.Bool.{Bool, true, false}
 use mathlib.Core.List.{List, [], _∷_}
 use native.Mathlib.Omega.{arith}
 use Rattle.laws.proofs.Choice.{false≢true}
@@ -23,27 +23,30 @@ use Rattle.lock_rules.proofs.Gate.{Passed, by-gate}
 abbrev pub status-of : ThreadState → ThreadStatus
 status-of = each-state _ (IdleThread, λ doing. Ready, λ carried. Parked, Parked, λ suspension. Parked)
 
--- the table after an event, and what the event returned
+-- the table after an event, what the event returned, and whom it unparked
 pub record TurnOf (Table : Type 0) : Type 0 where
   pub table : Table
   pub reply : Reply
+  pub unparked : ℕ → Bool
 
--- a kind of table: a thread's state, and a begin (of a thread on an object), a step and a tick that nothing refuses
+-- a kind of table: a thread's state, and a begin (of a thread on an object), a step and a tick that nothing refuses, with whom the tick unparks
 pub record Kind : Type 1 where
   pub Table : Type 0
   pub state : Table → ℕ → ThreadState
   pub begins : Table → Operation → Limit → ℕ → ℕ → Table
   pub steps : Table → ℕ → Doing → TurnOf Table
   pub ticks : Table → Table
+  pub unparks : Table → ℕ → Bool
 
 module _ (kind : Kind) where
   abbrev pub refuse : kind .Table → ℕ → TurnOf (kind .Table)
-  refuse table number = record { table = table; reply = Refused number }
+  refuse table number = record { table = table; reply = Refused number; unparked = λ n. false }
 
   -- the gate lets no other operation through
   abbrev pub begin-asked : kind .Table → Asked → ℕ → ℕ → TurnOf (kind .Table)
   begin-asked table Unknown thread object = refuse table (refusal-number NoSuchOperation)
-  begin-asked table (Known operation limit) thread object = record { table = kind .begins table operation limit thread object; reply = Accepted }
+  begin-asked table (Known operation limit) thread object =
+      record { table = kind .begins table operation limit thread object; reply = Accepted; unparked = λ n. false }
 
   -- and no other thread
   abbrev pub step-thread : kind .Table → ℕ → ThreadState → TurnOf (kind .Table)
@@ -56,7 +59,7 @@ module _ (kind : Kind) where
   abbrev pub through : Gate → kind .Table → Event → TurnOf (kind .Table)
   through Open table (Begin number thread object limit) = begin-asked table (asked-for number limit) thread object
   through Open table (Step thread) = step-thread table thread (kind .state table thread)
-  through Open table Tick = record { table = kind .ticks table; reply = Accepted }
+  through Open table Tick = record { table = kind .ticks table; reply = Accepted; unparked = kind .unparks table }
   through (Shut refusal) table event = refuse table (refusal-number refusal)
 
   -- `threads` and `objects` are the sizes of a sound table
@@ -86,10 +89,10 @@ module _ (kind : Kind) (threads objects : ℕ) (table : kind .Table) (P : Event 
   pub by-event : ((event : Event) (refusal : Refusal) → first-refusal < refusal-number refusal → P event (refuse kind table (refusal-number refusal)))
       → ((number limit : ℕ) (operation : Operation) (given : Limit) (thread object : ℕ) → asked-for number limit ≡ Known operation given
       → limit-fits number limit ≡ true → 1 ≤ thread → thread ≤ threads → 1 ≤ object → object ≤ objects → kind .state table thread ≡ Idle
-      → P (Begin number thread object limit) (record { table = kind .begins table operation given thread object; reply = Accepted }))
+      → P (Begin number thread object limit) (record { table = kind .begins table operation given thread object; reply = Accepted; unparked = λ n. false }))
       → ((thread : ℕ) (doing : Doing) → 1 ≤ thread → thread ≤ threads → kind .state table thread ≡ Running doing
       → P (Step thread) (kind .steps table thread doing))
-      → P Tick (record { table = kind .ticks table; reply = Accepted })
+      → P Tick (record { table = kind .ticks table; reply = Accepted; unparked = kind .unparks table })
       → (event : Event) → P event (turn-on kind threads objects table event)
   unfolding refusal-number
   by-event refused begins steps ticks event =

@@ -9,15 +9,15 @@ use borrow.Author.Tests.{eq-eqb, ne-eqb}
 use Rattle.laws.specs.{Choice.pick, Update.update}
 use Rattle.lock_rules.specs.Rules.{decide, begun}
 use Rattle.lock_rules.specs.Operations.{Operation}
-use Rattle.lock_rules.specs.declared.{Limit.Limit, Doing.Doing, ThreadState.ThreadState}
+use Rattle.lock_rules.specs.declared.{Limit.Limit, Doing.Doing, ThreadState.ThreadState, Action.Action}
 use Rattle.lock_rules.specs.declared.ThreadState.the-variants.{Idle, Running}
 use Rattle.lock_word.specs.declared.meaning.WordSeen.{WordSeen}
 use Rattle.lock_word.specs.declared.meaning.WordSeen.the-variants.{Free, Anonymous}
 use Rattle.lock_rules.specs.declared.event.Event.{Event}
 use Rattle.lock_rules.specs.Events.{Answered, Shown}
 use Rattle.lock_rules.proofs.Objects.{ListObject, object-of, sight-of}
-use Rattle.lock_rules.proofs.Perform.{Performed, perform}
-use Rattle.lock_rules.proofs.Tick.{Ticked, tick-at}
+use Rattle.lock_rules.proofs.Perform.{Performed, perform, action-unparks}
+use Rattle.lock_rules.proofs.Tick.{Ticked, tick-at, tick-unparks}
 use Rattle.lock_rules.proofs.TableKinds.{TurnOf, Kind, turn-on, final-on, shown-on}
 
 -- a thread's object and state; the object of an idle thread is its last one
@@ -37,25 +37,35 @@ abbrev pub states-at : ListTable → ℕ → ℕ → ThreadState
 states-at table o t = seen-from o (table .threads t)
 
 -- a rule's result put back: the object, and the threads at it
-abbrev pub put-back : ListTable → ℕ → Performed → TurnOf ListTable
+abbrev pub put-back : ListTable → ℕ → Performed → ListTable
 put-back table o performed =
     record {
-      table = record {
-        threads = λ t. pick (eqb (table .threads t .object) o) (record { object = o; state = performed .states t }) (table .threads t);
-        objects = update (table .objects) o (performed .object);
-      };
-      reply = Answered (performed .answer) (performed .commits);
+      threads = λ t. pick (eqb (table .threads t .object) o) (record { object = o; state = performed .states t }) (table .threads t);
+      objects = update (table .objects) o (performed .object);
     }
 
+abbrev pub decide-at : ListTable → ℕ → ℕ → Doing → Action
+decide-at table o thread doing = decide thread (sight-of (table .objects o)) doing
+
 abbrev pub perform-at : ListTable → ℕ → ℕ → Doing → Performed
-perform-at table o thread doing = perform thread (states-at table o) (table .objects o) (decide thread (sight-of (table .objects o)) doing)
+perform-at table o thread doing = perform thread (states-at table o) (table .objects o) (decide-at table o thread doing)
+
+abbrev pub acted-at : ListTable → ℕ → ℕ → Action → TurnOf ListTable
+acted-at table o thread action =
+    let performed = perform thread (states-at table o) (table .objects o) action in
+    record {
+      table = put-back table o performed;
+      reply = Answered (performed .answer) (performed .commits);
+      unparked = action-unparks thread (states-at table o) (table .objects o) action;
+    }
 
 abbrev pub begin-at : ListTable → Operation → Limit → ℕ → ℕ → ListTable
 begin-at table operation limit thread o =
     record { threads = update (table .threads) thread (record { object = o; state = Running (begun operation limit) }); objects = table .objects }
 
 abbrev pub step-at : ListTable → ℕ → Doing → TurnOf ListTable
-step-at table thread doing = put-back table (table .threads thread .object) (perform-at table (table .threads thread .object) thread doing)
+step-at table thread doing =
+    acted-at table (table .threads thread .object) thread (decide-at table (table .threads thread .object) thread doing)
 
 -- a tick at one object, at those that pass a test, at all
 abbrev pub ticked-at : ListTable → ℕ → Ticked
@@ -72,6 +82,10 @@ tick-where which table =
 abbrev pub tick-all : ListTable → ListTable
 tick-all = tick-where (λ o. true)
 
+-- whom a tick unparks: each thread is at one object
+abbrev pub tick-all-unparks : ListTable → ℕ → Bool
+tick-all-unparks table t = let home = table .threads t .object in tick-unparks (states-at table home) (table .objects home) t
+
 abbrev pub list-kind : Kind
 list-kind =
     record {
@@ -80,6 +94,7 @@ list-kind =
       begins = begin-at;
       steps = step-at;
       ticks = tick-all;
+      unparks = tick-all-unparks;
     }
 
 abbrev pub turn : ℕ → ℕ → ListTable → Event → TurnOf ListTable

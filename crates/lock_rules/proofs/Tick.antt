@@ -11,7 +11,7 @@ use Rattle.lock_rules.specs.declared.ThreadState.{ThreadState}
 use Rattle.lock_rules.specs.declared.ThreadState.the-variants.{Idle, Running, Queued, Contending, Waiting}
 use Rattle.lock_rules.proofs.{Each.each-state, Changes.moved}
 use Rattle.lock_rules.proofs.Objects.{ListObject, empty}
-use Rattle.lock_rules.proofs.Perform.{Parting, changed-states, handed-object, handed-states, parted-object}
+use Rattle.lock_rules.proofs.Perform.{Parting, is-handed, changed-states, handed-object, handed-states, parted-object}
 
 -- a timed thread in a waiting chain loses one
 abbrev pub one-tick-less : ThreadState → ThreadState
@@ -53,3 +53,8 @@ module _ (states : ℕ → ThreadState) (o : ListObject) where
   -- where nobody waits nobody moves, and a monitor that nobody holds has nobody to be handed to
   abbrev pub tick-at : Ticked
   tick-at = pick (empty (o .waiting)) (record { states = states; object = o }) (handed-if-free expired)
+
+  -- whom a tick unparks: who is then handed the monitor
+  abbrev pub tick-unparks : ℕ → Bool
+  tick-unparks t =
+      pick (empty (o .waiting)) false (pick (eqb (expired .object .holder) 0) (is-handed (expired .object) t) false)

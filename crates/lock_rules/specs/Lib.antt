@@ -6,5 +6,6 @@ pub mod Actions
 pub mod Rules
 pub mod Gate
 pub mod Events
+pub mod RunQueue
 pub mod PlainMonitor
 pub mod Feed

@@ -2,4 +2,5 @@
 pub mod EngineKind
 pub mod FreshWellTyped
 pub mod Theorem
+pub mod Interpreter
 pub mod Runs

@@ -1,9 +1,15 @@
 -- Demand 3, what a thread parked inside an exit waits for, and that every event on any sound table gives a sound table, well typed as the code's are.
 use Prim.Native.Nat.{ℕ, _≤_}
 use mathlib.Core.Path.{_≡_, refl, sym, ap, _∙_, subst, subst₂}
+use mathlib.Core.Logic.{_≢_, _↔_}
+use lib.Dec.{T}
 use mathlib.Core.Bool.{true}
 use mathlib.Core.List.{List, [], _∷_}
 use Rattle.lock_rules.specs.declared.event.Event.{Event}
+use Rattle.lock_rules.specs.declared.event.Event.the-variants.{Step}
+use Rattle.lock_rules.specs.declared.ThreadState.the-variants.{Idle}
+use Rattle.lock_rules.specs.Numbers.{phase-of}
+use Rattle.lock_rules.proofs.Status.{unfinished}
 use Rattle.lock_rules.specs.Events.{Shown}
 use Rattle.lock_rules.specs.Feed.{Plain, feed, feed-all, blank}
 use Rattle.lock_rules.proofs.TableKinds.{TurnOf, turn-on, final-on, shown-on}
@@ -21,17 +27,34 @@ use Rattle.lock_records.specs.Agrees.{Agrees, Ruled}
 use Rattle.lock_records.proofs.{Represents.Represents, FreshRecords.fresh-represents, Ruled.schedule-ruled, RepresentedSound.represented-sound}
 use Rattle.lock_records.proofs.{SoundRepresents.sound-represents}
 use Rattle.lock_records.proofs.RecordKind.{record-kind, turn-represents}
-use Rattle.lock_records.proofs.Claim.{schedule-represents, schedule-agrees, phase-busy, phase-idle}
+use Rattle.lock_records.proofs.Claim.{schedule-represents, schedule-agrees, phase-is, phase-busy, phase-idle}
 use Rattle.lock_records.proofs.ExitsWait.{represents-waits}
 use Rattle.lock_records.specs.ExitsWait.{ParkedInExit, WaitsForBusyHolder}
 use Rattle.lock_schedule.specs.Schedule.{final-of, shown-of}
-use Rattle.lock_schedule.specs.Demand.{OthersEndRight, DemandThree, ExitsWaitForHolder, ExitsWaitForBusyHolder, SoundKept}
+use Rattle.lock_schedule.specs.Demand.{EndedByOther, OthersEndRight, DemandThree, ExitsWaitForHolder, ExitsWaitForBusyHolder, SoundKept}
 use Rattle.lock_schedule.proofs.EngineKind.{turn-of, event-is-turn}
 use Rattle.lock_schedule.proofs.FreshWellTyped.{represented-well-typed}
 
+-- an operation that another's event ended, on records and on lists
+pub ended-so : {threads objects : ℕ} {n : ℕ} (event : Event) (before after : Table) (lists lists-after : ListTable) → Represents threads objects before lists
+    → SoundTable threads objects lists → Represents threads objects after lists-after → SoundTable threads objects lists-after
+    → EndedByOther event before after n ↔ ((event ≢ Step n) × T (unfinished (lists .threads n .state)) × (lists-after .threads n .state ≡ Idle))
+ended-so {threads} {objects} {n} event before after lists lists-after represents sound represents-after sound-after = (
+  λ (other, busy, idle). (
+    other,
+    phase-busy threads objects before lists represents sound n busy,
+    phase-idle threads objects after lists-after represents-after sound-after n idle,
+  ),
+  λ (other, busy, idle). (
+    other,
+    λ e. absurd (rw (phase-idle threads objects before lists represents sound n e) at busy),
+    phase-is threads objects after lists-after represents-after sound-after n ∙ ap phase-of idle,
+  ),
+)
+
 module _ (threads objects : ℕ) (some-threads : 1 ≤ threads) (some-objects : 1 ≤ objects) where
   -- one event of the engine, on a table that represents a sound one
-  event-same : (t : Table) (lists : ListTable) → Represents threads objects t lists → SoundTable threads objects lists → (event : Event)
+  pub event-same : (t : Table) (lists : ListTable) → Represents threads objects t lists → SoundTable threads objects lists → (event : Event)
       → turn-of (handle t event) ≡ turn-on record-kind threads objects t event
   event-same t lists represents sound event =
       event-is-turn t (represented-sound threads objects t lists some-threads some-objects represents sound) event
@@ -44,7 +67,7 @@ module _ (threads objects : ℕ) (some-threads : 1 ≤ threads) (some-objects : 
   schedule-same (event ∷ rest) t lists represents sound =
       let same = event-same t lists represents sound event in
       let table : handle t event .table ≡ turn-on record-kind threads objects t event .table = ap (λ (x : TurnOf Table). x .table) same in
-      let (after, sound-after, reply) = turn-represents threads objects t lists represents sound event in
+      let (after, sound-after, reply, named) = turn-represents threads objects t lists represents sound event in
       let (last, shown) = schedule-same rest (turn-on record-kind threads objects t event .table) (turn threads objects lists event .table) after sound-after in (
         ap (λ (x : Table). final-of x rest) table ∙ last,
         λ j. record { event = event; reply = same j .reply } ∷ (ap (λ (x : Table). shown-of x rest) table ∙ shown) j,
@@ -55,19 +78,18 @@ module _ (threads objects : ℕ) (some-threads : 1 ≤ threads) (some-objects : 
       → World lists plain → OthersEndRight t plain events
   others-end [] t lists plain represents sound world = tt
   others-end (event ∷ rest) t lists plain represents sound world =
-      let (after, sound-after, reply) = turn-represents threads objects t lists represents sound event in
+      let (after, sound-after, reply, named) = turn-represents threads objects t lists represents sound event in
       let turned = turn threads objects lists event in
-      let same : turn-of (handle t event) ≡ record { table = turn-on record-kind threads objects t event .table; reply = turned .reply } =
-      event-same t lists represents sound event ∙ (λ j. record { table = turn-on record-kind threads objects t event .table; reply = reply j }) in
-      rw (ap (λ (x : TurnOf Table). x .table) same, ap (λ (x : TurnOf Table). x .reply) same) (
-        λ n (other, before, idle). turn-ends threads objects lists plain world n (phase-busy threads objects t lists represents sound n before) event other
-            (phase-idle threads objects _ (turned .table) after sound-after n idle),
+      let same = event-same t lists represents sound event in
+      rw (ap (λ (x : TurnOf Table). x .table) same, ap (λ (x : TurnOf Table). x .reply) same ∙ reply) (
+        λ n ended. let (other, busy, idle) = ended-so event t _ lists (turned .table) represents sound after sound-after .0 ended in
+            turn-ends threads objects lists plain world n busy event other idle,
         others-end rest _ (turned .table) (feed plain event (turned .reply)) after sound-after (world-turn threads objects lists plain world event),
       )
 
 -- the same of a schedule from a fresh table
 module _ (request : FreshRequest) (in-range : InRange request) (events : List Event) where
-  from-fresh : let table = fresh-of request .table in
+  pub from-fresh : let table = fresh-of request .table in
       (final-of table events ≡ final-on record-kind (request .threads) (request .objects) table events)
       × (shown-of table events ≡ shown-on record-kind (request .threads) (request .objects) table events)
   from-fresh =
@@ -105,7 +127,7 @@ event-represents : (t : Table) → WellTyped t → sound-of t ≡ true → (even
     → (lists : ListTable) × Represents (t .threadcount) (t .objectcount) (handle t event .table) lists × SoundTable (t .threadcount) (t .objectcount) lists
 event-represents t typed sound event =
     let (lists, represents, fine) = sound-represents t (typed .threads) (typed .objects) (λ o real inside. typed .depths o) sound in
-    let (after, fine-after, reply) = turn-represents (t .threadcount) (t .objectcount) t lists represents fine event in (
+    let (after, fine-after, reply, named) = turn-represents (t .threadcount) (t .objectcount) t lists represents fine event in (
       turn (t .threadcount) (t .objectcount) lists event .table,
       rw (ap (λ (x : TurnOf Table). x .table) (event-is-turn t sound event)) after,
       fine-after,

@@ -1,4 +1,5 @@
 -- What is claimed of every schedule, and the runs of encoded ones.
 pub mod Schedule
 pub mod Demand
+pub mod Interpreter
 pub mod Runs

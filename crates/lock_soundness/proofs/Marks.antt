@@ -10,19 +10,11 @@ use lib.ListN.{length, getD, set, length-set}
 use lib.Seq.{getD-set-same, getD-set-other}
 use Rattle.laws.specs.Choice.{pick, either}
 use Rattle.laws.specs.Count.{count}
-use Rattle.laws.proofs.Choice.{false≢true, Equal, equal}
+use Rattle.laws.proofs.Choice.{false≢true, Equal, equal, either-no, either-yes}
 use Rattle.laws.proofs.Facts.{Reads, reads-as, reads-ltb, reads-either}
 use Rattle.chains.specs.Chain.{members, chain-test, in-chain}
 use Rattle.chains.proofs.Test.{in-chain-count}
 use Rattle.lock_soundness.specs.OnePass.{marked}
-
-pub either-no : (b : Bool) → either b false ≡ b
-either-no true = refl
-either-no false = refl
-
-pub either-yes : (b : Bool) → either b true ≡ true
-either-yes true = refl
-either-yes false = refl
 
 -- the thread is marked
 abbrev pub IsMarked : List Bool → ℕ → Type 0

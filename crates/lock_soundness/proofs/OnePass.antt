@@ -11,7 +11,7 @@ use lib.ListN.{length, getD, replicate, getD-replicate, length-replicate}
 use borrow.Author.Tests.{le-leb, lt-leb}
 use Rattle.laws.specs.Choice.{pick, both, either}
 use Rattle.laws.specs.{Count.count, Every.all-up-to}
-use Rattle.laws.proofs.Choice.{false≢true, equal?, both-first, both-second}
+use Rattle.laws.proofs.Choice.{false≢true, equal?, both-first, both-second, either-no, either-yes}
 use Rattle.laws.proofs.Count.{count-none}
 use Rattle.chains.specs.Chain.{members, chain-test}
 use Rattle.chains.proofs.Chain.{members-none}
@@ -34,7 +34,7 @@ use Rattle.laws.proofs.Facts.{reads-used-and-past, reads-same}
 use Rattle.lock_soundness.proofs.Chained.{follow, reads-chain, members-real}
 use Rattle.lock_soundness.proofs.Reading.{Each, threads-in-chain, Sound, reads-sizes, sound-is}
 use Rattle.lock_soundness.proofs.OnePassTurns.{empty-passes}
-use Rattle.lock_soundness.proofs.Marks.{either-no, either-yes, IsMarked, reads-more, reads-right, marked-length, reads-marked}
+use Rattle.lock_soundness.proofs.Marks.{IsMarked, reads-more, reads-right, marked-length, reads-marked}
 
 -- a first test that says more than the second asks
 reads-covered : {a b : Bool} {P Q : Type 0} → Reads a P → Reads b Q → (P → Q) → Reads (either a b) Q

@@ -7,6 +7,7 @@ use mathlib.Core.Bool.{Bool, true, false}
 use native.Mathlib.Numerals.{add-one, sub-one}
 use native.Mathlib.Omega.{arith}
 use lib.Dec.{eqb}
+use lib.Bits.{or-zero-r}
 use lib.ListN.{getD, set}
 use borrow.Author.Tests.{eq-eqb, ne-eqb}
 use Rattle.laws.specs.Choice.{pick}
@@ -25,7 +26,8 @@ use Rattle.lock_perform.specs.InPlace.{plan-at}
 use Rattle.lock_perform.specs.declared.moving.ChainPlan.{ChainPlan}
 use Rattle.lock_perform.proofs.InPlace.{with-threads, relinked-alone}
 use Rattle.lock_work.specs.Waiters.{part-waiters}
-use Rattle.lock_work.specs.Tick.{moved-monitor, handing, hand-if-free, tick-waited, tick-object, tick-to}
+use Rattle.lock_work.specs.Tick.{moved-monitor, handing, hand-if-free, tick-waited, behind, tick-object, tick-to}
+use Rattle.lock_work.specs.declared.settling.WorkDone.{WorkDone}
 
 -- a monitor that nobody holds is handed to the first of the entry chain; one that somebody holds leaves every record
 pub handed-in-place : (t : Table) (monitor : Monitor)
@@ -49,14 +51,17 @@ module _ (t : Table) (done : ℕ) (small : done < object-limit) where
   abbrev number : ℕ
   number = done + 1
 
-  abbrev after-hand : CarriedOut → ObjectRecord → Table
-  after-hand after object =
+  abbrev written-over : CarriedOut → ObjectRecord → Table
+  written-over after object =
       record {
         threadcount = after .table .threadcount;
         objectcount = after .table .objectcount;
         threads = after .table .threads;
         objects = set (after .table .objects) done (with-monitor object (after .monitor));
       }
+
+  abbrev after-hand : CarriedOut → ObjectRecord → WorkDone
+  after-hand after object = record { table = written-over after object; unparked = after .unparked }
 
   abbrev hung-behind : PartedChain → ObjectRecord → Table
   hung-behind parted object = hang thread-limit (parted .table) (object .monitor .entry) (parted .parting .taken .first)
@@ -67,7 +72,7 @@ module _ (t : Table) (done : ℕ) (small : done < object-limit) where
       object-in t number (λ none. omega (arith, none)) (omega (arith, small)) ∙ ap (λ (n : ℕ). getD (t .objects) n no-object) place
 
   written-here : (after : CarriedOut) (object : ObjectRecord)
-      → set-object (after .table) number (with-monitor object (after .monitor)) ≡ after-hand after object
+      → set-object (after .table) number (with-monitor object (after .monitor)) ≡ written-over after object
   written-here after object =
       let place : number - 1 ≡ done = omega arith in
       set-object-in (after .table) number (with-monitor object (after .monitor)) (λ none. omega (arith, none)) (omega (arith, small))
@@ -84,14 +89,18 @@ module _ (t : Table) (done : ℕ) (small : done < object-limit) where
       → parted ≡ part-waiters thread-limit t no-parting (object .monitor .waiting)
       → after-hand (hand-if-free (hung-behind parted object) (moved-monitor (object .monitor) (parted .parting))) object ≡ tick-waited t number
   by-definition object is parted parted-is =
-      sym (written-here (hand-if-free (hung-behind parted object) (moved-monitor (object .monitor) (parted .parting))) object) ∙ rw (parted-is, is) refl
+      let after = hand-if-free (hung-behind parted object) (moved-monitor (object .monitor) (parted .parting)) in
+      (λ j. record { table = sym (written-here after object) j; unparked = after .unparked }) ∙ rw (parted-is, is) refl
 
   pub waited-in-place : {object : ObjectRecord} {parted : PartedChain} {hung : Table} {monitor : Monitor} {work : ChainWork} {heir place : ℕ} {planned : ChainPlan}
       {written : ObjectRecord}
       → object ≡ getD (t .objects) done no-object → parted ≡ part-waiters thread-limit t no-parting (object .monitor .waiting) → hung ≡ hung-behind parted object
       → monitor ≡ moved-monitor (object .monitor) (parted .parting) → work ≡ handing monitor → heir ≡ touched work monitor → place ≡ thread-place heir
       → planned ≡ plan-at work monitor 0 0 (getD (hung .threads) place no-thread) → written ≡ with-monitor object (planned .monitor)
-      → record { threadcount = hung .threadcount; objectcount = hung .objectcount; threads = set (hung .threads) place (planned .changed); objects = set (hung .objects) done written }
+      → record {
+        table = record { threadcount = hung .threadcount; objectcount = hung .objectcount; threads = set (hung .threads) place (planned .changed); objects = set (hung .objects) done written };
+        unparked = planned .unparked;
+      }
       ≡ tick-waited t number
   waited-in-place {object} {parted} {hung} is parted-is hung-is monitor-is work-is heir-is place-is planned-is written-is =
       rw (written-is, planned-is, place-is, heir-is, work-is, monitor-is, hung-is)
@@ -99,20 +108,20 @@ module _ (t : Table) (done : ℕ) (small : done < object-limit) where
       ∙ by-definition object (is ∙ sym read-here) parted parted-is)
 
 -- the next object, on which nobody waits, and one on which somebody does
-pub tick-skips : (t : Table) (done : ℕ) → done < object-limit → getD (tick-to done t .objects) done no-object .monitor .waiting ≡ 0
+pub tick-skips : (t : Table) (done : ℕ) → done < object-limit → getD (tick-to done t .table .objects) done no-object .monitor .waiting ≡ 0
     → tick-to done t ≡ tick-to (done + 1) t
 unfolding tick-to tick-object
 tick-skips t done small none =
-    let read = object-in (tick-to done t) (suc done) (λ e. omega (arith, e)) (omega (arith, small)) in
-    let waiting : object-at (tick-to done t) (suc done) .monitor .waiting ≡ 0 =
+    let read = object-in (tick-to done t .table) (suc done) (λ e. omega (arith, e)) (omega (arith, small)) in
+    let waiting : object-at (tick-to done t .table) (suc done) .monitor .waiting ≡ 0 =
     ap (λ (object : ObjectRecord). object .monitor .waiting) read ∙ (rw sub-one none) in
-    rw (add-one done, eq-eqb _ 0 waiting) refl
+    rw (add-one done, eq-eqb _ 0 waiting) (λ j. record { table = tick-to done t .table; unparked = sym (or-zero-r (tick-to done t .unparked)) j })
 
-pub tick-takes : (t : Table) (done : ℕ) → done < object-limit → getD (tick-to done t .objects) done no-object .monitor .waiting ≢ 0
-    → tick-waited (tick-to done t) (done + 1) ≡ tick-to (done + 1) t
+pub tick-takes : (t : Table) (done : ℕ) → done < object-limit → getD (tick-to done t .table .objects) done no-object .monitor .waiting ≢ 0
+    → behind (tick-to done t) (tick-waited (tick-to done t .table) (done + 1)) ≡ tick-to (done + 1) t
 unfolding tick-to tick-object
 tick-takes t done small some =
-    let read = object-in (tick-to done t) (suc done) (λ e. omega (arith, e)) (omega (arith, small)) in
-    let waiting : object-at (tick-to done t) (suc done) .monitor .waiting ≢ 0 =
+    let read = object-in (tick-to done t .table) (suc done) (λ e. omega (arith, e)) (omega (arith, small)) in
+    let waiting : object-at (tick-to done t .table) (suc done) .monitor .waiting ≢ 0 =
     λ none. some (sym (ap (λ (object : ObjectRecord). object .monitor .waiting) (rw sub-one at read)) ∙ none) in
     rw (add-one done, ne-eqb _ 0 waiting) refl

@@ -1,6 +1,7 @@
 -- A tick of the clock (document 02, L1): "objects rising, waiters in chain order, and a monitor that nobody holds is then handed".
 use Prim.Native.Nat.{ℕ, zero, suc}
 use lib.Dec.{eqb}
+use lib.Bits.{bitOr}
 use Rattle.laws.specs.Choice.{pick}
 use Rattle.chains.specs.declared.named.Chain.{Chain}
 use Rattle.lock_rules.specs.declared.ChainWork.{ChainWork}
@@ -16,6 +17,7 @@ use Rattle.lock_perform.specs.Moving.{CarriedOut, relink}
 use Rattle.lock_perform.specs.Parting.{no-parting}
 use Rattle.lock_perform.specs.declared.parting.Parting.{Parting}
 use Rattle.lock_work.specs.Waiters.{part-waiters}
+use Rattle.lock_work.specs.declared.settling.WorkDone.{WorkDone}
 
 -- those that ran out join the entry chain; the waiting chain is left to the others
 abbrev pub moved-monitor : Monitor → Parting → Monitor
@@ -28,24 +30,32 @@ handing monitor = pick (eqb (monitor .holder) 0) Hand Stay
 unfoldable pub hand-if-free : Table → Monitor → CarriedOut
 hand-if-free table monitor = relink table monitor (handing monitor) 0 0
 
--- an object on which somebody waits
-abbrev pub tick-waited : Table → ℕ → Table
+-- an object on which somebody waits; whom the hand unparks is passed up
+abbrev pub tick-waited : Table → ℕ → WorkDone
 tick-waited table number =
     let object = object-at table number in
     let monitor = object .monitor in
     let parted = part-waiters thread-limit table no-parting (monitor .waiting) in
     let hung = hang thread-limit (parted .table) (monitor .entry) (parted .parting .taken .first) in
     let after = hand-if-free hung (moved-monitor monitor (parted .parting)) in
-    set-object (after .table) number (with-monitor object (after .monitor))
+    record { table = set-object (after .table) number (with-monitor object (after .monitor)); unparked = after .unparked }
+
+-- nobody is unparked
+abbrev pub untouched : Table → WorkDone
+untouched table = record { table = table; unparked = 0 }
 
 -- where nobody waits nobody moves, and a monitor that nobody holds has nobody to be handed to
-unfoldable pub tick-object : Table → ℕ → Table
-tick-object table number = pick (eqb (object-at table number .monitor .waiting) 0) table (tick-waited table number)
+unfoldable pub tick-object : Table → ℕ → WorkDone
+tick-object table number = pick (eqb (object-at table number .monitor .waiting) 0) (untouched table) (tick-waited table number)
+
+-- one object after others: the set of all whom they unparked
+abbrev pub behind : WorkDone → WorkDone → WorkDone
+behind before after = record { table = after .table; unparked = bitOr (before .unparked) (after .unparked) }
 
 -- the first so many objects, rising
-unfoldable pub tick-to : ℕ → Table → Table
-tick-to zero table = table
-tick-to (suc number) table = tick-object (tick-to number table) (suc number)
+unfoldable pub tick-to : ℕ → Table → WorkDone
+tick-to zero table = untouched table
+tick-to (suc number) table = let before = tick-to number table in behind before (tick-object (before .table) (suc number))
 
-abbrev pub tick : Table → Table
+abbrev pub tick : Table → WorkDone
 tick table = tick-to object-limit table

@@ -22,7 +22,7 @@ abbrev pub chains-done : Table → ℕ → ℕ → ThreadRecord → ObjectRecord
 chains-done table thread number own object work =
     record { table = worked table thread number own object work; unparked = carry-out table (object .monitor) work thread number .unparked }
 
--- whom a tick unparks is not named yet
+-- the work of an event that leaves some
 unfoldable pub work-done : Work → Table → ℕ → ℕ → ThreadRecord → ObjectRecord → WorkDone
 work-done (Chains work) table thread number own object = chains-done table thread number own object work
-work-done Tick table thread number own object = record { table = tick table; unparked = 0 }
+work-done Tick table thread number own object = tick table

@@ -44,7 +44,7 @@ pub fn work_stays(work: Work) -> bool
     }
 }
 
-// The table with the work done, and the set of threads that a rule's work unparked: bit n - 1 for thread n. Whom a tick unparks is not named yet.
+// The table with the work done, and the set of threads that it unparked: bit n - 1 for thread n.
 pub struct WorkDone {
     pub table: Table,
     pub unparked: u32,
@@ -127,9 +127,6 @@ pub fn work_done(
 {
     match work {
         Work::Chains(chains) => chains_done(table, thread, number, own, object, chains),
-        Work::Tick => WorkDone {
-            table: tick(table),
-            unparked: 0,
-        },
+        Work::Tick => tick(table),
     }
 }

@@ -1,4 +1,5 @@
 // A tick at each object: the waiters that run out join the entry chain, and a monitor that nobody holds is handed.
+use crate::settling::WorkDone;
 use crate::waiters::runs_out;
 use crate::waiters::waiter_after;
 use chains::Chain;
@@ -42,11 +43,12 @@ fn handing(monitor: Monitor) -> ChainWork
 }
 
 // All objects, rising. Where nobody waits nobody moves, and a monitor that nobody holds has nobody to be handed to. The table stands in this function
-// alone: the waiters are parted, those that go are hung behind the entry chain, and its first is handed the monitor.
-pub(crate) fn tick(table: Table) -> Table
+// alone: the waiters are parted, those that go are hung behind the entry chain, and its first is handed the monitor. Only the hand unparks anybody.
+pub(crate) fn tick(table: Table) -> WorkDone
     ensures { λ r. ⌜ r ≡ tick table ⌝ }
 {
     let mut changed = table;
+    let mut unparked: u32 = 0;
     let mut done: u8 = 0;
     while done < OBJECTS {
         let home = done as usize;
@@ -83,9 +85,13 @@ pub(crate) fn tick(table: Table) -> Table
             let planned = plan_at(work, monitor, 0, 0, changed.threads[place]);
             let heir = planned.changed;
             changed.threads[place] = heir;
+            unparked = unparked | planned.unparked;
             let handed = planned.monitor;
             changed.objects[home] = object.with_monitor(handed);
         }
     }
-    changed
+    WorkDone {
+        table: changed,
+        unparked: unparked,
+    }
 }

@@ -17,7 +17,7 @@ use Rattle.replay_lines.specs.declared.reading.Line.{Line}
 use Rattle.replay_lines.specs.declared.reading.Line.the-variants.{Header, Begin, Step, Tick, Malformed}
 use Rattle.replay_text.specs.Text.{answer-text}
 use Rattle.replay_text.specs.declared.answer.Answer.{Answer}
-use Rattle.replay_text.specs.declared.answer.Answer.the-variants.{Silent, Alone, Accepted}
+use Rattle.replay_text.specs.declared.answer.Answer.the-variants.{Silent, Alone, Ticked, Accepted}
 use Rattle.replay_parts.specs.Replay.{Replay}
 use Rattle.replay_session.specs.declared.session.Stage.{Stage}
 use Rattle.replay_session.specs.declared.session.Stage.the-variants.{Opening, Running, Over}
@@ -55,21 +55,25 @@ phase-of table thread = phase-number (thread-at table thread .phase)
 abbrev pub word-of : Table → ℕ → ℕ
 word-of table object = object-at table object .word
 
--- a refused event prints its number alone; else returned, phase, woken, word
-unfoldable pub answer-from : ℕ → ℕ → ℕ → ℕ → ℕ → Answer
-answer-from first number phase woken word = pick (leb first number) (Alone number) (Accepted number phase woken word)
+-- a refused event, a tick too, prints its number alone; else what is printed of an accepted one
+unfoldable pub answer-from : ℕ → ℕ → Answer → Answer
+answer-from first number accepted = pick (leb first number) (Alone number) accepted
 
-abbrev pub answer-with : ℕ → ℕ → ℕ → ℕ → Answer
-answer-with number phase woken word = answer-from first-refusal number phase woken word
+-- of an event of a thread: returned, phase, woken, word and whom it unparked
+abbrev pub answer-with : ℕ → ℕ → ℕ → ℕ → ℕ → Answer
+answer-with number phase woken word unparked = answer-from first-refusal number (Accepted number phase woken word unparked)
+
+-- of a tick: returned and whom it unparked
+abbrev pub tick-answer : ℕ → ℕ → Answer
+tick-answer number unparked = answer-from first-refusal number (Ticked number unparked)
 
 abbrev pub after-event : Outcome → ℕ → ℕ → Reaction
 after-event outcome thread object =
     staying Running (outcome .table)
-    (answer-with (reply-returned (outcome .reply)) (phase-of (outcome .table) thread) (reply-woken (outcome .reply)) (word-of (outcome .table) object))
+    (answer-with (reply-returned (outcome .reply)) (phase-of (outcome .table) thread) (reply-woken (outcome .reply)) (word-of (outcome .table) object) (outcome .unparked))
 
--- a tick prints its number alone, refused or not
 abbrev pub after-tick : Outcome → Reaction
-after-tick outcome = staying Running (outcome .table) (Alone (reply-returned (outcome .reply)))
+after-tick outcome = staying Running (outcome .table) (tick-answer (reply-returned (outcome .reply)) (outcome .unparked))
 
 abbrev pub begun-by : Table → ℕ → ℕ → ℕ → ℕ → Reaction
 begun-by table thread operation object limit = after-event (begin table thread operation object limit) thread object

@@ -74,6 +74,6 @@ runs-thread-event Opening line = false
 runs-thread-event Running line = is-thread-event line
 runs-thread-event Over line = false
 
--- what an event prints, by the records of its turn
-abbrev pub turn-answer : Reply → Phase → ℕ → Answer
-turn-answer reply phase word = answer-with (reply-returned reply) (phase-number phase) (reply-woken reply) word
+-- what an event prints, by the records of its turn and whom it unparked
+abbrev pub turn-answer : Reply → Phase → ℕ → ℕ → Answer
+turn-answer reply phase word unparked = answer-with (reply-returned reply) (phase-number phase) (reply-woken reply) word unparked

@@ -26,7 +26,7 @@ use replay_lines::Line;
 use replay_text::Answer;
 ghost use mathlib.Core.Path.{_≡_};
 ghost use Rattle.lock_rules.specs.Numbers.{first-refusal};
-ghost use Rattle.replay_session.specs.Session.{staying, opened-by, open-by, phase-of, word-of, answer-from, answer-with, after-event, after-tick, closing-by, closing-of};
+ghost use Rattle.replay_session.specs.Session.{staying, opened-by, open-by, phase-of, word-of, answer-from, answer-with, tick-answer, after-event, after-tick, closing-by, closing-of};
 ghost use Rattle.replay_session.specs.Trusting.{event-known, line-event, is-thread-event, runs-thread-event, turn-answer, run-by, react-by, react-trusting};
 
 pub struct Reaction {
@@ -115,27 +115,45 @@ fn first_refusal() -> u8
     refusal_number(Refusal::NotSound)
 }
 
-// A refusal prints its number alone; else returned, phase, woken and word.
-fn answer_from(first: u8, number: u8, phase: u8, woken: u8, word: u32) -> Answer
-    ensures { λ r. ⌜ r ≡ answer-from first number phase woken word ⌝ }
+// A refusal prints its number alone, whatever is printed of an event that is accepted.
+fn answer_from(first: u8, number: u8, accepted: Answer) -> Answer
+    ensures { λ r. ⌜ r ≡ answer-from first number accepted ⌝ }
 {
     if first <= number {
         return Answer::Alone {
             number: number as u16,
         };
     }
-    Answer::Accepted {
-        returned: number,
-        phase: phase,
-        woken: woken,
-        word: word,
-    }
+    accepted
 }
 
-fn answer_with(number: u8, phase: u8, woken: u8, word: u32) -> Answer
-    ensures { λ r. ⌜ r ≡ answer-with number phase woken word ⌝ }
+fn answer_with(number: u8, phase: u8, woken: u8, word: u32, unparked: u32) -> Answer
+    ensures { λ r. ⌜ r ≡ answer-with number phase woken word unparked ⌝ }
 {
-    answer_from(first_refusal(), number, phase, woken, word)
+    answer_from(
+        first_refusal(),
+        number,
+        Answer::Accepted {
+            returned: number,
+            phase: phase,
+            woken: woken,
+            word: word,
+            unparked: unparked,
+        },
+    )
+}
+
+fn tick_answer(number: u8, unparked: u32) -> Answer
+    ensures { λ r. ⌜ r ≡ tick-answer number unparked ⌝ }
+{
+    answer_from(
+        first_refusal(),
+        number,
+        Answer::Ticked {
+            returned: number,
+            unparked: unparked,
+        },
+    )
 }
 
 // What an event of this thread prints; `object` is that of its operation, which may just have finished.
@@ -149,6 +167,7 @@ fn after_event(outcome: Outcome, thread: u8, object: u8) -> Reaction
         phase_of(table, thread),
         woken(reply),
         word_of(table, object),
+        outcome.unparked,
     );
     stay(Stage::Running, table, answer)
 }
@@ -165,19 +184,14 @@ fn event_by(table: Table, event: Event, issound: bool) -> Reaction
     )
 }
 
-// A tick prints its number alone, refused or not.
+// What a tick prints.
 fn after_tick(outcome: Outcome) -> Reaction
     ensures { λ r. ⌜ r ≡ after-tick outcome ⌝ }
 {
     let table = outcome.table;
     let reply = outcome.reply;
-    stay(
-        Stage::Running,
-        table,
-        Answer::Alone {
-            number: returned(reply) as u16,
-        },
-    )
+    let answer = tick_answer(returned(reply), outcome.unparked);
+    stay(Stage::Running, table, answer)
 }
 
 // A line behind a good header.
@@ -299,11 +313,17 @@ pub fn runs_thread_event(stage: Stage, line: Line) -> bool
     }
 }
 
-// What an event prints, by its reply, its thread's phase and its object's word.
-pub fn turn_answer(reply: Reply, phase: Phase, word: u32) -> Answer
-    ensures { λ r. ⌜ r ≡ turn-answer reply phase word ⌝ }
+// What an event prints, by its reply, its thread's phase, its object's word and whom it unparked.
+pub fn turn_answer(reply: Reply, phase: Phase, word: u32, unparked: u32) -> Answer
+    ensures { λ r. ⌜ r ≡ turn-answer reply phase word unparked ⌝ }
 {
-    answer_with(returned(reply), phase_number(phase), woken(reply), word)
+    answer_with(
+        returned(reply),
+        phase_number(phase),
+        woken(reply),
+        word,
+        unparked,
+    )
 }
 
 fn closing_by(stage: Stage, table: Table) -> Reaction

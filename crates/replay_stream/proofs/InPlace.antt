@@ -29,10 +29,10 @@ use Rattle.replay_session.specs.declared.session.Stage.the-variants.{Opening, R
 use Rattle.replay_stream.proofs.SoundSession.{WellTypedBy}
 
 -- a refusal prints its number, whatever else there is to print
-refused-alike : (number phase woken word phase′ word′ : ℕ) → leb first-refusal number ≡ true
-    → answer-with number phase woken word ≡ answer-with number phase′ woken word′
+refused-alike : (number phase woken word unparked phase′ word′ : ℕ) → leb first-refusal number ≡ true
+    → answer-with number phase woken word unparked ≡ answer-with number phase′ woken word′ unparked
 unfolding answer-from
-refused-alike number phase woken word phase′ word′ high = rw high refl
+refused-alike number phase woken word unparked phase′ word′ high = rw high refl
 
 module _ (t : Table) (event : Event) (issound : Bool) (known : issound ≡ sound-of t) (typed : WellTyped t)
     (other : is-tick event ≡ false) where
@@ -43,11 +43,11 @@ module _ (t : Table) (event : Event) (issound : Bool) (known : issound ≡ sound
   turned = turn-here t event issound
 
   -- what is printed of the turn is what the table after it says
-  prints-here : turn-answer (turned .reply) (turned .own .phase) (turned .object .word) ≡ event-known t event issound .answer
+  prints-here : turn-answer (turned .reply) (turned .own .phase) (turned .object .word) (outcome .unparked) ≡ event-known t event issound .answer
   prints-here =
       rw (ap (λ (x : Outcome). x .reply) (in-place t event issound))
       (split (leb first-refusal (reply-returned (turned .reply)))
-      (λ high. refused-alike (reply-returned (turned .reply)) _ (reply-woken (turned .reply)) _ _ _ high)
+      (λ high. refused-alike (reply-returned (turned .reply)) _ (reply-woken (turned .reply)) _ (outcome .unparked) _ _ high)
       (λ low.
       let accepted : reply-returned (turned .reply) < first-refusal = leb-false first-refusal (reply-returned (turned .reply)) low in
       let full : Full t = record { threads = typed .threads; objects = typed .objects } in
@@ -56,22 +56,24 @@ module _ (t : Table) (event : Event) (issound : Bool) (known : issound ≡ sound
       sym
       (ap
       (λ (x : ThreadRecord). answer-with (reply-returned (turned .reply)) (phase-number (thread-at (outcome .table) (event-thread event) .phase))
-      (reply-woken (turned .reply)) (object-at (outcome .table) (event-object event (x .object)) .word)) own
-      ∙ (λ j. answer-with (reply-returned (turned .reply)) (phase-number (phase j)) (reply-woken (turned .reply)) (word j)))))
+      (reply-woken (turned .reply)) (object-at (outcome .table) (event-object event (x .object)) .word) (outcome .unparked)) own
+      ∙ (λ j. answer-with (reply-returned (turned .reply)) (phase-number (phase j)) (reply-woken (turned .reply)) (word j) (outcome .unparked)))))
 
 module _ {t : Table} {event : Event} {issound : Bool} {thread place number home : ℕ} {turn : Turn}
     (taken : Taken t event issound thread place number home turn) (known : issound ≡ sound-of t) (typed : WellTyped t)
     (other : is-tick event ≡ false) where
-  prints-so : turn-answer (turn .reply) (turn .own .phase) (turn .object .word) ≡ event-known t event issound .answer
+  prints-so : turn-answer (turn .reply) (turn .own .phase) (turn .object .word) (handle-trusting t event issound .unparked) ≡ event-known t event issound .answer
   prints-so =
       rw (taken .turn-is, taken .home-is, taken .number-is, taken .place-is, taken .thread-is) (prints-here t event issound known typed other)
 
   -- so the event is what was to be known of it
-  pub event-so : {after : Table} {answer : Answer} → record { table = after; reply = turn .reply; commits = turn .commits } ≡ handle-trusting t event issound
-      → answer ≡ turn-answer (turn .reply) (turn .own .phase) (turn .object .word)
+  pub event-so : {after : Table} {unparked : ℕ} {answer : Answer}
+      → record { table = after; reply = turn .reply; commits = turn .commits; unparked = unparked } ≡ handle-trusting t event issound
+      → answer ≡ turn-answer (turn .reply) (turn .own .phase) (turn .object .word) unparked
       → record { session = record { stage = Running; table = after }; answer = answer } ≡ event-known t event issound
   event-so handled is =
-      λ j. record { session = record { stage = Running; table = handled j .table }; answer = (is ∙ prints-so) j }
+      let printed = is ∙ ap (λ (x : Outcome). turn-answer (turn .reply) (turn .own .phase) (turn .object .word) (x .unparked)) handled ∙ prints-so in
+      λ j. record { session = record { stage = Running; table = handled j .table }; answer = printed j }
 
 -- a line that is an event of a thread
 event-line : (table : Table) (line : Line) (issound : Bool) → is-thread-event line ≡ true → event-known table (line-event line) issound ≡ run-by table line issound
@@ -93,11 +95,11 @@ no-tick Malformed = refl
 
 -- A LINE IN PLACE
 pub line-in-place : (stage : Stage) {table : Table} {line said : Line} {event : Event} {issound : Bool}
-    {thread place number home : ℕ} {turn : Turn} {after : Table} {answer : Answer}
+    {thread place number home unparked : ℕ} {turn : Turn} {after : Table} {answer : Answer}
     → Taken table event issound thread place number home turn → runs-thread-event stage line ≡ true → line ≡ said → event ≡ line-event line
     → issound ≡ sound-by stage table → WellTypedBy stage table
-    → record { table = after; reply = turn .reply; commits = turn .commits } ≡ handle-trusting table event issound
-    → answer ≡ turn-answer (turn .reply) (turn .own .phase) (turn .object .word)
+    → record { table = after; reply = turn .reply; commits = turn .commits; unparked = unparked } ≡ handle-trusting table event issound
+    → answer ≡ turn-answer (turn .reply) (turn .own .phase) (turn .object .word) unparked
     → record { session = record { stage = stage; table = after }; answer = answer }
     ≡ react-trusting (record { stage = stage; table = table }) said issound
 unfolding runs-thread-event react-by sound-by

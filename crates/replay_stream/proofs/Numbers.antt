@@ -31,7 +31,7 @@ narrow-phase outcome thread object = rw (narrow-thread (outcome .table) thread) 
 narrow-word : (outcome : Outcome) (thread object : ℕ) → after-event outcome thread (narrow-of object) ≡ after-event outcome thread object
 narrow-word outcome thread object =
     ap (λ (at : ObjectRecord). staying Running (outcome .table)
-    (answer-with (reply-returned (outcome .reply)) (phase-of (outcome .table) thread) (reply-woken (outcome .reply)) (at .word)))
+    (answer-with (reply-returned (outcome .reply)) (phase-of (outcome .table) thread) (reply-woken (outcome .reply)) (at .word) (outcome .unparked)))
     (narrow-object (outcome .table) object)
 
 pub narrow-begun : (table : Table) (thread operation object limit : ℕ)

@@ -85,17 +85,18 @@ fn react_otherwise(stage: Stage, table: Table, line: Line, issound: bool) -> Rea
 }
 
 // What is printed of an event of a thread.
-fn event_answer(turn: Turn) -> Answer
-    ensures { λ r. ⌜ r ≡ turn-answer (turn .reply) (turn .own .phase) (turn .object .word) ⌝ }
+fn event_answer(turn: Turn, unparked: u32) -> Answer
+    ensures { λ r. ⌜ r ≡ turn-answer (turn .reply) (turn .own .phase) (turn .object .word) unparked ⌝ }
 {
     let reply = turn.reply;
     let own = turn.own;
     let phase = own.phase;
-    turn_answer(reply, phase, turn.object.word)
+    turn_answer(reply, phase, turn.object.word, unparked)
 }
 
 // The whole lines at the start of the part, while there is room for what they print. The rest of the part goes to the next line's reader.
-// The table is tested once for all of them, and stands in this function alone: events read and write their records in place.
+// The table is tested once for all of them, and stands in this function alone: events read and write their records in place. An event is printed when
+// its work is done, which tells whom it unparked.
 fn take_lines(start: Session, input: &[u8], out: &mut [u8]) -> Progress
     requires { ⌜ HasLine (now input) (now out) ⌝ }
     ensures { λ r. ⌜ FedLines start false (now (input .entry)) (now (out .entry)) (now (out .exit)) r ⌝ }
@@ -132,13 +133,16 @@ fn take_lines(start: Session, input: &[u8], out: &mut [u8]) -> Progress
         let after = turn.own;
         let objectafter = turn.object;
         let work = turn.work;
-        wrote = put_answer(out, wrote, event_answer(turn));
+        let mut unparked: u32 = 0;
         if work_stays(work) {
             table.threads[place] = after;
             table.objects[home] = objectafter;
-            continue;
+        } else {
+            let done = work_done(table, thread, number, after, objectafter, work);
+            table = done.table;
+            unparked = done.unparked;
         }
-        table = work_done(table, thread, number, after, objectafter, work).table;
+        wrote = put_answer(out, wrote, event_answer(turn, unparked));
     }
     progressed(stage, table, input.len() - rest.len(), wrote)
 }

@@ -1,5 +1,5 @@
 -- Every line fits the room for one, and none is empty.
-use Prim.Native.Nat.{ℕ, _≤_, _<_}
+use Prim.Native.Nat.{ℕ, suc, _≤_, _<_}
 use mathlib.Core.Path.{_≡_, ap}
 use mathlib.Core.Bool.{Bool, true, false}
 use mathlib.Core.List.{[], _∷_}
@@ -9,10 +9,11 @@ use lib.Dec.{ltb}
 use lib.ListN.{length, length-append}
 use borrow.Author.Tests.{lt-ltb}
 use Rattle.laws.specs.Choice.{pick}
+use Rattle.replay_text.specs.Bytes.{newline, space}
 use Rattle.replay_text.specs.Digits.{digit-byte, digits, places-of, decimal, decimal-limit}
-use Rattle.replay_text.specs.Text.{field-text, word-text, number-line, answer-line, answer-text, field-limit, word-limit, line-room}
+use Rattle.replay_text.specs.Text.{field-text, hexadecimal-text, number-line, tick-line, answer-line, answer-text, field-limit, line-room, word-digits, set-digits}
 use Rattle.replay_text.specs.declared.answer.Answer.{Answer}
-use Rattle.replay_text.specs.declared.answer.Answer.the-variants.{Silent, Alone, Accepted}
+use Rattle.replay_text.specs.declared.answer.Answer.the-variants.{Silent, Alone, Ticked, Accepted}
 use Rattle.replay_text.proofs.Stores.{digits-length}
 
 pick-most : (test : Bool) (a b n : ℕ) → a ≤ n → b ≤ n → pick test a b ≤ n
@@ -39,24 +40,30 @@ pub field-fits : (number end : ℕ) → length (field-text number end) ≤ field
 unfolding field-text
 field-fits number end = omega (arith, length-append (decimal number) (end ∷ []), decimal-fits number)
 
-pub word-fits : (word : ℕ) → length (word-text word) ≤ word-limit
-unfolding word-text
-word-fits word = omega (arith, length-append (digits 16 6 word) (10 ∷ []), digits-length 16 6 word)
+pub hexadecimal-length : (width number end : ℕ) → length (hexadecimal-text width number end) ≡ suc width
+unfolding hexadecimal-text
+hexadecimal-length width number end = omega (arith, length-append (digits 16 width number) (end ∷ []), digits-length 16 width number)
 
 field-some : (number end : ℕ) → 0 < length (field-text number end)
 unfolding field-text
 field-some number end = omega (arith, length-append (decimal number) (end ∷ []))
 
 pub number-line-fits : (number : ℕ) → length (number-line number) ≤ line-room
-number-line-fits number = omega (arith, field-fits number 10)
+number-line-fits number = omega (arith, field-fits number newline)
 
-pub answer-line-fits : (returned phase woken word : ℕ) → length (answer-line returned phase woken word) ≤ line-room
+pub tick-line-fits : (returned unparked : ℕ) → length (tick-line returned unparked) ≤ line-room
+unfolding tick-line
+tick-line-fits returned unparked = simp (length-append) (omega (arith, field-fits returned space, hexadecimal-length set-digits unparked newline))
+
+pub answer-line-fits : (returned phase woken word unparked : ℕ) → length (answer-line returned phase woken word unparked) ≤ line-room
 unfolding answer-line
-answer-line-fits returned phase woken word =
-    simp (length-append) (omega (arith, field-fits returned 32, field-fits phase 32, field-fits woken 32, word-fits word))
+answer-line-fits returned phase woken word unparked =
+    simp (length-append)
+    (omega (arith, field-fits returned space, field-fits phase space, field-fits woken space, hexadecimal-length word-digits word space, hexadecimal-length set-digits unparked newline))
 
 pub answer-fits : (answer : Answer) → length (answer-text answer) ≤ line-room
 unfolding answer-text
 answer-fits Silent = omega arith
 answer-fits (Alone number) = number-line-fits number
-answer-fits (Accepted returned phase woken word) = answer-line-fits returned phase woken word
+answer-fits (Ticked returned unparked) = tick-line-fits returned unparked
+answer-fits (Accepted returned phase woken word unparked) = answer-line-fits returned phase woken word unparked

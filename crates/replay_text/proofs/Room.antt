@@ -2,12 +2,12 @@
 use Prim.Native.Nat.{ℕ, _+_, _-_, _≤_, _<_}
 use mathlib.Core.Path.{_≡_, refl, sym, _∙_}
 use mathlib.Core.Bool.{true, false}
-use mathlib.Core.List.{List, [], _++_}
+use mathlib.Core.List.{List, _++_}
 use native.Mathlib.Omega.{arith}
 use lib.Dec.{leb}
 use lib.ListN.{length, take}
 use borrow.Author.Tests.{le-leb, lt-leb, leb-true, leb-false}
-use Rattle.laws.proofs.Choice.{split, pick-same}
+use Rattle.laws.proofs.Choice.{split}
 use Rattle.replay_text.specs.Text.{line-room}
 use Rattle.replay_text.specs.Written.{Wrote, Put}
 use Rattle.replay_text.proofs.Stores.{wrote-front, wrote-length}
@@ -45,10 +45,3 @@ module _ {before after : List ℕ} {at r : ℕ} {line : List ℕ} where
 
 pub put-refused : (bytes : List ℕ) (at : ℕ) (line : List ℕ) → leb (at + line-room) (length bytes) ≡ false → Put bytes bytes at at line
 put-refused bytes at line short = record { place = rw short refl; bytes = rw short refl }
-
--- nothing to write needs no room
-pub put-nothing : (bytes : List ℕ) (at : ℕ) → Put bytes bytes at at []
-put-nothing bytes at = record {
-  place = let none : at + 0 ≡ at = omega arith in rw none (sym (pick-same (leb (at + line-room) (length bytes)) at));
-  bytes = sym (pick-same (leb (at + line-room) (length bytes)) bytes);
-}

@@ -48,6 +48,9 @@ unfolding digits
 digits-done zero at base number bytes none = refl
 digits-done (suc left) at base number bytes none = absurd (not-suc-le-zero none)
 
+pub wrote-nothing : (bytes : List ℕ) (at : ℕ) → Wrote bytes bytes at at []
+wrote-nothing bytes at = record { place = omega arith; bytes = refl }
+
 pub wrote-both : {start middle end : List ℕ} {at between r : ℕ} {first second : List ℕ}
     → Wrote start middle at between first → Wrote middle end between r second → Wrote start end at r (first ++ second)
 wrote-both {start} {at = at} {between} {first = first} {second = second} a b = record {

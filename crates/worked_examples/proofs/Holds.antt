@@ -6,13 +6,15 @@ use Rattle.laws.specs.Sequence.{tabulate}
 use Rattle.lock_table.specs.Access.{thread-at, set-thread, object-at, set-object}
 use Rattle.lock_table.specs.Chain.{hang, moved-phase, move-all}
 use Rattle.lock_work.specs.Waiters.{runs-out, waiter-after}
-use Rattle.lock_work.specs.Tick.{handing, hand-if-free, tick-object}
+use Rattle.lock_work.specs.Tick.{handing, hand-if-free, tick-object, tick-to}
+use Rattle.lock_work.specs.Work.{work-done}
 use Rattle.event_bytes.specs.Encoding.{event-from, limit-from}
 use Rattle.lock_rules.specs.Limits.{one-less, no-ticks, run-out}
 use Rattle.lock_table.specs.{Fresh.first-word, Fresh.fresh-of, Fresh.fresh-object, Operation.operation-number, Parked.chain-named}
 use Rattle.lock_table.specs.Phase.{phase-number, carried-number, onward-number}
 use Rattle.lock_gate.specs.Status.{thread-status}
-use Rattle.lock_perform.specs.Parting.{thread-set, last-behind, taken-with, passed, part-chain}
+use Rattle.lock_perform.specs.ThreadSet.{thread-set}
+use Rattle.lock_perform.specs.Parting.{last-behind, taken-with, passed, part-chain}
 use Rattle.lock_perform.specs.Moving.{after-whole, let-out}
 use Rattle.sound_records.specs.Records.{names-chain, unused-fits, saves-depth, ticks-fit}
 use Rattle.lock_rules.specs.Rules.{go-in, exit-go-in, exit-tell, enter-try}
@@ -20,9 +22,9 @@ use Rattle.table_bytes.specs.Reading.{enough}
 use Rattle.replay_lines.specs.Number.{is-digit, read-digits, read-number, read-field}
 use Rattle.replay_lines.specs.Grammar.{end-line, read-step, read-begin-limit, read-begin-object, read-begin, operation-of, read-line}
 use Rattle.replay_text.specs.Digits.{digit-byte, digits, places-of, decimal}
-use Rattle.replay_text.specs.Text.{field-text, word-text, answer-line, answer-text}
+use Rattle.replay_text.specs.Text.{field-text, hexadecimal-text, tick-line, answer-line, answer-text}
 use Rattle.worked_examples.specs.{Words.WordExamples, Records.RecordExamples, Rules.RuleExamples, Ticks.TickExamples, LetOuts.LetOutExamples}
-use Rattle.worked_examples.specs.Lines.{LineExamples}
+use Rattle.worked_examples.specs.{Unparks.UnparkExamples, Lines.LineExamples}
 
 pub word-examples : WordExamples
 unfolding read-word read-flat read-reserved fat-of owned-by
@@ -108,8 +110,25 @@ let-out-examples =
       goes-in = refl;
     }
 
+pub unpark-examples : UnparkExamples
+unfolding thread-at set-thread object-at set-object hang moved-phase move-all phase-number carried-number onward-number thread-set last-behind taken-with passed part-chain after-whole let-out runs-out waiter-after handing hand-if-free tick-object tick-to work-done
+unpark-examples =
+    record {
+      first-bit = refl;
+      last-bit = refl;
+      contending = refl;
+      waiting = refl;
+      inflating = refl;
+      telling = refl;
+      notifying = refl;
+      notifying-all = refl;
+      free = refl;
+      held = refl;
+      both = refl;
+    }
+
 pub line-examples : LineExamples
-unfolding is-digit read-digits read-number read-field end-line read-step read-begin-limit read-begin-object read-begin operation-of read-line digit-byte digits places-of decimal field-text word-text answer-line answer-text
+unfolding is-digit read-digits read-number read-field end-line read-step read-begin-limit read-begin-object read-begin operation-of read-line digit-byte digits places-of decimal field-text hexadecimal-text tick-line answer-line answer-text
 line-examples =
     record {
       step = refl;
@@ -122,5 +141,8 @@ line-examples =
       tick = refl;
       tick-spaced = refl;
       word = refl;
+      set = refl;
       answer = refl;
+      ticked = refl;
+      tick-refused = refl;
     }

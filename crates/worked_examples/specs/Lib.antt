@@ -4,4 +4,5 @@ pub mod Records
 pub mod Rules
 pub mod Ticks
 pub mod LetOuts
+pub mod Unparks
 pub mod Lines

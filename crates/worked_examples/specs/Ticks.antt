@@ -17,15 +17,23 @@ use Rattle.lock_table.specs.declared.operation.Operation.the-variants.{Wait, Ti
 use Rattle.lock_table.specs.declared.phase.Phase.{Phase}
 use Rattle.lock_table.specs.declared.phase.Phase.the-variants.{Waiting, Queued}
 use Rattle.lock_table.specs.declared.phase.Onward.the-variants.{ToResume}
-use Rattle.lock_table.specs.declared.record.{ThreadRecord.ThreadRecord, Table.Table}
+use Rattle.lock_table.specs.declared.record.{ThreadRecord.ThreadRecord, ObjectRecord.ObjectRecord, Table.Table}
 use Rattle.sound_records.specs.Records.{ticks-fit}
 use Rattle.lock_work.specs.Tick.{tick-object}
 use Rattle.event_bytes.specs.Encoding.{event-at}
 
--- a thread that gave up object 1 at depth 1, with so many ticks left and a thread behind it in its chain
+-- a thread that gave up an object at depth 1, with so many ticks left and a thread behind it in its chain
+abbrev pub suspended-at : ℕ → Operation → ℕ → Phase → ℕ → ThreadRecord
+suspended-at object operation ticks phase next =
+    record { kept = 0; saved = 1; ticks = ticks; object = object; next = next; operation = operation; phase = phase }
+
 abbrev pub suspended : Operation → ℕ → Phase → ℕ → ThreadRecord
-suspended operation ticks phase next =
-    record { kept = 0; saved = 1; ticks = ticks; object = 1; next = next; operation = operation; phase = phase }
+suspended = suspended-at 1
+
+-- an object on which a thread waits
+abbrev pub waited-for : ℕ → ℕ → ℕ → ℕ → ObjectRecord
+waited-for word holder entry waiting =
+    record { word = word; monitor = record { depth = 0; holder = holder; entry = entry; contention = 0; waiting = waiting }; flag = false }
 
 -- Threads 2, 1, 3 and 4 wait in this order: 2 and 4 for one more tick, 1 without a limit, 3 for two more. Thread 5 was notified with one tick left.
 abbrev pub waited : ℕ → ℕ → Table
@@ -40,19 +48,15 @@ waited holder entry =
           ∷ suspended TimedWait 1 Waiting 0
           ∷ suspended TimedWait 1 (Queued ToResume) 0
           ∷ [];
-      objects = record {
-        word = 0x000101;
-        monitor = record { depth = 0; holder = holder; entry = entry; contention = 0; waiting = 2 };
-        flag = false;
-      } ∷ [];
+      objects = waited-for 0x000101 holder entry 2 ∷ [];
     }
 
 -- the tick while nobody holds the monitor, and while thread 6 does and thread 5 is queued
 abbrev pub free-after : Table
-free-after = tick-object (waited 0 0) 1
+free-after = tick-object (waited 0 0) 1 .table
 
 abbrev pub held-after : Table
-held-after = tick-object (waited 6 5) 1
+held-after = tick-object (waited 6 5) 1 .table
 
 pub record TickExamples : Type 0 where
   -- the first that ran out is handed the monitor, the other one queues

@@ -1,8 +1,19 @@
 -- Every example holds: both sides compute to the same.
 use mathlib.Core.Path.{refl}
-use Rattle.lock_engine_c.specs.Calls.{reply-changes}
+use Rattle.lock_rules.specs.Numbers.{refusal-number}
+use Rattle.lock_engine.specs.Outcome.{reply-returned}
+use Rattle.lock_engine_c.specs.Calls.{packed-of, reply-changes}
+use Rattle.replay_session.specs.Session.{answer-from}
 use Rattle.worked_outcomes.specs.Outcomes.{OutcomeExamples}
 
 pub outcome-examples : OutcomeExamples
-unfolding reply-changes
-outcome-examples = record { stored = refl; kept = λ refusal. refl; printed = λ outcome thread object. refl }
+unfolding refusal-number reply-returned packed-of reply-changes answer-from
+outcome-examples =
+    record {
+      stored = refl;
+      kept = λ refusal. refl;
+      answered = refl;
+      printed = λ outcome thread object. refl;
+      ticked = λ outcome. refl;
+      tick-refused = λ outcome. refl;
+    }

@@ -3,17 +3,29 @@ use Prim.Native.Nat.{ℕ}
 use mathlib.Core.Path.{_≡_}
 use mathlib.Core.Bool.{true, false}
 use Rattle.lock_rules.specs.declared.event.Refusal.{Refusal}
+use Rattle.lock_rules.specs.declared.event.Refusal.the-variants.{NotSound}
 use Rattle.lock_engine.specs.Outcome.{reply-returned, reply-woken}
 use Rattle.lock_engine.specs.declared.outcome.Outcome.{Outcome}
+use Rattle.lock_engine.specs.declared.outcome.Reply.{Reply}
 use Rattle.lock_engine.specs.declared.outcome.Reply.the-variants.{Accepted, Refused}
-use Rattle.lock_engine_c.specs.Calls.{reply-changes}
-use Rattle.replay_session.specs.Session.{phase-of, word-of, answer-with, after-event}
+use Rattle.lock_engine_c.specs.Calls.{packed-of, reply-changes}
+use Rattle.replay_text.specs.declared.answer.Answer.the-variants.{Alone, Ticked}
+use Rattle.replay_session.specs.Session.{phase-of, word-of, answer-with, after-event, after-tick}
+
+-- an outcome with this reply
+abbrev pub replied : Outcome → Reply → Outcome
+replied outcome reply = record { table = outcome .table; reply = reply; commits = outcome .commits; unparked = outcome .unparked }
 
 pub record OutcomeExamples : Type 0 where
   -- a begin or a tick that was not refused is stored, a refused event is not
   pub stored : reply-changes Accepted ≡ true
   pub kept : (refusal : Refusal) → reply-changes (Refused refusal) ≡ false
-  -- the phase is that of the thread, the word that of the object
+  -- an answer for C has the set from bit 32 on: here thread 1 and thread 32
+  pub answered : packed-of 2 0 true 0x80000001 ≡ 0x8000000100010002
+  -- the phase is that of the thread, the word that of the object, the set that of the outcome
   pub printed : (outcome : Outcome) (thread object : ℕ)
       → after-event outcome thread object .answer
-      ≡ answer-with (reply-returned (outcome .reply)) (phase-of (outcome .table) thread) (reply-woken (outcome .reply)) (word-of (outcome .table) object)
+      ≡ answer-with (reply-returned (outcome .reply)) (phase-of (outcome .table) thread) (reply-woken (outcome .reply)) (word-of (outcome .table) object) (outcome .unparked)
+  -- an accepted tick prints the set behind its number, a refused one its number alone
+  pub ticked : (outcome : Outcome) → after-tick (replied outcome Accepted) .answer ≡ Ticked 0 (outcome .unparked)
+  pub tick-refused : (outcome : Outcome) → after-tick (replied outcome (Refused NotSound)) .answer ≡ Alone 11

@@ -1,5 +1,6 @@
 //! Operations, answers and refusals, under names.
 
+use crate::thread_set::ThreadSet;
 use core::fmt;
 
 /// The operations of a thread on an object, with their numbers.
@@ -77,7 +78,7 @@ pub enum Answer {
         /// How many threads a notify woke, or, of a timed wait, 1 if it ran out; else 0.
         woken: u8,
     },
-    /// 2: the thread is parked until another's step or a tick lets it go on. An exit may also be let out, see [`Table::step`](crate::Table::step).
+    /// 2: the thread is parked until the step of another, or a tick, has it in [`Outcome::unparked`].
     Parked,
 }
 
@@ -171,13 +172,15 @@ impl fmt::Display for Refusal {
 
 impl core::error::Error for Refusal {}
 
-/// A step's answer, and whether it committed its operation.
+/// An event's answer, whether it committed its operation, and whom it unparked.
 #[derive(Clone, Copy, Debug, PartialEq, Eq, Hash)]
 pub struct Outcome {
-    /// What the step answered, or why it was refused.
+    /// What the event answered, or why it was refused.
     pub result: Result<Answer, Refusal>,
     /// Whether the operation took effect with this step.
     pub commits: bool,
+    /// The threads that were parked before the event and are not after it: run them again. Nobody where it was refused.
+    pub unparked: ThreadSet,
 }
 
 /// A returned number, where it is none of an answer.
@@ -188,8 +191,8 @@ pub(crate) fn refusal(number: u8) -> Refusal {
     }
 }
 
-pub(crate) fn outcome(packed: u32) -> Outcome {
-    let [returned, woken, commits, _] = packed.to_le_bytes();
+pub(crate) fn outcome(packed: u64) -> Outcome {
+    let [returned, woken, commits, ..] = packed.to_le_bytes();
     let result = match returned {
         0 => Ok(Answer::GoneOn),
         1 => Ok(Answer::Finished { woken }),
@@ -199,6 +202,7 @@ pub(crate) fn outcome(packed: u32) -> Outcome {
     Outcome {
         result,
         commits: commits != 0,
+        unparked: ThreadSet::from_bits((packed >> 32) as u32),
     }
 }
 

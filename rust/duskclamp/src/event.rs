@@ -78,7 +78,7 @@ pub struct Packed {
 impl Packed {
     /// What the event answered. A begin or a tick that is not refused has gone on.
     pub fn outcome(self) -> Outcome {
-        answer::outcome(self.number as u32)
+        answer::outcome(self.number)
     }
 
     /// The answer's number, as the library gives it.

@@ -19,6 +19,42 @@
 //! # Ok::<(), duskclamp::Refusal>(())
 //! ```
 //!
+//! An interpreter needs no phases to know whom to run. Begun: into its run queue; finished, parked, refused with `NotOwner`, `TooDeep` or `ThreadIdle`:
+//! out of it; in [`Outcome::unparked`]: into it again. Three threads each enter an object and leave it:
+//!
+//! ```
+//! use duskclamp::{Answer, Operation, Phase, Refusal, Table, Words};
+//! use std::collections::VecDeque;
+//!
+//! let mut table = Table::fresh(3, 1, Words::Free)?;
+//! let mut scripts = vec![[Operation::Enter, Operation::Exit].into_iter(); 3];
+//! let mut idle: Vec<u32> = (1..=3).collect();
+//! let mut queue = VecDeque::new();
+//! loop {
+//!     for thread in idle.drain(..) {
+//!         if let Some(operation) = scripts[thread as usize - 1].next() {
+//!             table.begin(thread, operation, 1)?;
+//!             queue.push_back(thread);
+//!         }
+//!     }
+//!     let Some(thread) = queue.pop_front() else {
+//!         break;
+//!     };
+//!     let outcome = table.step(thread);
+//!     match outcome.result {
+//!         Ok(Answer::GoneOn) => queue.push_back(thread),
+//!         Ok(Answer::Parked) => {}
+//!         // Finished by this step, or before it, as an exit that was let out.
+//!         Ok(Answer::Finished { .. }) | Err(Refusal::ThreadIdle) => idle.push(thread),
+//!         Err(refusal) => return Err(refusal),
+//!     }
+//!     queue.extend(outcome.unparked);
+//! }
+//! assert!(table.threads().all(|thread| thread.phase == Phase::Idle));
+//! assert!(scripts.iter().all(|script| script.len() == 0));
+//! # Ok::<(), Refusal>(())
+//! ```
+//!
 //! What the calls answer is proved of the library that this crate links; the declarations in [`raw`] are not checked against its source. The crate needs
 //! `core` alone. A call takes up to 7.1 KB of stack.
 
@@ -33,11 +69,13 @@ mod event;
 mod phase;
 pub mod raw;
 mod record;
+mod thread_set;
 
 pub use answer::{Answer, Operation, Outcome, Refusal};
 pub use event::{Event, Packed};
 pub use phase::{Onward, Phase};
 pub use record::{Blocker, Chain, Object, Thread};
+pub use thread_set::{ThreadSet, ThreadSetIter};
 
 use core::fmt;
 
@@ -59,7 +97,7 @@ pub const LAYOUT_VERSION: u32 = 2;
 /// The version of the library that is linked: major, minor and patch number.
 ///
 /// ```
-/// assert_eq!(duskclamp::version(), (0, 4, 0));
+/// assert_eq!(duskclamp::version(), (0, 5, 0));
 /// ```
 pub fn version() -> (u8, u8, u8) {
     let [patch, minor, major, _] = raw::version().to_le_bytes();
@@ -123,8 +161,8 @@ impl Table {
         &self.bytes
     }
 
-    /// The thread begins the operation on the object. A timed wait has a limit too and is begun by [`Table::timed_wait`]; here it is refused with
-    /// `LimitOutOfRange`.
+    /// The thread begins the operation on the object; that unparks nobody. A timed wait has a limit too and is begun by [`Table::timed_wait`]; here it
+    /// is refused with `LimitOutOfRange`.
     pub fn begin(&mut self, thread: u32, operation: Operation, object: u32) -> Result<(), Refusal> {
         self.begin_number(thread, operation.number().into(), object)
     }
@@ -167,7 +205,8 @@ impl Table {
     }
 
     /// One tick of the clock: each timed wait in a waiting chain loses one of its ticks. Those at zero run out: they move to the entry chain, and a
-    /// monitor that nobody holds is handed to the first. A wait that ran out finishes with the woken number 1, one that was notified with 0.
+    /// monitor that nobody holds is handed to the first. Whoever is handed one is unparked and in the set; the others stay parked. A wait that ran out
+    /// finishes with the woken number 1, one that was notified with 0.
     ///
     /// ```
     /// use duskclamp::{Answer, Operation, Phase, Refusal, Table, Words};
@@ -179,20 +218,18 @@ impl Table {
     /// assert_eq!(table.phase(1), Ok(Phase::Waiting));
     ///
     /// // Nobody notifies it; with the second tick it runs out, and has the monitor, since nobody else does.
-    /// table.tick()?;
+    /// assert!(table.tick()?.is_empty());
     /// assert_eq!(table.ticks(1), Ok(1));
     /// assert_eq!(table.step(1).result, Err(Refusal::ThreadParked));
-    /// table.tick()?;
+    /// assert!(table.tick()?.contains(1));
     /// assert_eq!(table.phase(1), Ok(Phase::Resume));
     /// assert_eq!(table.step(1).result, Ok(Answer::Finished { woken: 1 }));
     /// assert_eq!(table.owner(1), Ok(1));
     /// # Ok::<(), Refusal>(())
     /// ```
-    pub fn tick(&mut self) -> Result<(), Refusal> {
-        match raw::tick(&mut self.bytes) as u8 {
-            0 => Ok(()),
-            number => Err(answer::refusal(number)),
-        }
+    pub fn tick(&mut self) -> Result<ThreadSet, Refusal> {
+        let outcome = answer::outcome(raw::tick(&mut self.bytes));
+        outcome.result.map(|_| outcome.unparked)
     }
 
     /// The thread takes one step of its operation.
@@ -206,8 +243,8 @@ impl Table {
     /// ```
     ///
     /// An operation ends with the step that answers `Finished`, `NotOwner` or `TooDeep`, save that an exit which has parked may be let out: a step of
-    /// another thread that inflates the lock ends it. That counts as its `Finished`, with 0 woken, though no call returns it. Who waits for a parked
-    /// exit asks [`Table::phase`], or takes `ThreadIdle` for its end.
+    /// another thread that inflates the lock ends it, and has its thread in [`Outcome::unparked`]. That thread's next step is refused with `ThreadIdle`,
+    /// which stands for the exit's `Finished`, with 0 woken.
     ///
     /// ```
     /// use duskclamp::{Answer, Onward, Operation, Phase, Refusal, Table, Words};
@@ -225,8 +262,9 @@ impl Table {
     /// assert_eq!(table.phase(1), Ok(Phase::Queued(Onward::Tell)));
     ///
     /// // Thread 2 finds the word free and inflates; there is nothing left to tell it.
-    /// assert_eq!(table.step(2).result, Ok(Answer::Finished { woken: 0 }));
-    /// assert_eq!(table.phase(1), Ok(Phase::Idle));
+    /// let outcome = table.step(2);
+    /// assert_eq!(outcome.result, Ok(Answer::Finished { woken: 0 }));
+    /// assert!(outcome.unparked.iter().eq([1]));
     /// assert_eq!(table.step(1).result, Err(Refusal::ThreadIdle));
     /// table.begin(1, Operation::Enter, 1)?;
     /// # Ok::<(), Refusal>(())
@@ -270,6 +308,7 @@ impl Table {
     /// let mut answers = [Packed::default(); 9];
     /// assert_eq!(table.run(&events, &mut answers), 9);
     /// assert_eq!(answers[7].outcome().result, Ok(Answer::GoneOn));
+    /// assert!(answers[7].outcome().unparked.contains(1));
     /// assert_eq!(answers[8].outcome().result, Ok(Answer::Finished { woken: 1 }));
     /// # Ok::<(), duskclamp::Refusal>(())
     /// ```
@@ -570,19 +609,19 @@ mod tests {
         assert_eq!(table.ticks(2), Ok(0));
     }
 
-    /// The thread owns object 1 and waits there with this limit.
-    fn wait_timed(table: &mut Table, thread: u32, limit: u32) {
-        table.begin(thread, Operation::Enter, 1).unwrap();
+    /// The thread enters the object and waits there with this limit.
+    fn wait_timed(table: &mut Table, thread: u32, object: u32, limit: u32) {
+        table.begin(thread, Operation::Enter, object).unwrap();
         while table.step(thread).result.unwrap() == Answer::GoneOn {}
-        table.timed_wait(thread, 1, limit).unwrap();
+        table.timed_wait(thread, object, limit).unwrap();
         while table.step(thread).result.unwrap() == Answer::GoneOn {}
     }
 
     #[test]
     fn one_runs_out_and_another_is_notified() {
         let mut table = Table::fresh(3, 1, Words::Reserved).unwrap();
-        wait_timed(&mut table, 1, 1);
-        wait_timed(&mut table, 2, 3);
+        wait_timed(&mut table, 1, 1, 1);
+        wait_timed(&mut table, 2, 1, 3);
         table.begin(3, Operation::Enter, 1).unwrap();
         while table.step(3).result.unwrap() == Answer::GoneOn {}
         table.tick().unwrap();
@@ -599,6 +638,17 @@ mod tests {
             assert_eq!(resumed.result, Ok(Answer::Finished { woken }));
             assert!(resumed.commits);
         }
+    }
+
+    #[test]
+    fn one_tick_unparks_at_many_objects() {
+        let mut table = Table::fresh(MAX_THREADS, 2, Words::Free).unwrap();
+        wait_timed(&mut table, MAX_THREADS, 1, 1);
+        wait_timed(&mut table, 1, 2, 1);
+        assert!(table.step(1).unparked.is_empty());
+        let unparked = table.tick().unwrap();
+        assert!(unparked.iter().eq([1, MAX_THREADS]));
+        assert!(table.tick().unwrap().is_empty());
     }
 
     #[test]

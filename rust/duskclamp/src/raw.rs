@@ -1,7 +1,8 @@
 //! The calls of `include/duskclamp.h` on borrowed bytes, with their packed answers. Any bytes and any numbers are answered.
 //!
 //! An event's answer has the returned number in bits 0 to 7; in bits 8 to 15, with 1, how many threads a notify woke, or, of a timed wait, 1 if it ran
-//! out, else 0; and in bit 16 whether the step commits. A question's answer has the returned number in bits 0 to 7 and, where that is 0, the value above.
+//! out, else 0; in bit 16 whether the step commits; and in bits 32 to 63 the set of threads that the event unparked, bit 32 for thread 1. A question's
+//! answer has the returned number in bits 0 to 7 and, where that is 0, the value above.
 
 mod declared {
     extern "C" {
@@ -21,16 +22,16 @@ mod declared {
             thread: u32,
             operation: u32,
             object: u32,
-        ) -> u32;
+        ) -> u64;
         pub fn duskclamp_timed_wait(
             bytes: *mut u8,
             length: usize,
             thread: u32,
             object: u32,
             limit: u32,
-        ) -> u32;
-        pub fn duskclamp_step(bytes: *mut u8, length: usize, thread: u32) -> u32;
-        pub fn duskclamp_tick(bytes: *mut u8, length: usize) -> u32;
+        ) -> u64;
+        pub fn duskclamp_step(bytes: *mut u8, length: usize, thread: u32) -> u64;
+        pub fn duskclamp_tick(bytes: *mut u8, length: usize) -> u64;
         pub fn duskclamp_run(
             bytes: *mut u8,
             length: usize,
@@ -88,24 +89,25 @@ pub fn fresh(bytes: &mut [u8], threads: u32, objects: u32, reserved: u32) -> u32
 }
 
 /// The thread begins the operation on the object. A timed wait is refused with 23 for want of a limit: [`timed_wait`] takes one.
-pub fn begin(bytes: &mut [u8], thread: u32, operation: u32, object: u32) -> u32 {
+pub fn begin(bytes: &mut [u8], thread: u32, operation: u32, object: u32) -> u64 {
     unsafe { declared::duskclamp_begin(bytes.as_mut_ptr(), bytes.len(), thread, operation, object) }
 }
 
 /// The thread begins a wait on the object that runs out after so many ticks.
-pub fn timed_wait(bytes: &mut [u8], thread: u32, object: u32, limit: u32) -> u32 {
+pub fn timed_wait(bytes: &mut [u8], thread: u32, object: u32, limit: u32) -> u64 {
     unsafe {
         declared::duskclamp_timed_wait(bytes.as_mut_ptr(), bytes.len(), thread, object, limit)
     }
 }
 
-/// The thread takes a step. A step of another thread may end an exit that has parked: its thread is idle then, and its next step is answered 15.
-pub fn step(bytes: &mut [u8], thread: u32) -> u32 {
+/// The thread takes a step. A step of another thread may end an exit that has parked: its thread is in that step's set and idle, and its next step is
+/// answered 15.
+pub fn step(bytes: &mut [u8], thread: u32) -> u64 {
     unsafe { declared::duskclamp_step(bytes.as_mut_ptr(), bytes.len(), thread) }
 }
 
 /// One tick of the clock.
-pub fn tick(bytes: &mut [u8]) -> u32 {
+pub fn tick(bytes: &mut [u8]) -> u64 {
     unsafe { declared::duskclamp_tick(bytes.as_mut_ptr(), bytes.len()) }
 }
 

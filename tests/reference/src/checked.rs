@@ -1,24 +1,28 @@
 //! Runs a schedule through the engine and holds every event to demands 1 and 3, as the requests amend them.
 
 use crate::engine::{apply, Event};
-use crate::exits::{check_parked, let_out, Ended};
+use crate::exits::{check_parked, let_out};
+use crate::met::Met;
 use crate::outcome::{Outcome, Returned};
 use crate::plain::PlainMonitors;
 use crate::replay::{open_schedule, Line};
+use crate::run_queue::CheckedQueue;
 use crate::sound::is_sound;
 use crate::table::Table;
+use crate::unparked::check_unparked;
 
-/// A run of the engine with the plain monitors beside it.
+/// A run of the engine with the plain monitors and an interpreter's run queue beside it.
 pub struct Checked {
     pub table: Table,
     pub plain: PlainMonitors,
-    pub ended: Ended,
+    pub queue: CheckedQueue,
+    pub met: Met,
 }
 
-/// Describes the first event at which a demand does not hold; else gives how exits ended. A schedule without a good header has no events.
-pub fn check_schedule(input: &[u8]) -> Result<Ended, String> {
+/// Describes the first event at which a demand does not hold; else gives what was met. A schedule without a good header has no events.
+pub fn check_schedule(input: &[u8]) -> Result<Met, String> {
     let Some((table, lines)) = open_schedule(input) else {
-        return Ok(Ended::default());
+        return Ok(Met::default());
     };
     let mut run = Checked::new(table);
     for (place, line) in lines.enumerate() {
@@ -27,7 +31,7 @@ pub fn check_schedule(input: &[u8]) -> Result<Ended, String> {
                 .map_err(|wrong| format!("event on line {}: {wrong}", place + 2))?;
         }
     }
-    Ok(run.ended)
+    Ok(run.met)
 }
 
 impl Checked {
@@ -36,7 +40,8 @@ impl Checked {
         Checked {
             plain: PlainMonitors::new(table.objects),
             table,
-            ended: Ended::default(),
+            queue: CheckedQueue::default(),
+            met: Met::default(),
         }
     }
 
@@ -45,14 +50,18 @@ impl Checked {
         let before = self.table.clone();
         let outcome = apply(&mut self.table, event);
         check_refusal(&before, &self.table, event, outcome.returned)?;
+        check_unparked(&before, &self.table, outcome)?;
         self.plain.feed(event, outcome)?;
         if !outcome.returned.is_refusal() {
-            self.ended.note(&before, &self.table, event)?;
+            self.met.note(&before, &self.table, event, outcome)?;
         }
-        for thread in let_out(&before, &self.table, event) {
-            self.plain.ended_by_another(thread)?;
+        let let_out = let_out(&before, &self.table, event);
+        for thread in &let_out {
+            self.plain.ended_by_another(*thread)?;
         }
         check_table(&self.table, &self.plain)?;
+        self.queue.feed(event, outcome, &let_out, &mut self.met);
+        self.queue.check(&self.table)?;
         Ok(outcome)
     }
 }

@@ -4,6 +4,7 @@ use crate::outcome::{Outcome, Returned};
 use crate::sound::is_sound;
 use crate::table::{Chain, Monitor, ObjectRecord, Onward, Operation, Phase, Table, ThreadRecord};
 use crate::table::{MAX_DEPTH, MAX_LIMIT};
+use crate::thread_set::ThreadSet;
 use crate::word::{LockWord, MAX_COUNT};
 
 /// What the interpreter asks for. The numbers are as given and may be out of range.
@@ -125,13 +126,14 @@ pub fn tick(table: &mut Table) -> Outcome {
     if !is_worked_on(table) {
         return Outcome::of(Returned::NotSound);
     }
+    let mut unparked = ThreadSet::default();
     for object in 1..=table.objects {
         tick_waiting(table, object);
         if table.object(object).monitor.holder == 0 {
-            table.hand(object);
+            unparked.extend(table.hand(object));
         }
     }
-    Outcome::of(Returned::GoneOn)
+    Outcome::of(Returned::GoneOn).unparking(unparked)
 }
 
 fn tick_waiting(table: &mut Table, object: u8) {
@@ -335,8 +337,8 @@ impl Turn<'_> {
                 self.finish().committing()
             }
             LockWord::Flat { thread, count } if self.is_own(thread) => {
-                self.inflate(u16::from(count) + 2);
-                self.finish().committing()
+                let let_out = self.inflate(u16::from(count) + 2);
+                self.finish().committing().unparking(let_out)
             }
             LockWord::Free | LockWord::Flat { .. } => {
                 self.object().contention_flag = true;
@@ -349,13 +351,12 @@ impl Turn<'_> {
     fn try_again(&mut self) -> Outcome {
         match self.word() {
             LockWord::Free => {
-                self.inflate(1);
-                self.finish().committing()
+                let let_out = self.inflate(1);
+                self.finish().committing().unparking(let_out)
             }
             LockWord::Flat { thread, .. } if !self.is_own(thread) => {
                 self.park(Chain::Contention, Phase::Contending);
-                self.table.hand(self.object);
-                Outcome::of(Returned::Parked)
+                Outcome::of(Returned::Parked).unparking(self.hand())
             }
             _ => no_rule(),
         }
@@ -382,8 +383,8 @@ impl Turn<'_> {
         if self.monitor().depth > 0 {
             return no_rule();
         }
-        self.table.hand(self.object);
-        self.finish()
+        let handed = self.hand();
+        self.finish().unparking(handed)
     }
 
     // 12 inflate, 13 wait, 15 resume
@@ -391,8 +392,8 @@ impl Turn<'_> {
     fn inflate_to_wait(&mut self) -> Outcome {
         match self.word() {
             LockWord::Flat { thread, count } if self.is_own(thread) => {
-                self.inflate(u16::from(count) + 1);
-                self.go_on(Phase::Wait)
+                let let_out = self.inflate(u16::from(count) + 1);
+                self.go_on(Phase::Wait).unparking(let_out)
             }
             _ => no_rule(),
         }
@@ -406,8 +407,9 @@ impl Turn<'_> {
         self.record().saved_depth = depth;
         self.monitor().depth = 0;
         self.park(Chain::Waiting, Phase::Waiting);
-        self.table.hand(self.object);
-        Outcome::of(Returned::Parked).committing()
+        Outcome::of(Returned::Parked)
+            .committing()
+            .unparking(self.hand())
     }
 
     fn resume(&mut self) -> Outcome {
@@ -506,22 +508,31 @@ impl Turn<'_> {
         }
     }
 
-    fn inflate(&mut self, depth: u16) {
+    /// Names the thread that the monitor went to, if any.
+    fn hand(&mut self) -> ThreadSet {
+        self.table.hand(self.object).into_iter().collect()
+    }
+
+    /// Names the exits that are let out.
+    fn inflate(&mut self, depth: u16) -> ThreadSet {
         self.write(LockWord::Fat {
             monitor: u16::from(self.object),
         });
         self.object().contention_flag = false;
-        self.let_exits_out();
+        let let_out = self.let_exits_out();
         while self.move_first(Chain::Contention, Onward::Check) {}
         self.monitor().depth = depth;
+        let_out
     }
 
-    /// Exits queued for entry have nobody left to tell: they are finished, by this thread's step.
-    fn let_exits_out(&mut self) {
+    /// Exits queued for entry have nobody left to tell: they are finished, by this thread's step. Names them.
+    fn let_exits_out(&mut self) -> ThreadSet {
         let is_exit = |record: &mut ThreadRecord| record.phase == Phase::Queued(Onward::Tell);
-        for thread in self.table.take_out(self.object, Chain::Entry, is_exit) {
-            self.table.make_idle(thread);
+        let exits = self.table.take_out(self.object, Chain::Entry, is_exit);
+        for thread in &exits {
+            self.table.make_idle(*thread);
         }
+        exits.into_iter().collect()
     }
 }
 

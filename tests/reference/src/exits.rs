@@ -1,7 +1,6 @@
-//! Request L2's exits: whom one that is parked waits for, and how often one ends without going in.
+//! Request L2's exits: whom one that is parked waits for, and which were let out.
 
 use crate::engine::Event;
-use crate::report::Report;
 use crate::table::{Operation, Phase, Table};
 use crate::word::LockWord;
 
@@ -52,65 +51,4 @@ pub fn let_out(before: &Table, after: &Table, event: Event) -> Vec<u8> {
         .filter(|&thread| u16::from(thread) != own)
         .filter(|&thread| !idle(before, thread) && idle(after, thread))
         .collect()
-}
-
-/// The phases of the steps by which an exit ends without going in: its own from 4, at the flag, and another's from the three that inflate.
-const PHASES: [u8; 4] = [4, 6, 7, 12];
-/// A whole run has at least so many of each.
-const LEAST: u64 = 100;
-
-/// How many exits ended without going in, by the phase of the step that ended them.
-#[derive(Clone, Copy, Debug, Default, PartialEq, Eq)]
-pub struct Ended([u64; PHASES.len()]);
-
-impl Ended {
-    /// Notes what an accepted event did.
-    pub fn note(&mut self, before: &Table, after: &Table, event: Event) -> Result<(), String> {
-        let Event::Step { thread } = event else {
-            return Ok(());
-        };
-        let (old, new) = (before.thread(thread as u8), after.thread(thread as u8));
-        let at_the_flag = old.operation == Some(Operation::Exit)
-            && old.phase == Phase::GoIn
-            && new.phase == Phase::Idle;
-        let number = let_out(before, after, event).len() + usize::from(at_the_flag);
-        self.add(old.phase.number(), number as u64)
-    }
-
-    /// Notes so many exits ended by a step from the phase. No other phase than the four ends any.
-    pub fn add(&mut self, phase: u8, number: u64) -> Result<(), String> {
-        match PHASES.iter().position(|known| *known == phase) {
-            Some(place) => self.0[place] += number,
-            None if number == 0 => {}
-            None => return Err(format!("a step from phase {phase} let exits out")),
-        }
-        Ok(())
-    }
-
-    pub fn add_all(&mut self, other: &Ended) {
-        for (number, more) in self.0.iter_mut().zip(other.0) {
-            *number += more;
-        }
-    }
-
-    pub fn print(&self) {
-        let [at_the_flag, check, again, inflate] = self.0;
-        println!("exits finished at the flag in phase 4: {at_the_flag}");
-        println!("exits let out at phase 6: {check}, at 7: {again}, at 12: {inflate}");
-    }
-
-    pub fn each_is_at_least(&self, least: u64) -> bool {
-        self.0.iter().all(|number| *number >= least)
-    }
-
-    /// A whole run must have met each of the four often enough.
-    pub fn check(&self, report: &mut Report) {
-        for (phase, number) in PHASES.into_iter().zip(self.0) {
-            let result = match number {
-                LEAST.. => Ok(()),
-                _ => Err(format!("{number} met, of at least {LEAST}")),
-            };
-            report.check(&format!("exits ended at phase {phase}"), result);
-        }
-    }
 }

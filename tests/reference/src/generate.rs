@@ -1,11 +1,11 @@
 //! Makes schedules from a seed: few threads and objects in the thick of it, so that they collide in many orders.
 //! It follows the engine's table to choose events that go somewhere, with some refused and malformed ones on purpose.
 
-use crate::aimed;
 use crate::engine::{apply, Event};
 use crate::random::Random;
 use crate::table::{Operation, Phase, Table, MAX_LIMIT, MAX_OBJECTS, MAX_THREADS};
 use crate::word::MAX_COUNT;
+use crate::{aimed_exits, aimed_ticks};
 use std::io::Write;
 
 /// Sizes up to which most tables go.
@@ -15,6 +15,36 @@ const FEW_OBJECTS: u64 = 3;
 const FEW_TICKS: u64 = 6;
 /// With every thread parked the clock goes on alone while one of them has at most so many ticks left.
 const TICKS_ALONE: u16 = 20;
+
+/// What a schedule aims at before it goes on at random.
+#[derive(Clone, Copy)]
+enum Target {
+    Nothing,
+    /// Exits that end without going in, so many times.
+    Exits(u64),
+    /// Ticks that hand several monitors, so many times.
+    Ticks(u64),
+}
+
+impl Target {
+    /// Three schedules in ten aim at exits, and two at ticks.
+    fn draw(random: &mut Random) -> Target {
+        match random.between(1, 10) {
+            1..=3 => Target::Exits(random.between(1, 3)),
+            4..=5 => Target::Ticks(random.between(1, 2)),
+            _ => Target::Nothing,
+        }
+    }
+
+    /// The least numbers of threads and of objects.
+    fn least_sizes(self) -> (u8, u8) {
+        match self {
+            Target::Nothing => (1, 1),
+            Target::Exits(_) => (aimed_exits::LEAST_THREADS, 1),
+            Target::Ticks(_) => (aimed_ticks::LEAST, aimed_ticks::LEAST),
+        }
+    }
+}
 
 /// What one schedule is to be like. Chances are in percent of events.
 struct Plan {
@@ -36,21 +66,17 @@ struct Plan {
     /// How often a wait has a limit, and how often that is a long one.
     timed: u64,
     long_limit: u64,
-    /// How often the schedule aims at exits that end without going in before it goes on at random.
-    aims: u64,
+    aim: Target,
     /// How often the clock ticks. Without timed waits and ticks no number is drawn for them: the schedules of benchmarks stay the same.
     tick: u64,
 }
 
 impl Plan {
     fn draw(random: &mut Random) -> Plan {
-        let aims = random.pick(&AIMS);
-        let least_threads = match aims {
-            0 => 1,
-            _ => aimed::LEAST_THREADS,
-        };
+        let aim = Target::draw(random);
+        let (least_threads, least_objects) = aim.least_sizes();
         let threads = size(random, FEW_THREADS, MAX_THREADS).max(least_threads);
-        let objects = size(random, FEW_OBJECTS, MAX_OBJECTS);
+        let objects = size(random, FEW_OBJECTS, MAX_OBJECTS).max(least_objects);
         let all_busy = random.percent(5);
         let most_threads = if all_busy { threads } else { FEW_THREADS as u8 };
         let most_objects = random.pick(&[1, 1, 1, 2, FEW_OBJECTS as u8]);
@@ -60,7 +86,7 @@ impl Plan {
             reserved: random.percent(50),
             busy_threads: some_of(random, threads, least_threads, most_threads),
             busy_objects: some_of(random, objects, 1, most_objects),
-            aims,
+            aim,
             length: match random.between(1, 100) {
                 1..=2 => random.between(2_000, 6_000),
                 3..=25 => random.between(300, 1_000),
@@ -88,10 +114,12 @@ fn size(random: &mut Random, few: u64, largest: usize) -> u8 {
     }
 }
 
-/// Some neighbours among the numbers from 1 to the last.
+/// Some neighbours among the numbers from 1 to the last, half of the time with the last.
 fn some_of(random: &mut Random, last: u8, least: u8, most: u8) -> Vec<u8> {
     let number = random.between(least.into(), most.min(last).into()) as u8;
-    let first = random.between(1, (last - number + 1).into()) as u8;
+    let highest = last - number + 1;
+    let any = random.between(1, highest.into()) as u8;
+    let first = random.pick(&[any, highest]);
     (first..first + number).collect()
 }
 
@@ -148,7 +176,7 @@ pub fn long_schedule(seed: u64, length: u64, threads: u8, objects: u8, ticks: u6
         busy_threads: (1..=threads).collect(),
         // With one busy object and no waits, or none but short timed ones, the threads cannot block each other for good.
         busy_objects: vec![1],
-        aims: 0,
+        aim: Target::Nothing,
         length,
         sticky: 30,
         stray: 0,
@@ -213,7 +241,12 @@ impl Generator {
     fn write_aimed(&mut self) {
         let (threads, object) = (&self.plan.busy_threads, self.plan.busy_objects[0]);
         let (random, table) = (&mut self.random, &mut self.table);
-        for event in aimed::events(random, table, threads, object, self.plan.aims) {
+        let events = match self.plan.aim {
+            Target::Nothing => return,
+            Target::Exits(times) => aimed_exits::events(random, table, threads, object, times),
+            Target::Ticks(times) => aimed_ticks::events(random, table, threads, times),
+        };
+        for event in events {
             write_event_line(event, &mut self.text);
         }
     }
@@ -401,9 +434,6 @@ const UNTIMED: [Operation; 5] = [
     Operation::Notify,
     Operation::NotifyAll,
 ];
-
-/// Three schedules in ten aim.
-const AIMS: [u64; 10] = [0, 0, 0, 0, 0, 0, 0, 1, 2, 3];
 
 /// What an owner does next: exits lead, so that objects pass from hand to hand.
 const OWNER_CHOICES: [Operation; 10] = [

@@ -1,5 +1,7 @@
 //! What an event returns: the specification's numbers under their names, and what goes with them.
 
+use crate::thread_set::ThreadSet;
+
 /// The returned numbers; those from 11 up are refusals.
 #[derive(Clone, Copy, Debug, PartialEq, Eq, PartialOrd, Ord)]
 #[repr(u8)]
@@ -33,12 +35,13 @@ impl Returned {
 }
 
 /// The answer to one event. `woken` says how many threads a finished notify woke, or of a finished timed wait 1 if it ran out; `committed` that the
-/// step carried the mark (c).
+/// step carried the mark (c); `unparked` the other threads that the event unparked, none where it was refused.
 #[derive(Clone, Copy, Debug, PartialEq, Eq)]
 pub struct Outcome {
     pub returned: Returned,
     pub woken: u8,
     pub committed: bool,
+    pub unparked: ThreadSet,
 }
 
 impl Outcome {
@@ -47,6 +50,7 @@ impl Outcome {
             returned,
             woken: 0,
             committed: false,
+            unparked: ThreadSet::default(),
         }
     }
 
@@ -55,5 +59,9 @@ impl Outcome {
             committed: true,
             ..self
         }
+    }
+
+    pub fn unparking(self, unparked: ThreadSet) -> Outcome {
+        Outcome { unparked, ..self }
     }
 }

@@ -195,9 +195,9 @@ impl PlainMonitors {
         Ok(())
     }
 
-    /// A tick is one whole operation on all objects, and answers nothing but that it was accepted.
+    /// A tick is one whole operation on all objects, and answers nothing but that it was accepted. Of the threads it unparked the monitors know nothing.
     fn feed_tick(&mut self, outcome: Outcome) -> Result<(), String> {
-        if outcome != Outcome::of(Returned::GoneOn) {
+        if outcome != Outcome::of(Returned::GoneOn).unparking(outcome.unparked) {
             return Err(format!("a tick was answered {outcome:?}"));
         }
         self.monitors.iter_mut().for_each(PlainMonitor::tick);

@@ -1,8 +1,8 @@
 //! The replay program, from bytes to bytes: a header line, then one event a line, each answered by one line.
 //! Input may come in blocks of any size; no line is held longer than the longest well-formed one.
 
-use crate::engine::{apply, tick, Event};
-use crate::outcome::{Outcome, Returned};
+use crate::engine::{apply, Event};
+use crate::outcome::Returned;
 use crate::table::{Operation, Table};
 use std::io::{self, Read, Write};
 
@@ -11,7 +11,8 @@ const LONGEST_LINE: usize = 19;
 const MAX_DIGITS: usize = 5;
 /// How many bytes a program reads at once.
 const BLOCK: usize = 1 << 16;
-const HEX_DIGITS: u32 = 6;
+const WORD_DIGITS: usize = 6;
+const SET_DIGITS: usize = 8;
 const BITS_PER_HEX_DIGIT: u32 = 4;
 
 /// A line of the form.
@@ -222,18 +223,23 @@ fn header(line: &[u8], output: &mut Vec<u8>) -> State {
 
 fn event_line(table: &mut Table, event: Event, output: &mut Vec<u8>) {
     // A finishing step clears the record, so a step's object is read before it.
-    let (thread, object) = match event {
-        Event::Begin { thread, object, .. } => (thread, object as u8),
-        Event::Step { thread } => (thread, object_of(table, thread)),
-        // No thread's event: it prints its number alone also where it is accepted.
-        Event::Tick => return print_number_alone(tick(table).returned, output),
+    let at = match event {
+        Event::Begin { thread, object, .. } => Some((thread, object as u8)),
+        Event::Step { thread } => Some((thread, object_of(table, thread))),
+        Event::Tick => None,
     };
     let outcome = apply(table, event);
     if outcome.returned.is_refusal() {
         return print_number_alone(outcome.returned, output);
     }
-    let phase = table.thread(thread as u8).phase.number();
-    print_outcome(outcome, phase, table.object(object).word, output);
+    print_decimal(outcome.returned.number(), output);
+    if let Some((thread, object)) = at {
+        let phase = table.thread(thread as u8).phase.number();
+        print_place(phase, outcome.woken, table.object(object).word, output);
+    }
+    output.push(b' ');
+    print_hexadecimal::<SET_DIGITS>(outcome.unparked.bits(), output);
+    output.push(b'\n');
 }
 
 /// The object that a thread is at; 0 where it is at none, or there is no such thread.
@@ -243,21 +249,29 @@ fn object_of(table: &Table, thread: u16) -> u8 {
         .map_or(0, |thread| table.thread(thread).object)
 }
 
-fn print_outcome(outcome: Outcome, phase: u8, word: u32, output: &mut Vec<u8>) {
-    for number in [outcome.returned.number(), phase, outcome.woken] {
-        print_decimal(number, output);
+/// What the answer to a thread's event has more than that to a tick.
+fn print_place(phase: u8, woken: u8, word: u32, output: &mut Vec<u8>) {
+    for number in [phase, woken] {
         output.push(b' ');
+        print_decimal(number, output);
     }
-    for place in (0..HEX_DIGITS).rev() {
-        let digit = word >> (place * BITS_PER_HEX_DIGIT) & 0xf;
-        output.push(b"0123456789abcdef"[digit as usize]);
-    }
-    output.push(b'\n');
+    output.push(b' ');
+    print_hexadecimal::<WORD_DIGITS>(word, output);
 }
 
 fn print_number_alone(returned: Returned, output: &mut Vec<u8>) {
     print_decimal(returned.number(), output);
     output.push(b'\n');
+}
+
+/// Prints the lowest digits of a number, the highest of them first.
+fn print_hexadecimal<const DIGITS: usize>(number: u32, output: &mut Vec<u8>) {
+    let digits: [u8; DIGITS] = std::array::from_fn(|place| {
+        let behind = DIGITS - 1 - place;
+        let digit = number >> (behind as u32 * BITS_PER_HEX_DIGIT) & 0xf;
+        b"0123456789abcdef"[digit as usize]
+    });
+    output.extend_from_slice(&digits);
 }
 
 /// Prints a number below 100: returned numbers, phases and woken counts all are.

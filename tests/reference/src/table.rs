@@ -345,8 +345,8 @@ impl Table {
         self.join(object, Chain::Entry, thread);
     }
 
-    /// Gives the monitor to the first thread queued for entry, or to nobody.
-    pub fn hand(&mut self, object: u8) {
+    /// Gives the monitor to the first thread queued for entry, and names it; to nobody where none is.
+    pub fn hand(&mut self, object: u8) -> Option<u8> {
         let next = self.take_first(object, Chain::Entry);
         if let Some(thread) = next {
             let record = self.thread_mut(thread);
@@ -357,5 +357,6 @@ impl Table {
         let monitor = &mut self.object_mut(object).monitor;
         monitor.holder = next.unwrap_or(0);
         monitor.depth = 0;
+        next
     }
 }

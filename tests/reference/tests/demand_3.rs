@@ -5,7 +5,8 @@ mod common;
 use common::{fresh, with_word};
 use reference::checked::{check_schedule, Checked};
 use reference::engine::Event;
-use reference::exits::{check_parked, Ended};
+use reference::exits::check_parked;
+use reference::met::Met;
 use reference::outcome::{Outcome, Returned};
 use reference::plain::PlainMonitors;
 use reference::table::{Chain, Onward, Operation, Phase, Table};
@@ -199,7 +200,7 @@ fn stranding() {
 #[test]
 fn schedules_without_events() {
     for input in ["", "L 1 1 0", "L 33 1 0\nE 1 1\n", "L 1 1 0\n", "x\n"] {
-        assert_eq!(check_schedule(input.as_bytes()), Ok(Ended::default()));
+        assert_eq!(check_schedule(input.as_bytes()), Ok(Met::default()));
     }
 }
 

@@ -1,11 +1,13 @@
 //! That generated schedules go everywhere, are the same for the same seed, and shrink.
 
+mod common;
+
+use common::each_event;
 use reference::checked::check_schedule;
-use reference::engine::{apply, Event};
-use reference::exits::Ended;
+use reference::engine::Event;
 use reference::generate::{long_schedule, schedule};
+use reference::met::{Met, Rare};
 use reference::outcome::{Outcome, Returned};
-use reference::replay::{open_schedule, Line};
 use reference::shrink::shrink;
 use reference::table::{Onward, Operation, Phase, Table, ThreadRecord, MAX_LIMIT};
 use std::collections::BTreeSet;
@@ -14,21 +16,15 @@ const SEEDS: std::ops::Range<u64> = 0..400;
 
 /// The phases stepped from and the numbers returned in a schedule.
 fn visit(input: &[u8], phases: &mut BTreeSet<u8>, numbers: &mut BTreeSet<u8>) {
-    let Some((mut table, lines)) = open_schedule(input) else {
-        return;
-    };
-    for line in lines {
-        let Some(Line::Event(event)) = line else {
-            continue;
-        };
+    each_event(input, |before, _, event, outcome| {
         if let Event::Step { thread } = event {
-            let record = table
+            let record = before
                 .thread_number(thread)
-                .map(|thread| table.thread(thread));
+                .map(|thread| before.thread(thread));
             phases.extend(record.map(|record| record.phase.number()));
         }
-        numbers.insert(apply(&mut table, event).returned.number());
-    }
+        numbers.insert(outcome.returned.number());
+    });
 }
 
 #[test]
@@ -105,17 +101,9 @@ fn fates(before: &Table, after: &Table, event: Event, outcome: Outcome) -> Vec<F
 
 fn fates_in(input: &[u8]) -> BTreeSet<Fate> {
     let mut found = BTreeSet::new();
-    let Some((mut table, lines)) = open_schedule(input) else {
-        return found;
-    };
-    for line in lines {
-        let Some(Line::Event(event)) = line else {
-            continue;
-        };
-        let before = table.clone();
-        let outcome = apply(&mut table, event);
-        found.extend(fates(&before, &table, event, outcome));
-    }
+    each_event(input, |before, after, event, outcome| {
+        found.extend(fates(before, after, event, outcome));
+    });
     found
 }
 
@@ -167,17 +155,26 @@ fn a_seed_makes_one_schedule() {
     assert_ne!(schedule(7), schedule(8));
 }
 
-/// And exits end without going in often enough, for a fifth of what the cross-check runs.
+/// And what is rare is met often enough, for a fifth of what the cross-check runs; exits that end without going in, twice as often.
 #[test]
 fn demand_3_holds() {
-    let mut ended = Ended::default();
+    let mut met = Met::default();
     for seed in SEEDS {
         match check_schedule(&schedule(seed)) {
-            Ok(found) => ended.add_all(&found),
+            Ok(found) => met.add_all(&found),
             Err(wrong) => panic!("seed {seed}: {wrong}"),
         }
     }
-    assert!(ended.each_is_at_least(40), "{ended:?}");
+    for rare in Rare::ALL {
+        let least = match rare {
+            Rare::EndedAtTheFlag
+            | Rare::LetOutAtCheck
+            | Rare::LetOutAtTry
+            | Rare::LetOutAtInflate => 40,
+            _ => 20,
+        };
+        assert!(met.number(rare) >= least, "{rare:?}: {met:?}");
+    }
 }
 
 #[test]

@@ -2,54 +2,12 @@
 
 mod common;
 
-use common::{place, step_to, with_monitor, with_word};
+use common::{inflating, park, place, step_to, with_monitor, with_word};
+use common::{ENTER_QUEUED, EXIT_QUEUED, FAT, FLAT_1, FREE};
 use reference::engine::{begin, step};
 use reference::outcome::{Outcome, Returned};
 use reference::sound::is_sound;
-use reference::table::{Chain, Onward, Operation, Phase, Table};
-
-const FREE: u32 = 0x000000;
-const FLAT_1: u32 = 0x000100;
-const FLAT_1_AT_63: u32 = 0x0001fc;
-const FAT: u32 = 0x000101;
-const EXIT_QUEUED: (Operation, Phase) = (Operation::Exit, Phase::Queued(Onward::Tell));
-const ENTER_QUEUED: (Operation, Phase) = (Operation::Enter, Phase::Queued(Onward::Check));
-
-/// Object 1 has this word, the flag up, and thread 1 as holder, at a phase of an operation.
-fn held(word: u32, operation: Operation, phase: Phase) -> Table {
-    let mut table = with_word(1, word);
-    table.object_mut(1).contention_flag = true;
-    table.object_mut(1).monitor.holder = 1;
-    place(&mut table, 1, operation, phase);
-    table
-}
-
-/// Puts a thread at the end of the chain of its phase.
-fn park(table: &mut Table, thread: u8, (operation, phase): (Operation, Phase)) {
-    place(table, thread, operation, phase);
-    table.join(1, phase.chain().expect("a parked phase"), thread);
-}
-
-/// The three steps that inflate: the table before, with nobody else there, the returned number, and the depth after.
-fn inflating() -> [(Table, Returned, u16); 3] {
-    [
-        (
-            held(FLAT_1_AT_63, Operation::Enter, Phase::Check),
-            Returned::Finished,
-            65,
-        ),
-        (
-            held(FREE, Operation::Enter, Phase::Try),
-            Returned::Finished,
-            1,
-        ),
-        (
-            held(FLAT_1, Operation::Wait, Phase::Inflate),
-            Returned::GoneOn,
-            1,
-        ),
-    ]
-}
+use reference::table::{Chain, Operation, Phase, Table};
 
 #[test]
 fn inflating_lets_every_queued_exit_out() {

@@ -8,14 +8,20 @@ fn printed(input: &str) -> String {
     String::from_utf8(replay(input.as_bytes())).expect("ASCII")
 }
 
+/// As document 01 prints it, with request L3's set behind each line: the leave, the last but two, hands the monitor to thread 2.
 #[test]
 fn document_01_listing() {
     let input = "L 2 1 0; E 1 1; S 1; E 2 1; S 2; S 2; S 2; S 2; X 1 1; S 1; S 1; S 1; S 1; S 1; S 2; S 2; ";
-    let expected = "0 1 0 000000; 1 0 0 000100; 0 1 0 000100; 0 4 0 000100; 0 6 0 000100; \
+    let listed = "0 1 0 000000; 1 0 0 000100; 0 1 0 000100; 0 4 0 000100; 0 6 0 000100; \
         0 7 0 000100; 2 8 0 000100; 0 1 0 000100; 0 9 0 000000; 0 4 0 000000; 0 10 0 000000; \
-        0 11 0 000000; 1 0 0 000000; 0 7 0 000000; 1 0 0 000101; ";
-    let output = printed(&input.replace("; ", "\n"));
-    assert_eq!(output, expected.replace("; ", "\n"));
+        0 11 0 000000; 1 0 0 000000; 0 7 0 000000; 1 0 0 000101";
+    let listed: Vec<&str> = listed.split("; ").collect();
+    let mut expected = String::new();
+    for (place, line) in listed.iter().enumerate() {
+        let unparked = if place + 3 == listed.len() { 2 } else { 0 };
+        expected += &format!("{line} {unparked:08x}\n");
+    }
+    assert_eq!(printed(&input.replace("; ", "\n")), expected);
 }
 
 /// Headers without their newline, parted by bars.
@@ -56,10 +62,11 @@ fn sizes() {
 fn malformed_lines() {
     for line in MALFORMED_LINES.split('|') {
         let input = format!("L 1 1 0\n{line}\nE 1 1\n");
-        assert_eq!(printed(&input), "21\n0 1 0 000000\n", "{line:?}");
+        assert_eq!(printed(&input), "21\n0 1 0 000000 00000000\n", "{line:?}");
     }
     assert_eq!(printed("L 1 1 0\nE 1 1"), "21\n");
-    assert_eq!(printed("L 1 1 0\nE 1 1\n\n"), "0 1 0 000000\n21\n");
+    let behind = printed("L 1 1 0\nE 1 1\n\n");
+    assert_eq!(behind, "0 1 0 000000 00000000\n21\n");
 }
 
 #[test]
@@ -85,7 +92,8 @@ fn refused_lines() {
 fn timed_waits_and_ticks() {
     for limit in ["1", "65535"] {
         let input = format!("L 1 1 0\nV 1 1 {limit}\nV 1 1 0\nC\n");
-        assert_eq!(printed(&input), "0 1 0 000000\n14\n0\n");
+        let expected = "0 1 0 000000 00000000\n14\n0 00000000\n";
+        assert_eq!(printed(&input), expected);
     }
     assert_eq!(printed("L 1 1 0\nC"), "21\n");
 }
@@ -100,7 +108,7 @@ fn the_longest_line_in_pieces() {
         run.feed(&[*byte], &mut output);
     }
     run.finish(&mut output);
-    assert_eq!(output, b"12\n21\n0\n");
+    assert_eq!(output, b"12\n21\n0 00000000\n");
 }
 
 #[test]

@@ -1,8 +1,9 @@
 //! That an object's number may go to another object once nobody owns it and no thread is at it, as README tells embedders.
 
-use reference::engine::apply;
+mod common;
+
+use common::each_event;
 use reference::generate::schedule;
-use reference::replay::{open_schedule, Line};
 use reference::table::{Monitor, Table};
 
 /// Nobody owns the object, and no thread has an unfinished operation on it.
@@ -22,25 +23,16 @@ fn is_as_new(table: &Table, object: u8) -> bool {
 fn an_unused_object_is_as_new() {
     let (mut unused, mut left) = (0, 0);
     for seed in 0..2_000 {
-        let input = schedule(seed);
-        let Some((mut table, lines)) = open_schedule(&input) else {
-            continue;
-        };
-        for line in lines {
-            let Some(Line::Event(event)) = line else {
-                continue;
-            };
-            let before = table.clone();
-            apply(&mut table, event);
-            for object in (1..=table.objects).filter(|&object| is_unused(&table, object)) {
+        each_event(&schedule(seed), |before, after, _, _| {
+            for object in (1..=after.objects).filter(|&object| is_unused(after, object)) {
                 assert!(
-                    is_as_new(&table, object),
-                    "seed {seed}, object {object}: {table:?}"
+                    is_as_new(after, object),
+                    "seed {seed}, object {object}: {after:?}"
                 );
                 unused += 1;
                 left += u32::from(before.object(object).monitor.holder != 0);
             }
-        }
+        });
     }
     assert!(unused > 0, "no object was unused after an event");
     assert!(left > 0, "no monitor was left for good");

@@ -2,14 +2,11 @@
 
 mod common;
 
-use common::{begin_and_step, fresh, place, step_to, with_monitor, with_word};
+use common::{begin_and_step, fresh, place, step_to, with_monitor, with_word, FAT, FLAT_1, FREE};
 use reference::engine::{begin, step, tick};
 use reference::outcome::{Outcome, Returned};
 use reference::table::{Chain, Onward, Operation, Phase, Table, MAX_LIMIT};
 
-const FREE: u32 = 0x000000;
-const FLAT_1: u32 = 0x000100;
-const FAT: u32 = 0x000101;
 const RESERVED_1: u32 = 0x000106;
 
 /// Puts a thread at the end of an object's waiting chain, at depth 7, with these ticks left; an untimed one where that is 0.
@@ -30,8 +27,15 @@ fn wait(table: &mut Table, thread: u8, ticks: u16) {
     wait_on(table, 1, thread, ticks);
 }
 
+/// A tick that is accepted and unparks nobody.
 fn accepted_tick(table: &mut Table) {
-    assert_eq!(tick(table), Outcome::of(Returned::GoneOn));
+    tick_unparks(table, &[]);
+}
+
+fn tick_unparks(table: &mut Table, threads: &[u8]) {
+    let unparked = threads.iter().copied().collect();
+    let accepted = Outcome::of(Returned::GoneOn).unparking(unparked);
+    assert_eq!(tick(table), accepted);
 }
 
 fn chain(table: &Table, chain: Chain) -> Vec<u8> {
@@ -125,7 +129,7 @@ fn ticks_fall_one_by_one() {
 fn handed_where_nobody_holds() {
     let mut table = with_monitor(0, 0);
     wait(&mut table, 3, 1);
-    accepted_tick(&mut table);
+    tick_unparks(&mut table, &[3]);
     let mut expected = with_monitor(3, 0);
     place(&mut expected, 3, Operation::TimedWait, Phase::Resume);
     expected.thread_mut(3).saved_depth = 7;
@@ -161,7 +165,7 @@ fn in_chain_order_and_the_others_stay() {
     for (thread, ticks) in [(3, 1), (1, 0), (4, 1), (2, 2)] {
         wait(&mut table, thread, ticks);
     }
-    accepted_tick(&mut table);
+    tick_unparks(&mut table, &[3]);
     assert_eq!(table.object(1).monitor.holder, 3);
     assert_eq!(table.thread(3).phase, Phase::Resume);
     assert_eq!(chain(&table, Chain::Entry), [4]);
@@ -181,7 +185,7 @@ fn every_object_in_one_tick() {
     table.object_mut(2).word = 0x000201;
     wait_on(&mut table, 1, 4, 1);
     wait_on(&mut table, 2, 3, 1);
-    accepted_tick(&mut table);
+    tick_unparks(&mut table, &[3, 4]);
     let holders = [1, 2].map(|object| table.object(object).monitor.holder);
     assert_eq!(holders, [4, 3]);
     assert_eq!(step(&mut table, 3), finished(true));

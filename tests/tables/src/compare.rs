@@ -7,14 +7,16 @@ use crate::layout::{decode, encode, TABLE_SIZE};
 use crate::questions::QUESTIONS;
 use duskclamp::raw;
 use reference::engine::{apply, Event};
-use reference::exits::Ended;
+use reference::met::{Met, Rare};
+use reference::outcome::Outcome;
 use reference::random::Random;
 use reference::report::{compare_outputs, Report};
 use reference::table::Table;
+use reference::unparked::unparked;
 use reference::{generate, program, replay, sound};
 use std::process::ExitCode;
 
-const NOT_SOUND: u32 = 11;
+const NOT_SOUND: u8 = 11;
 /// The number of the operation that has a call of its own.
 pub const TIMED_WAIT: u8 = 6;
 /// Kinds of tables, by turns.
@@ -28,8 +30,8 @@ pub struct Run {
     report: Report,
     /// How often each number was returned.
     returned: [u64; 256],
-    /// Exits that ended without going in.
-    ended: Ended,
+    /// What was met that is rare.
+    met: Met,
 }
 
 impl Run {
@@ -39,7 +41,7 @@ impl Run {
             fields: fields(),
             report: Report::default(),
             returned: [0; 256],
-            ended: Ended::default(),
+            met: Met::default(),
         }
     }
 
@@ -189,18 +191,15 @@ impl Run {
         table: Option<Table>,
         event: Event,
     ) -> Result<u8, String> {
-        let (expected, expected_bytes) = match table {
-            None => (NOT_SOUND, bytes.to_vec()),
+        let (expected, expected_bytes) = match &table {
+            None => (NOT_SOUND.into(), bytes.to_vec()),
             Some(before) => {
-                let mut table = before.clone();
-                let outcome = apply(&mut table, event);
+                let mut after = before.clone();
+                let outcome = apply(&mut after, event);
                 if !outcome.returned.is_refusal() {
-                    self.ended.note(&before, &table, event)?;
+                    self.met.note(before, &after, event, outcome)?;
                 }
-                let returned = u32::from(outcome.returned.number());
-                let woken = u32::from(outcome.woken) << 8;
-                let commits = u32::from(outcome.committed) << 16;
-                (returned | woken | commits, encode(&table))
+                (packed(outcome), encode(&after))
             }
         };
         let mut given_bytes = bytes.to_vec();
@@ -211,7 +210,8 @@ impl Run {
                 "answer {given:#x}, by the second engine {expected:#x}"
             ));
         }
-        compare_bytes(&given_bytes, &expected_bytes).map(|()| given as u8)
+        compare_bytes(&given_bytes, &expected_bytes)?;
+        check_set(table, &given_bytes, given).map(|()| given as u8)
     }
 
     /// Events by one call beside the same events by calls of their own, on a table of any kind: answers, bytes, and what is left alone where there are
@@ -235,7 +235,7 @@ impl Run {
         let mut answers = expected.clone();
         let count = events.len().min(room);
         for (answer, event) in expected.iter_mut().zip(&events) {
-            *answer = single_call(&mut expected_bytes, event).into();
+            *answer = single_call(&mut expected_bytes, event);
         }
         let mut bytes = before;
         let given = raw::run(&mut bytes, &encoded, &mut answers);
@@ -276,12 +276,12 @@ impl Run {
         let (expected, expected_bytes) = match made {
             _ if before.len() != TABLE_SIZE => (NOT_SOUND, before.clone()),
             Ok(table) => (0, encode(&table)),
-            Err(returned) => (u32::from(returned.number()), before.clone()),
+            Err(returned) => (returned.number(), before.clone()),
         };
         let mut bytes = before;
         let given = raw::fresh(&mut bytes, threads.into(), objects.into(), reserved.into());
         self.returned[given as usize] += 1;
-        let result = match given == expected {
+        let result = match given == expected.into() {
             true => compare_bytes(&bytes, &expected_bytes),
             false => Err(format!("answer {given}, by the second engine {expected}")),
         };
@@ -301,6 +301,11 @@ impl Run {
         self.note(|| format!("malformed lines behind schedule {seed}"), result);
     }
 
+    /// A whole run must have met each kind of set and of exits often enough.
+    pub fn check_met(&mut self) {
+        self.met.check(Rare::of_events(), &mut self.report);
+    }
+
     /// Each number must have come up, which `check_cases` sees to.
     pub fn finish(mut self, replayed: bool) -> ExitCode {
         let numbers = [0, 1, 2].into_iter().chain(11..=23);
@@ -313,13 +318,36 @@ impl Run {
             };
             self.report.check(&format!("number {number}"), result);
         }
-        self.ended.print();
+        self.met.print(Rare::of_events());
         self.report.finish()
     }
 }
 
+/// The answer as the library gives it.
+fn packed(outcome: Outcome) -> u64 {
+    let returned = u64::from(outcome.returned.number());
+    let woken = u64::from(outcome.woken) << 8;
+    let commits = u64::from(outcome.committed) << 16;
+    let set = u64::from(outcome.unparked.bits()) << 32;
+    returned | woken | commits | set
+}
+
+/// The library's set by the tables around its event alone. One that is not sound may have numbers past its records, and stays as it is.
+fn check_set(before: Option<Table>, after: &[u8], answer: u64) -> Result<(), String> {
+    let expected = match (before, decode(after)) {
+        (Some(before), Some(after)) if answer as u8 != NOT_SOUND => unparked(&before, &after),
+        _ => 0,
+    };
+    match (answer >> 32) as u32 {
+        set if set == expected => Ok(()),
+        set => Err(format!(
+            "the set is {set:08x}, by the tables {expected:08x}"
+        )),
+    }
+}
+
 /// The event by its call. A timed wait without a limit is begun as any other operation is, which passes the limit 0.
-fn call(bytes: &mut [u8], event: Event) -> u32 {
+fn call(bytes: &mut [u8], event: Event) -> u64 {
     match event {
         Event::Begin {
             thread,
@@ -339,7 +367,7 @@ fn call(bytes: &mut [u8], event: Event) -> u32 {
 }
 
 /// The event of a run by a call of its own; one of no kind is the begin of no operation.
-fn single_call(bytes: &mut [u8], event: &[u8; raw::EVENT_SIZE]) -> u32 {
+fn single_call(bytes: &mut [u8], event: &[u8; raw::EVENT_SIZE]) -> u64 {
     let [kind, thread, operation, object, limit @ ..] = *event;
     let limit = u32::from_le_bytes(limit);
     let (thread, object) = (thread.into(), object.into());

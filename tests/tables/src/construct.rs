@@ -7,28 +7,45 @@ use reference::word::{LockWord, MAX_COUNT};
 /// Sizes up to which most tables go, so that numbers meet.
 const FEW_THREADS: u64 = 4;
 const FEW_OBJECTS: u64 = 3;
-/// In percent of tables, how often a thread is about to inflate.
-const INFLATING: u64 = 10;
+/// In percent of tables, how often a thread is about to inflate or to hand, and how often many waits run out with the next tick.
+const ACTING: u64 = 30;
+const DUE: u64 = 20;
+/// In percent, how often each other thread there is parked behind the one about to act, or is one of those waits.
+const PARKED: u64 = 70;
 
 pub fn sound_table(random: &mut Random) -> Table {
-    let large = random.percent(10);
-    let threads = random.between(1, if large { 32 } else { FEW_THREADS }) as u16;
-    let objects = random.between(1, if large { 64 } else { FEW_OBJECTS }) as u16;
-    let mut table = Table::fresh(threads, objects, false).expect("sizes in range");
+    let mut table = fresh_table(random);
     for object in 1..=table.objects {
         draw_object(random, &mut table, object);
     }
-    let inflater = match random.percent(INFLATING) {
-        true => draw_inflater(random, &mut table),
+    let actor = match random.percent(ACTING) {
+        true => draw_actor(random, &mut table),
         false => 0,
     };
-    for thread in (1..=table.threads).filter(|thread| *thread != inflater) {
-        match inflater != 0 && random.percent(70) {
-            true => draw_behind(random, &mut table, thread, inflater),
-            false => draw_thread(random, &mut table, thread),
+    let due = random.percent(DUE);
+    for thread in (1..=table.threads).filter(|thread| *thread != actor) {
+        match random.percent(PARKED) {
+            true if actor != 0 => draw_behind(random, &mut table, thread, actor),
+            true if due => draw_due(random, &mut table, thread),
+            _ => draw_thread(random, &mut table, thread),
         }
     }
     table
+}
+
+/// Most are small, and of the others most have all threads.
+fn fresh_table(random: &mut Random) -> Table {
+    let (threads, objects) = match random.percent(10) {
+        true => {
+            let any = random.between(1, 32);
+            (random.pick(&[any, 32, 32, 32]), random.between(1, 64))
+        }
+        false => (
+            random.between(1, FEW_THREADS),
+            random.between(1, FEW_OBJECTS),
+        ),
+    };
+    Table::fresh(threads as u16, objects as u16, false).expect("sizes in range")
 }
 
 /// Any thread's number.
@@ -135,22 +152,33 @@ fn put(table: &mut Table, thread: u8, record: ThreadRecord) {
     }
 }
 
-/// A thread that inflates with its next step: it holds the monitor, and the word is what its phase wants. Gives its number.
-fn draw_inflater(random: &mut Random, table: &mut Table) -> u8 {
+/// A thread that inflates or hands with its next step: it holds the monitor, and word and depth are what its phase wants. Gives its number.
+fn draw_actor(random: &mut Random, table: &mut Table) -> u8 {
     let number = some_thread(random, table);
     let object = random.between(1, table.objects.into()) as u8;
-    let own = LockWord::Flat {
-        thread: number.into(),
-        count: random.pick(&[0, 1, MAX_COUNT]),
+    let flat = |thread: u8, count: u8| LockWord::Flat {
+        thread: thread.into(),
+        count,
     };
-    let (operation, phase, word) = random.pick(&[
-        (Operation::Enter, Phase::Check, own),
-        (Operation::Enter, Phase::Try, LockWord::Free),
-        (Operation::Wait, Phase::Inflate, own),
-        (Operation::TimedWait, Phase::Inflate, own),
+    let own = flat(number, random.pick(&[0, 1, MAX_COUNT]));
+    let of_another = flat(number % table.threads + 1, 0);
+    let fat = LockWord::Fat {
+        monitor: object.into(),
+    };
+    let depth = table.object(object).monitor.depth;
+    let (operation, phase, word, depth) = random.pick(&[
+        (Operation::Enter, Phase::Check, own, depth),
+        (Operation::Enter, Phase::Try, LockWord::Free, depth),
+        (Operation::Wait, Phase::Inflate, own, depth),
+        (Operation::TimedWait, Phase::Inflate, own, depth),
+        (Operation::Enter, Phase::Try, of_another, depth),
+        (Operation::Exit, Phase::Leave, fat, 0),
+        (Operation::Wait, Phase::Wait, fat, depth.max(1)),
+        (Operation::TimedWait, Phase::Wait, fat, depth.max(1)),
     ]);
     table.object_mut(object).word = word.encode();
     table.object_mut(object).monitor.holder = number;
+    table.object_mut(object).monitor.depth = depth;
     let record = ThreadRecord {
         operation: Some(operation),
         object,
@@ -160,6 +188,24 @@ fn draw_inflater(random: &mut Random, table: &mut Table) -> u8 {
     };
     put(table, number, record);
     number
+}
+
+/// A wait that runs out with the next tick, on an object whose monitor mostly nobody holds.
+fn draw_due(random: &mut Random, table: &mut Table, thread: u8) {
+    let object = random.between(1, table.objects.into()) as u8;
+    let monitor = &mut table.object_mut(object).monitor;
+    if monitor.entry == 0 && random.percent(70) {
+        (monitor.holder, monitor.depth) = (0, 0);
+    }
+    let record = ThreadRecord {
+        operation: Some(Operation::TimedWait),
+        object,
+        phase: Phase::Waiting,
+        saved_depth: random.between(1, MAX_DEPTH.into()) as u16,
+        ticks: 1,
+        ..ThreadRecord::default()
+    };
+    put(table, thread, record);
 }
 
 /// Parks a thread on the object that another is at, mostly inside an exit.

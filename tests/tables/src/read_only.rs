@@ -37,16 +37,16 @@ extern "C" {
         thread: u32,
         operation: u32,
         object: u32,
-    ) -> u32;
+    ) -> u64;
     fn duskclamp_timed_wait(
         bytes: *mut u8,
         length: usize,
         thread: u32,
         object: u32,
         limit: u32,
-    ) -> u32;
-    fn duskclamp_step(bytes: *mut u8, length: usize, thread: u32) -> u32;
-    fn duskclamp_tick(bytes: *mut u8, length: usize) -> u32;
+    ) -> u64;
+    fn duskclamp_step(bytes: *mut u8, length: usize, thread: u32) -> u64;
+    fn duskclamp_tick(bytes: *mut u8, length: usize) -> u64;
     fn duskclamp_run(
         bytes: *mut u8,
         length: usize,
@@ -97,19 +97,19 @@ impl ReadOnly {
         unsafe { duskclamp_fresh(self.start, self.length, threads, objects, 0) }
     }
 
-    pub fn begin(&self, thread: u32, operation: u32, object: u32) -> u32 {
+    pub fn begin(&self, thread: u32, operation: u32, object: u32) -> u64 {
         unsafe { duskclamp_begin(self.start, self.length, thread, operation, object) }
     }
 
-    pub fn timed_wait(&self, thread: u32, object: u32, limit: u32) -> u32 {
+    pub fn timed_wait(&self, thread: u32, object: u32, limit: u32) -> u64 {
         unsafe { duskclamp_timed_wait(self.start, self.length, thread, object, limit) }
     }
 
-    pub fn step(&self, thread: u32) -> u32 {
+    pub fn step(&self, thread: u32) -> u64 {
         unsafe { duskclamp_step(self.start, self.length, thread) }
     }
 
-    pub fn tick(&self) -> u32 {
+    pub fn tick(&self) -> u64 {
         unsafe { duskclamp_tick(self.start, self.length) }
     }
 

@@ -1,7 +1,7 @@
 //! Cases on the proved engine, through its library: tables that are sound and tables that break one clause of document 01's "Sound means" or of request
-//! L1's, the cases K1 to K9, ticks, and request L2's exits. What is expected is written here, and not asked of the second engine.
+//! L1's, the cases K1 to K9, ticks, request L2's exits, and whom events unpark. What is expected is written here, and not asked of the second engine.
 
-use duskclamp::{Answer, Chain, Operation as Wanted, Refusal, Table as Engine, Words};
+use duskclamp::{Answer, Chain, Operation as Wanted, Refusal, Table as Engine, ThreadSet, Words};
 use reference::table::{Monitor, ObjectRecord, Onward, Operation, Phase, Table, ThreadRecord};
 use tables::layout::{encode, TABLE_SIZE, THREADS_START};
 
@@ -435,10 +435,15 @@ fn shown(engine: &Engine) -> (u32, Vec<u32>, Vec<u32>) {
     (holder, chain(Chain::Entry), chain(Chain::Waiting))
 }
 
+/// An accepted tick, and whom it unparked.
+fn ticked(engine: &mut Engine) -> Vec<u32> {
+    engine.tick().expect("an accepted tick").iter().collect()
+}
+
 #[test]
 fn a_tick_hands_a_monitor_that_nobody_holds() {
     let mut engine = two_due(0, 0);
-    assert_eq!(engine.tick(), Ok(()));
+    assert_eq!(ticked(&mut engine), [3]);
     assert_eq!(shown(&engine), (3, vec![2], vec![1]));
     let resumed = engine.step(3);
     assert_eq!(resumed.result, Ok(Answer::Finished { woken: 1 }));
@@ -446,7 +451,7 @@ fn a_tick_hands_a_monitor_that_nobody_holds() {
     assert_eq!((engine.owner(1), engine.depth(1)), (Ok(3), Ok(5)));
     // Another tick has nothing to do.
     let before = engine.clone();
-    assert_eq!(engine.tick(), Ok(()));
+    assert_eq!(ticked(&mut engine), []);
     assert_eq!(engine, before);
 }
 
@@ -454,7 +459,7 @@ fn a_tick_hands_a_monitor_that_nobody_holds() {
 fn a_tick_leaves_a_holder_its_monitor() {
     for depth in [0, 1] {
         let mut engine = two_due(depth, 1);
-        assert_eq!(engine.tick(), Ok(()));
+        assert_eq!(ticked(&mut engine), []);
         assert_eq!(shown(&engine), (1, vec![3, 2], vec![1]));
         let ticks = [1, 2, 3].map(|thread| engine.ticks(thread));
         assert_eq!(ticks, [Ok(0), Ok(0), Ok(0)]);
@@ -472,6 +477,12 @@ fn exit_queued(record: ThreadRecord, word: u32) -> Engine {
     engine(&table)
 }
 
+/// What a step of thread 1 answers, and whom it unparked.
+fn stepped(engine: &mut Engine) -> (Result<Answer, Refusal>, Vec<u32>) {
+    let outcome = engine.step(1);
+    (outcome.result, outcome.unparked.iter().collect())
+}
+
 #[test]
 fn inflating_lets_exits_out() {
     let finished = Answer::Finished { woken: 0 };
@@ -481,7 +492,7 @@ fn inflating_lets_exits_out() {
         (at(WAIT, Phase::Inflate), 0x000108, Answer::GoneOn, 3),
     ] {
         let mut engine = exit_queued(record, word);
-        assert_eq!(engine.step(1).result, Ok(answer));
+        assert_eq!(stepped(&mut engine), (Ok(answer), vec![2]));
         assert_eq!((engine.owner(1), engine.depth(1)), (Ok(1), Ok(depth)));
         assert_eq!(engine.word(1), Ok(FAT));
         assert_eq!(shown(&engine), (1, vec![3], vec![]));
@@ -512,4 +523,70 @@ fn an_exit_goes_in_with_the_flag_up_alone() {
     assert_eq!(exit_going_in(2, true).step(1).result, Ok(Answer::Parked));
     let no_rule = exit_going_in(1, true).step(1).result;
     assert_eq!(no_rule, Err(Refusal::NoRule));
+}
+
+/// Thread 1 holds object 1 at a depth, with this word and record; threads 2 and 3 are queued there, in this order.
+fn two_queued(record: ThreadRecord, word: u32, depth: u16) -> Engine {
+    let mut table = with_thread(queue(depth, 1, 0), 1, record);
+    table.object_records[0].word = word;
+    engine(&table)
+}
+
+#[test]
+fn a_hand_names_its_thread() {
+    let finished = Answer::Finished { woken: 0 };
+    for (record, word, depth, answer) in [
+        (at(ENTER, Phase::Try), 0x000200, 0, Answer::Parked),
+        (at(EXIT, Phase::Leave), FAT, 0, finished),
+        (at(WAIT, Phase::Wait), FAT, 3, Answer::Parked),
+    ] {
+        let mut engine = two_queued(record, word, depth);
+        assert_eq!(stepped(&mut engine), (Ok(answer), vec![2]));
+        assert_eq!(engine.object(1).unwrap().holder, 2);
+    }
+}
+
+#[test]
+fn moved_threads_stay_parked() {
+    let waiting = saving(1, at(WAIT, Phase::Waiting));
+    for operation in [Operation::Notify, Operation::NotifyAll] {
+        let table = parked(waiting, [0, 0, 2]);
+        let mut engine = engine(&with_thread(table, 1, at(operation, Phase::Look)));
+        let finished = Ok(Answer::Finished { woken: 1 });
+        assert_eq!(stepped(&mut engine), (finished, vec![]));
+        assert_eq!(shown(&engine), (1, vec![2], vec![]));
+    }
+    let mut table = parked(at(ENTER, Phase::Contending), [0, 2, 0]);
+    table = with_thread(table, 1, at(EXIT, Phase::Tell));
+    table.object_records[0].contention_flag = true;
+    let mut engine = engine(&table);
+    assert_eq!(stepped(&mut engine), (Ok(Answer::GoneOn), vec![]));
+    assert_eq!(shown(&engine), (1, vec![2], vec![]));
+}
+
+#[test]
+fn refused_steps_unpark_nobody() {
+    for (record, depth, refusal) in [
+        (at(EXIT, Phase::Look), 0, Refusal::NotOwner),
+        (at(ENTER, Phase::GoIn), 65535, Refusal::TooDeep),
+        (at(EXIT, Phase::Leave), 1, Refusal::NoRule),
+        (ThreadRecord::default(), 1, Refusal::ThreadIdle),
+    ] {
+        let mut engine = two_queued(record, FAT, depth);
+        assert_eq!(stepped(&mut engine), (Err(refusal), vec![]));
+        assert_eq!(shown(&engine).1, [2, 3]);
+    }
+}
+
+/// One tick hands the monitors of two objects, to threads 1 and 32.
+#[test]
+fn the_first_and_the_last_bit() {
+    let due = ticking(1, saving(5, at(TIMED, Phase::Waiting)));
+    let all = Table::fresh(32, 2, false).unwrap();
+    let mut table = monitored(with_thread(all, 32, due), 0, 0, [0, 0, 32]);
+    table = with_thread(table, 1, ThreadRecord { object: 2, ..due });
+    table.object_records[1].word = 0x000201;
+    table.object_records[1].monitor.waiting = 1;
+    let unparked = engine(&table).tick();
+    assert_eq!(unparked, Ok(ThreadSet::from_bits(0x8000_0001)));
 }

@@ -3,8 +3,8 @@
 
 use reference::arguments::number;
 use reference::checked::check_schedule;
-use reference::exits::Ended;
 use reference::generate::schedule;
+use reference::met::{Met, Rare};
 use reference::replay::replay;
 use reference::report::{compare_outputs, Report};
 use reference::stored::Case;
@@ -33,17 +33,17 @@ fn main() -> ExitCode {
         Err(error) => report.check("stored schedules", Err(error.to_string())),
     }
     check_cases(program, &long_cases::cases(), &mut report);
-    let mut ended = Ended::default();
+    let mut met = Met::default();
     for place in 0..count {
-        ended.add_all(&check_generated(
+        met.add_all(&check_generated(
             program,
             seed.wrapping_add(place),
             &mut report,
         ));
     }
-    ended.print();
+    met.print(&Rare::ALL);
     if count >= DEFAULT_COUNT {
-        ended.check(&mut report);
+        met.check(&Rare::ALL, &mut report);
     }
     report.finish()
 }
@@ -58,14 +58,14 @@ fn check_cases(program: &str, cases: &[Case], report: &mut Report) {
     }
 }
 
-/// Each generated schedule has a seed of its own, so that one that fails can be made again alone. Gives how exits ended in it.
-fn check_generated(program: &str, seed: u64, report: &mut Report) -> Ended {
+/// Each generated schedule has a seed of its own, so that one that fails can be made again alone. Gives what was met in it.
+fn check_generated(program: &str, seed: u64, report: &mut Report) -> Met {
     let input = schedule(seed);
     let name = format!("generated schedule of seed {seed}");
     report.check_schedule(&format!("{name}, program"), &input, |input| {
         program::run(program, input).and_then(|output| compare_outputs(&output, &replay(input)))
     });
     let name = format!("{name}, demand 3 on the reference");
-    let ended = report.check_schedule(&name, &input, check_schedule);
-    ended.unwrap_or_default()
+    let met = report.check_schedule(&name, &input, check_schedule);
+    met.unwrap_or_default()
 }

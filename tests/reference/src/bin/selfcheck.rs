@@ -3,8 +3,8 @@
 
 use reference::arguments::number;
 use reference::checked::check_schedule;
-use reference::exits::Ended;
 use reference::generate::schedule;
+use reference::met::{Met, Rare};
 use reference::replay::replay;
 use reference::report::{compare_outputs, Report};
 use reference::stored::Case;
@@ -32,17 +32,17 @@ fn main() -> ExitCode {
         Err(error) => report.check("stored schedules", Err(error.to_string())),
     }
     check_cases(&long_cases::cases(), &mut report);
-    let mut ended = Ended::default();
+    let mut met = Met::default();
     for place in 0..count {
         let seed = seed.wrapping_add(place);
         let input = schedule(seed);
         let name = format!("generated schedule of seed {seed}, demand 3");
         let found = report.check_schedule(&name, &input, check_schedule);
-        ended.add_all(&found.unwrap_or_default());
+        met.add_all(&found.unwrap_or_default());
     }
-    ended.print();
+    met.print(&Rare::ALL);
     if count >= DEFAULT_COUNT {
-        ended.check(&mut report);
+        met.check(&Rare::ALL, &mut report);
     }
     report.finish()
 }

@@ -1,17 +1,19 @@
-//! Thirty-two threads of random operations through the wrapper, behind events that aim at exits which end without going in, with the plain monitors as a
-//! check.
+//! Thirty-two threads of random operations through the wrapper, behind events that aim at exits which end without going in and at ticks that hand several
+//! monitors, with the plain monitors and an interpreter's run queue as checks. Every other table takes the threads to be stepped from that queue alone.
 //! Usage: stress [STEPS] [SEED]
 
-use duskclamp::{Answer, Operation, Outcome, Phase, Refusal, Table, Words};
-use reference::aimed;
+use duskclamp::{Answer, Operation, Phase, Refusal, Table, Words};
 use reference::arguments::number;
 use reference::checked::check_table;
 use reference::engine::Event;
-use reference::exits::Ended;
-use reference::outcome::Returned;
+use reference::met::{Met, Rare};
+use reference::outcome::{Outcome, Returned};
 use reference::plain::PlainMonitors;
 use reference::random::Random;
 use reference::report::Report;
+use reference::run_queue::CheckedQueue;
+use reference::thread_set::ThreadSet;
+use reference::{aimed_exits, aimed_ticks};
 use std::process::ExitCode;
 use tables::layout::{decode, phase_byte};
 
@@ -22,12 +24,15 @@ const THREADS: u32 = 32;
 const ROUND: u64 = 100_000;
 /// Events between two comparisons of the whole table.
 const COMPARED: u64 = 64;
-/// How often each table is begun with events that aim at exits which end without going in. From so many steps on, a run must have met enough of them.
-const AIMS: u64 = 12;
+/// How often each table is begun with events that aim at exits which end without going in, and at ticks that hand several monitors. From so many steps
+/// on, a run must have met what is rare.
+const EXIT_AIMS: u64 = 12;
+const TICK_AIMS: u64 = 16;
 const WHOLE_RUN: u64 = 1_000_000;
-/// The phases of a thread that is idle, and of one about to go in.
+/// The phases of a thread that is idle, of one about to go in, and of those that are parked.
 const IDLE: u8 = 0;
 const GO_IN: u8 = 4;
+const PARKED: [u8; 3] = [5, 8, 14];
 /// Ticks in percent of events.
 const TICKS: u64 = 5;
 /// Limits up to which most timed waits go, and up to which a few do.
@@ -52,7 +57,7 @@ fn main() -> ExitCode {
     let total = run_tables(steps, seed, &mut report);
     total.print();
     if steps >= WHOLE_RUN {
-        total.ended.check(&mut report);
+        total.met.check(&Rare::ALL, &mut report);
     }
     report.finish()
 }
@@ -62,7 +67,7 @@ fn run_tables(steps: u64, seed: u64, report: &mut Report) -> Tally {
     let mut total = Tally::default();
     while total.steps < steps {
         let round_seed = seed.wrapping_add(total.tables);
-        let mut round = Round::new(round_seed);
+        let mut round = Round::new(round_seed, total.tables % 2 == 0);
         let result = round.run(ROUND.min(steps - total.steps));
         let failed = result.is_err();
         report.check(&format!("round of seed {round_seed}"), result);
@@ -84,7 +89,7 @@ struct Tally {
     woken: u64,
     ticks: u64,
     run_out: u64,
-    ended: Ended,
+    met: Met,
 }
 
 impl Tally {
@@ -97,7 +102,7 @@ impl Tally {
         self.woken += other.woken;
         self.ticks += other.ticks;
         self.run_out += other.run_out;
-        self.ended.add_all(&other.ended);
+        self.met.add_all(&other.met);
     }
 
     fn print(&self) {
@@ -109,15 +114,8 @@ impl Tally {
             "{} finished, {} parked, {} woken, {} ticks, {} run out",
             self.finished, self.parked, self.woken, self.ticks, self.run_out
         );
-        self.ended.print();
+        self.met.print(&Rare::ALL);
     }
-}
-
-#[derive(Clone, Copy, PartialEq, Eq)]
-enum State {
-    Idle,
-    Running,
-    Parked,
 }
 
 struct Round {
@@ -125,7 +123,13 @@ struct Round {
     objects: u32,
     table: Table,
     plain: PlainMonitors,
-    states: [State; THREADS as usize],
+    queue: CheckedQueue,
+    /// Whether threads are chosen by the run queue and their answers, and not by their phases.
+    by_queue: bool,
+    /// The threads at an operation, by their own answers: one that was let out is among them until its step is refused with 15.
+    at_work: ThreadSet,
+    /// The parked threads, by the bytes behind the last event.
+    parked: ThreadSet,
     /// The operation and the object that a thread last began.
     operations_of: [Operation; THREADS as usize],
     objects_of: [u32; THREADS as usize],
@@ -133,7 +137,7 @@ struct Round {
 }
 
 impl Round {
-    fn new(seed: u64) -> Round {
+    fn new(seed: u64, by_queue: bool) -> Round {
         let mut random = Random::new(seed);
         let objects = random.pick(&[1, 2, 4, 8, 64]);
         let words = random.pick(&[Words::Free, Words::Reserved]);
@@ -142,7 +146,10 @@ impl Round {
             objects,
             table: Table::fresh(THREADS, objects, words).expect("sizes in range"),
             plain: PlainMonitors::new(objects as u8),
-            states: [State::Idle; THREADS as usize],
+            queue: CheckedQueue::default(),
+            by_queue,
+            at_work: ThreadSet::default(),
+            parked: ThreadSet::default(),
             operations_of: [Operation::Enter; THREADS as usize],
             objects_of: [1; THREADS as usize],
             tally: Tally::default(),
@@ -153,17 +160,10 @@ impl Round {
         self.aim(steps)?;
         let mut events = 0;
         while self.tally.steps < steps {
-            let all_parked = self.all_parked();
-            if all_parked && !self.one_is_due_soon() {
-                break;
-            }
-            let thread = self.random.between(1, THREADS.into()) as u32;
-            if !all_parked && self.is_parked(thread) {
-                continue;
-            }
-            let result = match all_parked || self.random.percent(TICKS) {
-                true => self.tick(),
-                false => self.turn(thread),
+            let result = match self.choose_thread() {
+                None if !self.one_is_due_soon() => break,
+                Some(thread) if !self.random.percent(TICKS) => self.turn(thread),
+                _ => self.tick(),
             };
             result.map_err(|wrong| format!("event {events}: {wrong}"))?;
             events += 1;
@@ -174,12 +174,16 @@ impl Round {
         self.compare()
     }
 
-    /// Events that aim at exits which end without going in, made by the second engine; the whole table is compared after each.
+    /// Events that aim, made by the second engine; the whole table is compared after each.
     fn aim(&mut self, steps: u64) -> Result<(), String> {
         let threads: Vec<u8> = (1..=THREADS as u8).collect();
         let object = self.random.between(1, self.objects.into()) as u8;
         let mut table = decode(self.table.bytes()).ok_or("the bytes are no table")?;
-        let events = aimed::events(&mut self.random, &mut table, &threads, object, AIMS);
+        let random = &mut self.random;
+        let mut events = aimed_exits::events(random, &mut table, &threads, object, EXIT_AIMS);
+        if self.objects >= aimed_ticks::LEAST.into() {
+            events.extend(aimed_ticks::events(random, &mut table, &threads, TICK_AIMS));
+        }
         for (place, event) in events.into_iter().enumerate() {
             if self.tally.steps == steps {
                 break;
@@ -207,19 +211,19 @@ impl Round {
         }
     }
 
-    /// A thread that another's step has let go on is still noted as parked until its own next step.
-    fn all_parked(&self) -> bool {
-        self.states.iter().all(|state| *state == State::Parked)
-            && (1..=THREADS).all(|thread| self.is_parked(thread))
+    /// A thread that may begin or step; nothing where all are parked.
+    fn choose_thread(&mut self) -> Option<u32> {
+        let ready = match self.by_queue {
+            true => !self.at_work.bits() | self.queue.queue.threads().bits(),
+            false => !self.parked.bits(),
+        };
+        let ready: Vec<u8> = ThreadSet::from_bits(ready).threads().collect();
+        (!ready.is_empty()).then(|| self.random.pick(&ready).into())
     }
 
     fn one_is_due_soon(&self) -> bool {
         let mut threads = self.table.threads();
         threads.any(|thread| thread.phase == Phase::Waiting && (1..=SOON).contains(&thread.ticks))
-    }
-
-    fn is_parked(&self, thread: u32) -> bool {
-        matches!(self.phase(thread), 5 | 8 | 14)
     }
 
     /// By the bytes, since most threads are asked most of the time.
@@ -229,14 +233,19 @@ impl Round {
 
     fn compare(&self) -> Result<(), String> {
         let table = decode(self.table.bytes()).ok_or("the bytes are no table")?;
-        check_table(&table, &self.plain)
+        check_table(&table, &self.plain)?;
+        self.queue.check(&table)
     }
 
-    /// The thread begins something if it is idle, else takes a step.
+    /// The thread begins something if it is idle, else takes a step. By its answers alone one that was let out is not idle before a step of it.
     fn turn(&mut self, thread: u32) -> Result<(), String> {
-        match self.states[thread as usize - 1] {
-            State::Idle => self.begin_any(thread),
-            State::Running | State::Parked => self.step(thread),
+        let is_idle = match self.by_queue {
+            true => !self.at_work.contains(thread as u8),
+            false => self.phase(thread) == IDLE,
+        };
+        match is_idle {
+            true => self.begin_any(thread),
+            false => self.step(thread),
         }
     }
 
@@ -261,7 +270,6 @@ impl Round {
             _ => self.table.begin(thread, operation, object),
         }
         .map_err(|refusal| format!("begin refused with {refusal:?}"))?;
-        self.states[thread as usize - 1] = State::Running;
         self.tally.begins += 1;
         let event = Event::Begin {
             thread: thread as u16,
@@ -269,16 +277,16 @@ impl Round {
             object: object as u16,
             limit,
         };
-        self.plain
-            .feed(event, reference::outcome::Outcome::of(Returned::GoneOn))
+        self.feed(event, Some(IDLE), Outcome::of(Returned::GoneOn))
     }
 
     fn tick(&mut self) -> Result<(), String> {
         let answer = self.table.tick();
-        answer.map_err(|refusal| format!("tick refused with {refusal:?}"))?;
+        let unparked = answer.map_err(|refusal| format!("tick refused with {refusal:?}"))?;
         self.tally.ticks += 1;
-        let accepted = reference::outcome::Outcome::of(Returned::GoneOn);
-        self.plain.feed(Event::Tick, accepted)
+        let accepted = Outcome::of(Returned::GoneOn);
+        let unparked = ThreadSet::from_bits(unparked.bits());
+        self.feed(Event::Tick, None, accepted.unparking(unparked))
     }
 
     /// An owner mostly stays with its object, and goes only to later ones, so that few owners park for each other.
@@ -320,53 +328,88 @@ impl Round {
 
     fn step(&mut self, thread: u32) -> Result<(), String> {
         let phase = self.phase(thread);
-        let outcome = self.table.step(thread);
+        let outcome = outcome(self.table.step(thread))?;
         self.tally.steps += 1;
-        let (returned, woken, state) = match outcome.result {
-            Ok(Answer::GoneOn) => (Returned::GoneOn, 0, State::Running),
-            Ok(Answer::Finished { woken }) => (Returned::Finished, woken, State::Idle),
-            Ok(Answer::Parked) => (Returned::Parked, 0, State::Parked),
-            Err(Refusal::NotOwner) => (Returned::NotOwner, 0, State::Idle),
-            Err(Refusal::TooDeep) => (Returned::TooDeep, 0, State::Idle),
-            Err(refusal) => return Err(format!("step refused with {refusal:?}")),
-        };
-        self.states[thread as usize - 1] = state;
-        self.tally.finished += u64::from(returned == Returned::Finished);
-        self.tally.parked += u64::from(returned == Returned::Parked);
-        match self.operations_of[thread as usize - 1] {
-            Operation::TimedWait => self.tally.run_out += u64::from(woken),
-            Operation::Exit if phase == GO_IN && returned == Returned::Finished => {
-                self.tally.ended.add(phase, 1)?;
-            }
-            _ => self.tally.woken += u64::from(woken),
+        let was_let_out = self.queue.let_out.contains(thread as u8);
+        if (outcome.returned == Returned::ThreadIdle) != was_let_out {
+            return Err(format!("thread {thread} was answered {outcome:?}"));
         }
-        let event = Event::Step {
-            thread: thread as u16,
-        };
-        self.plain.feed(event, fed(outcome, returned, woken))?;
-        self.note_let_out(phase)
+        self.count_step(thread, phase, outcome)?;
+        self.feed(Event::step(thread as u8), Some(phase), outcome)
     }
 
-    /// The threads that are idle by another's step, from this phase.
-    fn note_let_out(&mut self, phase: u8) -> Result<(), String> {
-        for thread in 1..=THREADS {
-            let is_idle = self.phase(thread) == IDLE;
-            let state = &mut self.states[thread as usize - 1];
-            if is_idle && *state != State::Idle {
-                *state = State::Idle;
-                self.plain.ended_by_another(thread as u8)?;
-                self.tally.ended.add(phase, 1)?;
+    fn count_step(&mut self, thread: u32, phase: u8, outcome: Outcome) -> Result<(), String> {
+        let is_finished = outcome.returned == Returned::Finished;
+        let woken = u64::from(outcome.woken);
+        self.tally.finished += u64::from(is_finished);
+        self.tally.parked += u64::from(outcome.returned == Returned::Parked);
+        match self.operations_of[thread as usize - 1] {
+            Operation::TimedWait => self.tally.run_out += woken,
+            Operation::Exit if phase == GO_IN && is_finished => {
+                self.tally.met.note_ended(phase, 1)?;
             }
+            _ => self.tally.woken += woken,
         }
         Ok(())
     }
+
+    /// Holds an event to the plain monitors and to the run queue: a thread's in the phase, or a tick.
+    fn feed(&mut self, event: Event, phase: Option<u8>, outcome: Outcome) -> Result<(), String> {
+        self.plain.feed(event, outcome)?;
+        self.check_set(outcome)?;
+        self.tally.met.note_unparked(phase, outcome)?;
+        match (event, outcome.returned) {
+            (Event::Begin { thread, .. }, _) => self.at_work.extend([thread as u8]),
+            (Event::Step { .. }, Returned::GoneOn | Returned::Parked) | (Event::Tick, _) => {}
+            (Event::Step { thread }, _) => self.at_work.remove(thread as u8),
+        }
+        let let_out = self.let_out();
+        for thread in &let_out {
+            self.plain.ended_by_another(*thread)?;
+            self.tally.met.note_ended(phase.unwrap_or(IDLE), 1)?;
+        }
+        let met = &mut self.tally.met;
+        self.queue.feed(event, outcome, &let_out, met);
+        Ok(())
+    }
+
+    /// The set of the last event, by the bytes before and behind it.
+    fn check_set(&mut self, outcome: Outcome) -> Result<(), String> {
+        let is_parked = |thread: &u8| PARKED.contains(&self.phase((*thread).into()));
+        let parked: ThreadSet = (1..=THREADS as u8).filter(is_parked).collect();
+        let (given, expected) = (outcome.unparked.bits(), self.parked.bits() & !parked.bits());
+        self.parked = parked;
+        match given == expected {
+            true => Ok(()),
+            false => Err(format!(
+                "the set is {given:08x}, by the bytes {expected:08x}"
+            )),
+        }
+    }
+
+    /// The threads that the last event has let out: idle by the bytes, but not by their own answers.
+    fn let_out(&self) -> Vec<u8> {
+        let known = self.queue.let_out;
+        let is_new = |thread: &u8| !known.contains(*thread) && self.phase((*thread).into()) == IDLE;
+        self.at_work.threads().filter(is_new).collect()
+    }
 }
 
-/// The outcome as the plain monitors take it.
-fn fed(outcome: Outcome, returned: Returned, woken: u8) -> reference::outcome::Outcome {
-    reference::outcome::Outcome {
+/// The outcome as the second program has it; an error where it is one that no event of a run has.
+fn outcome(given: duskclamp::Outcome) -> Result<Outcome, String> {
+    let (returned, woken) = match given.result {
+        Ok(Answer::GoneOn) => (Returned::GoneOn, 0),
+        Ok(Answer::Finished { woken }) => (Returned::Finished, woken),
+        Ok(Answer::Parked) => (Returned::Parked, 0),
+        Err(Refusal::NotOwner) => (Returned::NotOwner, 0),
+        Err(Refusal::TooDeep) => (Returned::TooDeep, 0),
+        Err(Refusal::ThreadIdle) => (Returned::ThreadIdle, 0),
+        Err(refusal) => return Err(format!("refused with {refusal:?}")),
+    };
+    Ok(Outcome {
         returned,
         woken,
-        committed: outcome.commits,
-    }
+        committed: given.commits,
+        unparked: ThreadSet::from_bits(given.unparked.bits()),
+    })
 }

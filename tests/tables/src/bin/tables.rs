@@ -48,5 +48,8 @@ fn main() -> ExitCode {
             run.check_replay(program, seed.wrapping_add(place));
         }
     }
+    if count >= DEFAULT_COUNT {
+        run.check_met();
+    }
     run.finish(replay_program.is_some())
 }

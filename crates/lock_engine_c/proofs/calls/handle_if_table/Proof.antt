@@ -2,43 +2,59 @@
 use mathlib.Core.Path.{_≡_, ap, sym, _∙_}
 use borrow.Author.Needs.{needs}
 use lib.ListN.{length}
+use Rattle.laws.specs.Choice.{pick}
 use Rattle.laws.proofs.Choice.{either-way}
+use Rattle.lock_work.specs.Work.{work-stays}
+use Rattle.lock_engine.specs.Handle.{work-done-of}
 use Rattle.lock_engine_c.specs.Calls.{reply-changes, store-turn}
 use Rattle.lock_engine_c.proofs.EventTurns.{turn-answers, turn-stores}
 use Rattle.lock_engine_c.proofs.calls.handle_if_table.Statement.{statement}
 use Rattle.lock_engine_c.proofs.calls.handle_if_table.Tie as tie
 
--- where the event's thread is known, and where the call began
+-- where the event's thread is known, where the call began, and where the turn was taken
 abbrev threaded : tie.Joined2 → tie.After-event-thread
-threaded c = c .before .before .before .before .before .before .before .before
+threaded c = c .before .before .before .before .before .before .before .before .before .before
 
 abbrev begun : tie.Joined2 → tie.Start
 begun c = threaded c .before .before .before .before .before .before
 
--- the bytes where the ways of storing join: both records stored, or the table, or nothing
+abbrev turned : tie.Joined2 → tie.After-turn-with
+turned c = c .before .before .before .before
+
+-- the bytes where the ways of storing join: both records stored, or nothing, or the table
 long : (c : tie.Joined2) → length (c .if2 .bytes) ≡ length (begun c .args .bytes .now)
 long c =
-    either-way (c .if2 .came) (λ records. ap length (records .13) ∙ records .11 .given ∙ records .7 .given)
-    (λ others. either-way others (λ whole. ap length (whole .10) ∙ whole .8 .given) (λ none. ap length (none .1)))
+    either-way (c .if2 .came) (λ records. ap length (records .11) ∙ records .9 .given ∙ records .5 .given)
+    (λ others. either-way others (λ none. ap length (none .3)) (λ whole. ap length (whole .6) ∙ whole .4 .given))
 
-stored : (c : tie.Joined2) → let turned = c .before .before in
-    let turn = turned .turn-with .result in
+stored : (c : tie.Joined2) → let turn = turned c .turn-with .result in
     c .if2 .bytes
     ≡ store-turn (begun c .args .bytes .now) (threaded c .before .before .read-table .result) (threaded c .event-thread .result)
-    (turned .before .before .before .event-object .result) turn (reply-changes (turn .reply))
+    (turned c .before .before .before .event-object .result) turn (reply-changes (turn .reply))
 unfolding store-turn
 stored c =
-    let changes = sym (c .before .reply-changes .ensures) in
+    let stays = sym (c .before .work-stays .ensures) in
     either-way (c .if2 .came)
-    (λ records. records .13 ∙ simp (records .10 .ensures, records .6 .ensures, sym (records .3 .ensures) ∙ records .4 .taken, changes ∙ records .0 .taken))
-    (λ others. either-way others
-    (λ whole. whole .10 ∙ simp (whole .7 .ensures, whole .6 .ensures, sym (whole .3 .ensures) ∙ whole .4 .left, changes ∙ whole .0 .taken))
-    (λ none. none .1 ∙ simp (changes ∙ none .0 .left)))
+    (λ records. records .11 ∙ simp (records .8 .ensures, records .4 .ensures, stays ∙ records .0 .taken, sym (records .1 .ensures) ∙ records .2 .taken))
+    (λ others. either-way others (λ none. none .3 ∙ simp (stays ∙ none .0 .taken, sym (none .1 .ensures) ∙ none .2 .left))
+    (λ whole. whole .6 ∙ simp (whole .3 .ensures, whole .1 .ensures, stays ∙ whole .0 .left)))
+
+-- the set there: nobody, or those that the work unparked
+unparks : (c : tie.Joined2) → let turn = turned c .turn-with .result in
+    c .if2 .unparked
+    ≡ pick (work-stays (turn .work)) 0
+    (work-done-of (threaded c .before .before .read-table .result) (threaded c .event-thread .result) (turned c .before .before .before .event-object .result) turn
+    .unparked)
+unparks c =
+    let stays = sym (c .before .work-stays .ensures) in
+    either-way (c .if2 .came) (λ records. records .12 ∙ simp (stays ∙ records .0 .taken))
+    (λ others. either-way others (λ none. none .4 ∙ simp (stays ∙ none .0 .taken))
+    (λ whole. whole .7 ∙ simp (whole .1 .ensures, stays ∙ whole .0 .left)))
 
 returns : tie.Need-returns
 returns c =
     let joined = c .before .before .before in
-    let turned = joined .before .before in
+    let turned = turned joined in
     let object = turned .before in
     let number = object .before .before in
     let own = number .before in
@@ -53,7 +69,7 @@ returns c =
     let stores =
     turn-stores (args .event) (read .read-table .ensures) (thread .event-thread .ensures) (own .read-thread .ensures) (number .event-object .ensures)
     (object .read-object .ensures) (sound .sound .ensures) (turned .turn-with .ensures) (args .bytes .now) in (
-      simp (c .packed .ensures, c .before .woken .ensures, c .before .before .returned .ensures, known) answers,
+      simp (c .packed .ensures, c .before .woken .ensures, c .before .before .returned .ensures, known, unparks joined) answers,
       simp (known) (stored joined ∙ stores),
     )
 

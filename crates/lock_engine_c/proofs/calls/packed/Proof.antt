@@ -8,5 +8,5 @@ pub packed-spec : {M : Type 1} → statement M
 unfolding packed-of
 packed-spec =
     tie.close
-    (tie.spec (λ c. search needs) (λ c. search needs) (λ c. search needs) (λ c. simp (c .if1 .taken)) (λ c. search needs) (λ c. search needs)
-    (λ c. simp (c .if1 .left)))
+    (tie.spec (λ c. search needs) (λ c. search needs) (λ c. search needs) (λ c. search needs) (λ c. search needs) (λ c. simp (c .if1 .taken))
+    (λ c. search needs) (λ c. search needs) (λ c. search needs) (λ c. simp (c .if1 .left)))

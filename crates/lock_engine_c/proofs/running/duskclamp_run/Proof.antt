@@ -67,7 +67,7 @@ loop-again c =
     let loop = test .before in
     let (count, wide, enough, room, few, at, long, running) = loop .loop .inv in
     let turn = turned .turn-with .result in
-    let outcome : Outcome = record { table = joined .if1 .table; reply = turn .reply; commits = turn .commits } in (
+    let outcome : Outcome = record { table = joined .if1 .table; reply = turn .reply; commits = turn .commits; unparked = joined .if1 .unparked } in (
       count,
       wide,
       enough,
@@ -86,7 +86,8 @@ loop-again c =
             turn-is = turned .turn-with .ensures;
           })
           (stay .work-stays .ensures)
-          (either-way (joined .if1 .came) (λ some. inl (some .0 .taken, some .1)) (λ some. inr (some .0 .left, some .1 .result, some .1 .ensures, some .3))))
+          (either-way (joined .if1 .came) (λ some. inl (some .0 .taken, some .1, some .2))
+          (λ some. inr (some .0 .left, some .1 .result, some .1 .ensures, some .3, some .4))))
           (simp (c .packed .ensures, c .before .woken .ensures, c .before .before .returned .ensures))
           (λ j. either (loop .loop .changed) (replied .reply-changes .ensures j)),
     )
@@ -123,7 +124,6 @@ duskclamp-run-spec =
     (λ c. place-in (c .before .before .before .before .before .before .before .before .before))
     (λ c. let inside = home-in (c .before .before .before .before .before .before) in omega (arith, inside))
     (λ c. home-in (c .before .before .before .before .before .before)) (λ c κs. tt) (λ c κs. tt) (λ c κs. tt) (λ c κs. tt) (λ c κs. tt)
-    (λ c. omega arith)
     (λ c. let (count, wide, enough, room, few, at, long, running) = begun c .before .loop .inv in omega (arith, wide, enough, room, few, at, long, begun c .loop-test .taken))
     (λ c. let (count, wide, enough, room, few, at, long, running) = begun c .before .loop .inv in omega (arith, wide, enough, room, few, at, long, begun c .loop-test .taken))
     (λ c. let (count, wide, enough, room, few, at, long, running) = begun c .before .loop .inv in omega (arith, wide, enough, room, few, at, long, begun c .loop-test .taken))

@@ -7,12 +7,12 @@ use native.Mathlib.Omega.{arith}
 use borrow.Author.Needs.{needs}
 use Rattle.lock_table.specs.Limits.{thread-limit, object-limit}
 use Rattle.lock_table.specs.Chain.{hang}
-use Rattle.lock_table.specs.declared.record.Table.{Table}
 use Rattle.lock_table.proofs.Places.{place-inside}
 use Rattle.lock_perform.specs.{Parting.no-parting, InPlace.goes-on}
 use Rattle.lock_perform.proofs.InPlace.{passes-more, passes-some, passes-inside, hang-passes, hang-stops}
 use Rattle.lock_work.specs.Waiters.{waiter-goes, waiter-ticked, part-waiters}
-use Rattle.lock_work.specs.Tick.{tick-waited, tick-to}
+use Rattle.lock_work.specs.Tick.{tick-waited, behind, tick-to}
+use Rattle.lock_work.specs.declared.settling.WorkDone.{WorkDone}
 use Rattle.lock_perform.proofs.PartInPlace.{part-passes, part-stops}
 use Rattle.lock_work.proofs.InPlace.{waited-in-place, tick-skips, tick-takes}
 use Rattle.lock_work.proofs.ticking.tick.Statement.{statement}
@@ -20,26 +20,27 @@ use Rattle.lock_work.proofs.ticking.tick.Tie as tie
 
 -- the walk that parts the waiters
 abbrev Inv-loop2 : tie.InvT-loop2
-Inv-loop2 changed₀ done home object parting₀ at₀ left₀ changed parting at left =
+Inv-loop2 changed₀ unparked done home object parting₀ at₀ left₀ changed parting at left =
     part-waiters thread-limit changed₀ no-parting (object .monitor .waiting) ≡ part-waiters left changed parting at
 
 abbrev μ-loop2 : tie.MeasureT-loop2
-μ-loop2 changed₀ done home object parting₀ at₀ left₀ changed parting at left = left
+μ-loop2 changed₀ unparked done home object parting₀ at₀ left₀ changed parting at left = left
 
 -- the walk to the end of the entry chain
 abbrev Inv-loop3 : tie.InvT-loop3
-Inv-loop3 changed₀ done home object parting at₀ left₀ changed at left =
+Inv-loop3 changed₀ unparked done home object parting at₀ left₀ changed at left =
     hang thread-limit changed₀ (object .monitor .entry) (parting .taken .first) ≡ hang left changed at (parting .taken .first)
 
 abbrev μ-loop3 : tie.MeasureT-loop3
-μ-loop3 changed₀ done home object parting at₀ left₀ changed at left = left
+μ-loop3 changed₀ unparked done home object parting at₀ left₀ changed at left = left
 
 -- the objects
 abbrev Inv-loop : tie.InvT-loop
-Inv-loop changed₀ done₀ changed done = (done ≤ object-limit) × (changed ≡ tick-to done changed₀)
+Inv-loop changed₀ unparked₀ done₀ changed unparked done =
+    (done ≤ object-limit) × (record { table = changed; unparked = unparked } ≡ tick-to done changed₀)
 
 abbrev μ-loop : tie.MeasureT-loop
-μ-loop changed₀ done₀ changed done = object-limit - done
+μ-loop changed₀ unparked₀ done₀ changed unparked done = object-limit - done
 
 passing-2 : (c : tie.Then2 Inv-loop2 μ-loop2 Inv-loop3 μ-loop3 Inv-loop μ-loop) → let loop = c .before .before .loop2 in goes-on (loop .at) (loop .left) ≡ true
 passing-2 c = sym (c .before .goes-on .ensures) ∙ c .if2 .taken
@@ -101,11 +102,11 @@ heir-in c = rw (c .thread-place2 .ensures) (place-inside thread-limit _ (omega a
 
 -- where the object's turn began
 abbrev begun : tie.After-with-monitor Inv-loop2 μ-loop2 Inv-loop3 μ-loop3 Inv-loop μ-loop → tie.In-loop Inv-loop2 μ-loop2 Inv-loop3 μ-loop3 Inv-loop μ-loop
-begun c = c .before .before .before .before .before .before .before .before .before .before .before .before .before .before .before .before .before .before .before
+begun c = c .before .before .before .before .before .before .before .before .before .before .before .before .before .before .before .before .before .before .before .before
 
 loop-again : tie.Need-loop-again Inv-loop2 μ-loop2 Inv-loop3 μ-loop3 Inv-loop μ-loop
 loop-again c =
-    let planned = c .before .before .before in
+    let planned = c .before .before .before .before in
     let place = planned .before .before in
     let heir = place .before in
     let work = heir .before in
@@ -119,13 +120,15 @@ loop-again c =
     let loop = here .before .loop in
     let table = here .before .before .args .table in
     let small = here .loop-test .taken in
+    let so-far : WorkDone = record { table = loop .changed; unparked = loop .unparked } in
     let parted-is = sym (waiting .loop2 .inv ∙ part-stops waiter-goes waiter-ticked true (waiting .loop2 .at) (waiting .loop2 .left) (sym (parted .before .goes-on .ensures) ∙ parted .if2 .left) (waiting .loop2 .changed) (waiting .loop2 .parting)) in
     let hung-is = sym (walked .loop3 .inv ∙ hang-stops (walked .loop3 .at) (walked .loop3 .left) (sym (hung .before .goes-on2 .ensures) ∙ hung .if3 .left) (walked .loop3 .changed) (waiting .loop2 .parting .taken .first)) in (
       omega (arith, small),
-      waited-in-place (loop .changed) (loop .done) small refl parted-is hung-is (monitor .moved-monitor .ensures) (work .handing .ensures)
-          (heir .touched .ensures) (place .thread-place2 .ensures) (planned .plan-at .ensures) (c .with-monitor .ensures)
-          ∙ (ap (λ (t : Table). tick-waited t (loop .done + 1)) (loop .inv .1)
-          ∙ tick-takes table (loop .done) small (rw (loop .inv .1) at (turn .if1 .taken))),
+      ap (behind so-far)
+          (waited-in-place (loop .changed) (loop .done) small refl parted-is hung-is (monitor .moved-monitor .ensures) (work .handing .ensures)
+          (heir .touched .ensures) (place .thread-place2 .ensures) (planned .plan-at .ensures) (c .with-monitor .ensures))
+          ∙ (ap (λ (done : WorkDone). behind done (tick-waited (done .table) (loop .done + 1))) (loop .inv .1)
+          ∙ tick-takes table (loop .done) small (rw (ap (λ (done : WorkDone). done .table) (loop .inv .1)) at (turn .if1 .taken))),
     )
 
 loop-again-2 : tie.Need-loop-again-2 Inv-loop2 μ-loop2 Inv-loop3 μ-loop3 Inv-loop μ-loop
@@ -133,7 +136,7 @@ loop-again-2 c =
     let turn = c .before .before .before in
     let loop = turn .before .loop in
     let small = turn .loop-test .taken in
-    (omega (arith, small), loop .inv .1 ∙ tick-skips (turn .before .before .args .table) (loop .done) small (rw (loop .inv .1) at (c .if1 .left)))
+    (omega (arith, small), loop .inv .1 ∙ tick-skips (turn .before .before .args .table) (loop .done) small (rw (ap (λ (done : WorkDone). done .table) (loop .inv .1)) at (c .if1 .left)))
 
 returns : tie.Need-returns Inv-loop2 μ-loop2 Inv-loop3 μ-loop3 Inv-loop μ-loop
 returns c =

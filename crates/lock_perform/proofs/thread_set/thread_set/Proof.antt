@@ -1,4 +1,4 @@
--- `lock_perform::parting::thread_set` meets its contract: each way through the code is that of the definition.
+-- `lock_perform::thread_set::thread_set` meets its contract: each way through the code is that of the definition.
 use Prim.Native.Nat.{_-_, _^_}
 use mathlib.Core.Path.{_∙_}
 use native.Mathlib.Nat.{one-mul}
@@ -6,9 +6,9 @@ use native.Mathlib.Omega.{arith}
 use lib.Pow.{shl-exact}
 use borrow.Author.Needs.{needs}
 use borrow.Author.Tests.{eq-eqb, le-ltb, lt-ltb, ne-eqb}
-use Rattle.lock_perform.specs.Parting.{thread-set}
-use Rattle.lock_perform.proofs.parting.thread_set.Statement.{statement}
-use Rattle.lock_perform.proofs.parting.thread_set.Tie as tie
+use Rattle.lock_perform.specs.ThreadSet.{thread-set}
+use Rattle.lock_perform.proofs.thread_set.thread_set.Statement.{statement}
+use Rattle.lock_perform.proofs.thread_set.thread_set.Tie as tie
 
 pub thread-set-spec : {M : Type 1} → statement M
 unfolding thread-set

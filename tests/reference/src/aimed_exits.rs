@@ -1,9 +1,11 @@
 //! Events that aim at exits which end without going in, as request L2 has it: they have freed the word, and another thread inflates before they go in.
 
-use crate::engine::{apply, Event};
+use crate::aim::{shuffle, Aim};
+use crate::engine::Event;
 use crate::random::Random;
-use crate::table::{Chain, Operation, Phase, Table};
+use crate::table::{Operation, Phase, Table};
 use crate::word::MAX_COUNT;
+use std::ops::RangeInclusive;
 
 /// One thread inflates, one contends and one leaves.
 pub const LEAST_THREADS: u8 = 3;
@@ -13,6 +15,9 @@ const PLACES: [Phase; 3] = [Phase::Check, Phase::Try, Phase::Inflate];
 const QUEUED: u64 = 80;
 /// In percent, how often a leaver goes on right behind the inflating step. Else it does later, when the monitor may be another's or nobody's.
 const AT_ONCE: u64 = 50;
+/// In percent, how often a leaver that was let out takes a step, which is refused, before it goes on.
+const STEPPED: u64 = 30;
+const LIMITS: RangeInclusive<u64> = 1..=6;
 
 /// The threads of one aim.
 struct Cast {
@@ -32,7 +37,9 @@ impl Cast {
         let inflater = threads.remove(0);
         let others = threads.len() as u64;
         let contenders = random.between(1, others.div_ceil(4)) as usize;
-        let leavers = random.between(1, others - contenders as u64) as usize;
+        let most = others - contenders as u64;
+        // Rather many, so that several are let out at once.
+        let leavers = random.between(1, most).max(random.between(1, most)) as usize;
         let entrants = threads.split_off(contenders + leavers);
         Cast {
             inflater,
@@ -43,13 +50,7 @@ impl Cast {
     }
 }
 
-fn shuffle(random: &mut Random, threads: &mut [u8]) {
-    for last in (1..threads.len()).rev() {
-        threads.swap(last, random.between(0, last as u64) as usize);
-    }
-}
-
-/// Events that aim so many times, all at one object. The table is fresh, or has gone through events of these threads on that object alone; it goes along.
+/// Events that aim so many times, all at one object. No thread is at another object, or owns one; the table goes along.
 pub fn events(
     random: &mut Random,
     table: &mut Table,
@@ -61,6 +62,7 @@ pub fn events(
         random,
         table,
         object,
+        limits: LIMITS,
         events: Vec::new(),
         stuck: false,
     };
@@ -70,15 +72,6 @@ pub fn events(
         aim.let_out(&cast);
     }
     aim.events
-}
-
-struct Aim<'a> {
-    random: &'a mut Random,
-    table: &'a mut Table,
-    object: u8,
-    events: Vec<Event>,
-    /// An event was refused, which only a wrong engine does; what waits for a phase would wait for ever.
-    stuck: bool,
 }
 
 impl Aim<'_> {
@@ -108,11 +101,23 @@ impl Aim<'_> {
     /// The first leaver owns the word, with contenders, and entrants about to go in.
     fn gather(&mut self, cast: &Cast) {
         self.go(cast.leavers[0], Operation::Enter, Phase::Idle);
-        for contender in &cast.contenders {
-            self.go(*contender, Operation::Enter, Phase::Contending);
+        for pair in cast.contenders.chunks(2) {
+            self.contend(pair);
         }
         for entrant in &cast.entrants {
             self.go(*entrant, Operation::Enter, Phase::GoIn);
+        }
+    }
+
+    /// A second contender queues up behind the first, and is handed the monitor when that one parks.
+    fn contend(&mut self, pair: &[u8]) {
+        self.go(pair[0], Operation::Enter, Phase::Check);
+        for second in &pair[1..] {
+            self.go(*second, Operation::Enter, Phase::GoIn);
+            self.step(*second);
+        }
+        for contender in pair {
+            self.step_to(*contender, Phase::Contending);
         }
     }
 
@@ -141,79 +146,20 @@ impl Aim<'_> {
         }
     }
 
-    /// Leavers that were not let out find the flag down, and those that were begin again.
+    /// Leavers that were not let out find the flag down, and those that were begin again, some of them behind a step that is refused.
     fn go_on(&mut self, cast: &Cast) {
         for leaver in &cast.leavers {
+            let is_let_out = self.table.thread(*leaver).phase == Phase::Idle;
+            if is_let_out && self.random.percent(STEPPED) {
+                self.step_in_vain(*leaver);
+            }
             if !self.random.percent(AT_ONCE) {
                 continue;
             }
-            match self.table.thread(*leaver).phase {
-                Phase::Idle => self.go(*leaver, Operation::Enter, Phase::GoIn),
-                _ => self.step(*leaver),
+            match is_let_out {
+                true => self.go(*leaver, Operation::Enter, Phase::GoIn),
+                false => self.step(*leaver),
             }
         }
-    }
-
-    /// Lets everybody finish, in any order, until nobody owns the object or is at it.
-    fn wind_down(&mut self, threads: &[u8]) {
-        while let Some(thread) = self.next_to_finish(threads) {
-            let owns = self.table.owner(self.object).0 == thread;
-            match self.table.thread(thread).phase {
-                Phase::Idle if !owns => self.begin(thread, Operation::Enter),
-                Phase::Idle if self.some_wait() => self.begin(thread, Operation::NotifyAll),
-                Phase::Idle => self.begin(thread, Operation::Exit),
-                _ => self.step(thread),
-            }
-        }
-    }
-
-    /// One that is at the object and not parked, or owns it; else an idle one where others wait to be woken.
-    fn next_to_finish(&mut self, threads: &[u8]) -> Option<u8> {
-        let owner = self.table.owner(self.object).0;
-        let phase = |thread: u8| self.table.thread(thread).phase;
-        let all = threads.iter().copied();
-        let goes_on = all.clone().filter(|&thread| match phase(thread) {
-            Phase::Idle => thread == owner,
-            phase => !phase.is_parked(),
-        });
-        let going_on: Vec<u8> = goes_on.collect();
-        if self.stuck {
-            None
-        } else if !going_on.is_empty() {
-            Some(self.random.pick(&going_on))
-        } else if self.some_wait() {
-            all.clone().find(|&thread| phase(thread) == Phase::Idle)
-        } else {
-            None
-        }
-    }
-
-    fn some_wait(&self) -> bool {
-        self.table.chain(self.object, Chain::Waiting).count() > 0
-    }
-
-    /// Begins an operation and steps until it comes to the phase.
-    fn go(&mut self, thread: u8, operation: Operation, phase: Phase) {
-        self.begin(thread, operation);
-        while self.table.thread(thread).phase != phase && !self.stuck {
-            self.step(thread);
-        }
-    }
-
-    fn begin(&mut self, thread: u8, operation: Operation) {
-        let limit = match operation {
-            Operation::TimedWait => self.random.between(1, 6) as u16,
-            _ => 0,
-        };
-        self.push(Event::begin(thread, operation, self.object, limit));
-    }
-
-    fn step(&mut self, thread: u8) {
-        self.push(Event::step(thread));
-    }
-
-    fn push(&mut self, event: Event) {
-        self.stuck |= apply(self.table, event).returned.is_refusal();
-        self.events.push(event);
     }
 }

@@ -1,0 +1,183 @@
+//! What a run of schedules is to meet often enough, and how often it did: exits that end without going in, and events that unpark others.
+
+use crate::engine::Event;
+use crate::exits::let_out;
+use crate::outcome::{Outcome, Returned};
+use crate::report::Report;
+use crate::table::{Operation, Phase, Table, MAX_THREADS};
+
+#[derive(Clone, Copy, Debug, PartialEq, Eq)]
+pub enum Rare {
+    /// Exits that ended without going in: by their own step, at the flag, or let out by another's step that inflates.
+    EndedAtTheFlag,
+    LetOutAtCheck,
+    LetOutAtTry,
+    LetOutAtInflate,
+    /// Sets with the thread that a monitor was handed to.
+    HandedAtTry,
+    HandedAtLeave,
+    HandedAtWait,
+    HandedAtTick,
+    /// Sets with the exits that a step let out.
+    LetOut,
+    /// Sets with more than one thread.
+    SeveralLetOut,
+    SeveralAtTick,
+    /// Sets with the last bit.
+    LastThread,
+    /// Events behind which a run queue holds an exit that was let out, and steps by which such a one leaves it.
+    LetOutQueued,
+    LetOutStepped,
+}
+
+const RARE: usize = 14;
+
+impl Rare {
+    pub const ALL: [Rare; RARE] = [
+        Rare::EndedAtTheFlag,
+        Rare::LetOutAtCheck,
+        Rare::LetOutAtTry,
+        Rare::LetOutAtInflate,
+        Rare::HandedAtTry,
+        Rare::HandedAtLeave,
+        Rare::HandedAtWait,
+        Rare::HandedAtTick,
+        Rare::LetOut,
+        Rare::SeveralLetOut,
+        Rare::SeveralAtTick,
+        Rare::LastThread,
+        Rare::LetOutQueued,
+        Rare::LetOutStepped,
+    ];
+
+    /// What is counted.
+    pub fn name(self) -> &'static str {
+        match self {
+            Rare::EndedAtTheFlag => "exits finished at the flag in phase 4",
+            Rare::LetOutAtCheck => "exits let out at phase 6",
+            Rare::LetOutAtTry => "exits let out at phase 7",
+            Rare::LetOutAtInflate => "exits let out at phase 12",
+            Rare::HandedAtTry => "sets by a hand at phase 7",
+            Rare::HandedAtLeave => "sets by a hand at phase 11",
+            Rare::HandedAtWait => "sets by a hand at phase 13",
+            Rare::HandedAtTick => "sets by a tick",
+            Rare::LetOut => "sets of exits let out",
+            Rare::SeveralLetOut => "sets of several exits let out",
+            Rare::SeveralAtTick => "sets of several threads by a tick",
+            Rare::LastThread => "sets with thread 32",
+            Rare::LetOutQueued => "events with an exit let out in the run queue",
+            Rare::LetOutStepped => "exits let out that a step took from the run queue",
+        }
+    }
+
+    /// All but those of a run queue, which only runs from a fresh table have.
+    pub fn of_events() -> &'static [Rare] {
+        &Rare::ALL[..Rare::LetOutQueued as usize]
+    }
+}
+
+/// A whole run has at least so many of each.
+const LEAST: u64 = 100;
+
+/// How often each came up.
+#[derive(Clone, Copy, Debug, Default, PartialEq, Eq)]
+pub struct Met([u64; RARE]);
+
+impl Met {
+    /// Notes what an accepted event did.
+    pub fn note(
+        &mut self,
+        before: &Table,
+        after: &Table,
+        event: Event,
+        outcome: Outcome,
+    ) -> Result<(), String> {
+        let phase = match event {
+            Event::Tick => None,
+            Event::Begin { thread, .. } | Event::Step { thread } => {
+                Some(before.thread(thread as u8).phase.number())
+            }
+        };
+        self.note_unparked(phase, outcome)?;
+        let Event::Step { thread } = event else {
+            return Ok(());
+        };
+        let (old, new) = (before.thread(thread as u8), after.thread(thread as u8));
+        let at_the_flag = old.operation == Some(Operation::Exit)
+            && old.phase == Phase::GoIn
+            && new.phase == Phase::Idle;
+        let number = let_out(before, after, event).len() + usize::from(at_the_flag);
+        self.note_ended(old.phase.number(), number as u64)
+    }
+
+    /// Notes so many exits that a step from the phase ended without their going in. No other phase than the four ends any.
+    pub fn note_ended(&mut self, phase: u8, number: u64) -> Result<(), String> {
+        let rare = match phase {
+            4 => Rare::EndedAtTheFlag,
+            6 => Rare::LetOutAtCheck,
+            7 => Rare::LetOutAtTry,
+            12 => Rare::LetOutAtInflate,
+            _ if number == 0 => return Ok(()),
+            _ => return Err(format!("a step from phase {phase} let exits out")),
+        };
+        self.add(rare, number);
+        Ok(())
+    }
+
+    /// Notes the threads unparked by an event, a thread's in the phase or a tick. Only steps that hand or inflate unpark any, and ticks.
+    pub fn note_unparked(&mut self, phase: Option<u8>, outcome: Outcome) -> Result<(), String> {
+        let unparked = outcome.unparked;
+        if unparked.is_empty() {
+            return Ok(());
+        }
+        let (rare, several) = match (phase, outcome.returned) {
+            (None, Returned::GoneOn) => (Rare::HandedAtTick, Some(Rare::SeveralAtTick)),
+            (Some(7), Returned::Parked) => (Rare::HandedAtTry, None),
+            (Some(11), Returned::Finished) => (Rare::HandedAtLeave, None),
+            (Some(13), Returned::Parked) => (Rare::HandedAtWait, None),
+            (Some(6 | 7), Returned::Finished) | (Some(12), Returned::GoneOn) => {
+                (Rare::LetOut, Some(Rare::SeveralLetOut))
+            }
+            _ => return Err(format!("phase {phase:?} unparked others: {outcome:?}")),
+        };
+        self.add(rare, 1);
+        if unparked.len() > 1 {
+            let several = several.ok_or(format!("a hand to several threads: {outcome:?}"))?;
+            self.add(several, 1);
+        }
+        let last = unparked.contains(MAX_THREADS as u8);
+        self.add(Rare::LastThread, last.into());
+        Ok(())
+    }
+
+    pub fn add(&mut self, rare: Rare, number: u64) {
+        self.0[rare as usize] += number;
+    }
+
+    pub fn add_all(&mut self, other: &Met) {
+        for (number, more) in self.0.iter_mut().zip(other.0) {
+            *number += more;
+        }
+    }
+
+    pub fn number(&self, rare: Rare) -> u64 {
+        self.0[rare as usize]
+    }
+
+    pub fn print(&self, rares: &[Rare]) {
+        for rare in rares {
+            println!("{}: {}", rare.name(), self.number(*rare));
+        }
+    }
+
+    /// A whole run must have met each of these often enough.
+    pub fn check(&self, rares: &[Rare], report: &mut Report) {
+        for rare in rares {
+            let result = match self.number(*rare) {
+                LEAST.. => Ok(()),
+                number => Err(format!("{number} met, of at least {LEAST}")),
+            };
+            report.check(rare.name(), result);
+        }
+    }
+}
