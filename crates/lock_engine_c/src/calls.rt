@@ -167,7 +167,8 @@ pub extern "C" fn duskclamp_fresh(
     fresh_if_sized(bytes, request, fits)
 }
 
-// The thread begins the operation with this number on the object, without a limit. Refused, it leaves every byte.
+// The thread begins the operation with this number on the object, without a limit. Refused, it leaves every byte, and its answer
+// carries no set.
 #[no_mangle]
 pub extern "C" fn duskclamp_begin(bytes: &mut [u8], thread: u32, operation: u32, object: u32) -> u64
     ensures { λ r. ⌜ r ≡ event-answer (is-table (now (bytes .entry))) (begun-on (now (bytes .entry)) thread operation object 0) ⌝ }
@@ -184,7 +185,7 @@ pub extern "C" fn duskclamp_begin(bytes: &mut [u8], thread: u32, operation: u32,
     handle_if_table(bytes, event, istable)
 }
 
-// The thread begins a timed wait on the object, with this limit in ticks. Refused, it leaves every byte.
+// The thread begins a timed wait on the object, with this limit in ticks. Refused, it leaves every byte, and its answer carries no set.
 #[no_mangle]
 pub extern "C" fn duskclamp_timed_wait(
     bytes: &mut [u8],
@@ -206,7 +207,7 @@ pub extern "C" fn duskclamp_timed_wait(
     handle_if_table(bytes, event, istable)
 }
 
-// The thread takes one step. Refused, it leaves every byte; with 18 and 19, every byte but those of the thread's record.
+// The thread takes one step. Refused, it leaves every byte, and its answer carries no set; with 18 and 19, every byte but those of the thread's record.
 #[no_mangle]
 pub extern "C" fn duskclamp_step(bytes: &mut [u8], thread: u32) -> u64
     ensures { λ r. ⌜ r ≡ event-answer (is-table (now (bytes .entry))) (stepped-on (now (bytes .entry)) thread) ⌝ }
@@ -220,7 +221,7 @@ pub extern "C" fn duskclamp_step(bytes: &mut [u8], thread: u32) -> u64
     handle_if_table(bytes, event, istable)
 }
 
-// One tick of the clock. Refused, it leaves every byte.
+// One tick of the clock. Refused, it leaves every byte, and its answer carries no set.
 #[no_mangle]
 pub extern "C" fn duskclamp_tick(bytes: &mut [u8]) -> u64
     ensures { λ r. ⌜ r ≡ event-answer (is-table (now (bytes .entry))) (ticked-on (now (bytes .entry))) ⌝ }

@@ -27,7 +27,8 @@ use Rattle.lock_rules.proofs.Changes.{handed, moved, is-queued-exit, le
 use Rattle.lock_rules.proofs.Status.{unfinished, Runs}
 use Rattle.lock_rules.proofs.Objects.{ListObject, chain-of, empty, sight-of}
 use Rattle.lock_rules.proofs.Perform.{taken, changed-states, handed-object, handed-states, moved-states, states-after, effected, perform}
-use Rattle.lock_rules.proofs.Tick.{one-tick-less, aged, parting, expired, tick-at}
+use Rattle.lock_rules.proofs.Tick.{expired, tick-at}
+use Rattle.lock_rules.proofs.Quiet.{moved-quiet, sent-back-quiet, changed-quiet, expired-quiet, quiet-busy}
 use Rattle.lock_rules.proofs.TableKinds.{TurnOf, by-event}
 use Rattle.lock_rules.proofs.Tables.{ListThread, ListTable, states-at, step-at, list-kind, turn, seen-here}
 use Rattle.lock_rules.proofs.Invariant.{seat, Seated, Logged, Ghost, ThreadOk, Invariant}
@@ -37,18 +38,13 @@ use Rattle.lock_rules.proofs.Lift.{World}
 busy≢idle : {A : Type 0} (state : ThreadState) → T (unfinished state) → state ≡ Idle → A
 busy≢idle state busy idle = absurd (rw idle at busy)
 
--- nobody but a queued exit goes idle by another's event
+-- nobody but a queued exit goes idle by another's event: who is handed the monitor goes on, and the other changes are quiet
 handed-busy : (state : ThreadState) → T (unfinished state) → T (unfinished (handed state))
 handed-busy = each-state _ (search)
 
-moved-busy : (state : ThreadState) → T (unfinished state) → T (unfinished (moved state))
-moved-busy = each-state _ (search)
-
-sent-back-busy : (state : ThreadState) → T (unfinished state) → T (unfinished (sent-back state))
-sent-back-busy = each-state _ (search)
-
-ticked-busy : (state : ThreadState) → T (unfinished state) → T (unfinished (one-tick-less state))
-ticked-busy = each-state _ (search)
+handed-on : (states : ℕ → ThreadState) (o : ListObject) (t : ℕ) → T (unfinished (states t)) → T (unfinished (handed-states states o t))
+handed-on states o t busy =
+    by-test (λ (state : ThreadState). T (unfinished state)) (above-zero (count t (taken First (o .entry)))) (λ there. handed-busy (states t) busy) (λ away. busy)
 
 -- who is let out was a queued exit, and was one before the contenders moved
 pub exit-is : (state : ThreadState) → T (is-queued-exit state) → state ≡ Queued ToTell
@@ -64,22 +60,16 @@ pub moved-from : (states : ℕ → ThreadState) (t : ℕ) (list : List ℕ) → 
 moved-from states t list =
     by-test (λ (state : ThreadState). T (is-queued-exit state) → T (is-queued-exit (states t))) (above-zero (count t list)) (λ there. moved-exit (states t)) (λ away exits. exits)
 
--- a change that ends nothing, made in any threads' states
-changed-busy : (change : ThreadState → ThreadState) → ((state : ThreadState) → T (unfinished state) → T (unfinished (change state)))
-    → (states : ℕ → ThreadState) (t : ℕ) → T (unfinished (states t)) → (list : List ℕ) → T (unfinished (changed-states change states list t))
-changed-busy change keeps states t busy list =
-    by-test (λ (state : ThreadState). T (unfinished state)) (above-zero (count t list)) (λ there. keeps (states t) busy) (λ away. busy)
-
 module _ (states : ℕ → ThreadState) (t : ℕ) (busy : T (unfinished (states t))) where
   work-ends : (work : ChainWork) (o : ListObject) → states-after work states o t ≡ Idle → T (is-queued-exit (states t))
   work-ends Stay o = busy≢idle (states t) busy
   work-ends (Join chain) o = busy≢idle (states t) busy
-  work-ends (JoinAndHand chain) o = busy≢idle _ (changed-busy handed handed-busy states t busy (taken First (o .entry)))
-  work-ends Hand o = busy≢idle _ (changed-busy handed handed-busy states t busy (taken First (o .entry)))
-  work-ends (Move from which) o = busy≢idle _ (changed-busy moved moved-busy states t busy (taken which (chain-of from o)))
+  work-ends (JoinAndHand chain) o = busy≢idle _ (handed-on states o t busy)
+  work-ends Hand o = busy≢idle _ (handed-on states o t busy)
+  work-ends (Move from which) o = busy≢idle _ (quiet-busy (changed-quiet moved moved-quiet states (taken which (chain-of from o)) t) busy)
   work-ends MoveAndLetOut o =
-      λ idle. moved-from states t (o .contention) (let-out-exit (moved-states Chain.Contention All states o t) (changed-busy moved moved-busy states t busy (o .contention)) idle)
-  work-ends (SendBack u) o = busy≢idle _ (changed-busy sent-back sent-back-busy states t busy (u ∷ []))
+      λ idle. moved-from states t (o .contention) (let-out-exit (moved-states Chain.Contention All states o t) (quiet-busy (changed-quiet moved moved-quiet states (o .contention) t) busy) idle)
+  work-ends (SendBack u) o = busy≢idle _ (quiet-busy (changed-quiet sent-back sent-back-quiet states (u ∷ []) t) busy)
 
   step-ends : (thread : ℕ) (o : ListObject) (action : Action) → t ≢ thread → perform thread states o action .states t ≡ Idle → T (is-queued-exit (states t))
   step-ends thread o Unruled other idle = busy≢idle (states t) busy idle
@@ -91,13 +81,13 @@ module _ (states : ℕ → ThreadState) (t : ℕ) (busy : T (unfinished (states 
   tick-ends o = busy≢idle _ (at (empty (o .waiting)) (eqb (expired states o .object .holder) 0))
     where
       gone : T (unfinished (expired states o .states t))
-      gone = changed-busy moved moved-busy (aged states o) t (changed-busy one-tick-less ticked-busy states t busy (o .waiting)) (parting states o .gone)
+      gone = quiet-busy (expired-quiet states o t) busy
 
       at : (none free : Bool)
           → T (unfinished (pick none (record { states = states; object = o })
           (pick free (record { states = handed-states (expired states o .states) (expired states o .object); object = handed-object (expired states o .object) }) (expired states o)) .states t))
       at true free = busy
-      at false true = changed-busy handed handed-busy (expired states o .states) t gone (taken First (expired states o .object .entry))
+      at false true = handed-on (expired states o .states) (expired states o .object) t gone
       at false false = gone
 
 -- a queued exit has committed once, and its answer was 1 with 0

@@ -6,6 +6,7 @@ pub mod Commits
 pub mod Objects
 pub mod Perform
 pub mod Tick
+pub mod Quiet
 pub mod Gate
 pub mod TableKinds
 pub mod Tables

@@ -4,15 +4,14 @@ use Prim.Native.Nat.{ℕ, zero, suc, _≤_, _<_}
 use mathlib.Core.Path.{_≡_, refl, sym, ap, _∙_, subst}
 use mathlib.Core.Logic.{_≢_}
 use mathlib.Core.Bool.{Bool, true, false, not}
-use mathlib.Core.List.{List, [], _∷_}
+use mathlib.Core.List.{[], _∷_}
 use native.Mathlib.Omega.{arith}
 use lib.Dec.{T, eqb}
 use borrow.Author.Tests.{eq-eqb, ne-eqb, eqb-true}
 use Rattle.laws.specs.{Choice.pick, Choice.both, Count.count}
-use Rattle.laws.proofs.Choice.{either-way, equal?, by-test, both-first, both-second, false≢true, holds, failed}
+use Rattle.laws.proofs.Choice.{either-way, equal?, both-first, both-second, false≢true, holds, failed}
 use Rattle.laws.proofs.Update.{update-same, update-other}
 use Rattle.chains.specs.declared.named.Chain.{Chain}
-use Rattle.lock_rules.specs.PlainMonitor.{above-zero}
 use Rattle.lock_rules.specs.Rules.{begun}
 use Rattle.lock_rules.specs.RunQueue.{own-event}
 use Rattle.lock_rules.specs.Numbers.{first-refusal, refusal-number}
@@ -29,8 +28,9 @@ use Rattle.lock_rules.proofs.Each.{each-state, each-carried}
 use Rattle.lock_rules.proofs.Changes.{moved, is-queued-exit, let-out-state, sent-back}
 use Rattle.lock_rules.proofs.Status.{unparked, unfinished, Runs}
 use Rattle.lock_rules.proofs.Objects.{ListObject, chain-of, empty, sight-of}
-use Rattle.lock_rules.proofs.Perform.{taking, taken, changed-states, handed-object, handed-states, moved-states, is-handed, states-after, unparks, effected, perform, action-unparks}
-use Rattle.lock_rules.proofs.Tick.{one-tick-less, aged, parting, expired, tick-at, tick-unparks}
+use Rattle.lock_rules.proofs.Perform.{taking, taken, handed-object, handed-states, moved-states, is-handed, states-after, unparks, effected, perform, action-unparks}
+use Rattle.lock_rules.proofs.Tick.{expired, tick-at, tick-unparks}
+use Rattle.lock_rules.proofs.Quiet.{Quiet, same-quiet, moved-quiet, sent-back-quiet, changed-quiet, expired-quiet}
 use Rattle.lock_rules.proofs.Membership.{PlacedAt, was-in}
 use Rattle.lock_rules.proofs.ListSound.{SoundObject, SoundTable}
 use Rattle.lock_rules.proofs.SoundTick.{expired-placed}
@@ -54,31 +54,6 @@ says-unparks before after parked free = rw (parked) (holds after free)
 never : (b : Bool) → false ≡ both (not b) b
 never true = refl
 never false = refl
-
--- a change that leaves who is parked, and who has an operation
-record Quiet (before after : ThreadState) : Type 0 where
-  parks : unparked after ≡ unparked before
-  works : unfinished after ≡ unfinished before
-
-same-quiet : (state : ThreadState) → Quiet state state
-same-quiet state = record { parks = refl; works = refl }
-
-moved-quiet : (state : ThreadState) → Quiet state (moved state)
-moved-quiet = each-state _ (search)
-
-sent-back-quiet : (state : ThreadState) → Quiet state (sent-back state)
-sent-back-quiet = each-state _ (search)
-
-ticked-quiet : (state : ThreadState) → Quiet state (one-tick-less state)
-ticked-quiet = each-state _ (search)
-
--- made in any threads' states
-changed-quiet : (change : ThreadState → ThreadState) → ((state : ThreadState) → Quiet state (change state)) → (states : ℕ → ThreadState) (list : List ℕ) (t : ℕ)
-    → Quiet (states t) (changed-states change states list t)
-changed-quiet change quiet states list t = by-test (Quiet (states t)) (above-zero (count t list)) (λ there. quiet (states t)) (λ away. same-quiet (states t))
-
-both-quiet : {a b c : ThreadState} → Quiet a b → Quiet b c → Quiet a c
-both-quiet first second = record { parks = second .parks ∙ first .parks; works = second .works ∙ first .works }
 
 -- first a quiet change, then one that may unpark
 then-passed : {a b c : ThreadState} {named : Bool} → Quiet a b → Passed named b c → Passed named a c
@@ -144,18 +119,14 @@ pub tick-passed : (threads : ℕ) (states : ℕ → ThreadState) (o : ListObject
     → Passed (tick-unparks states o t) (states t) (tick-at states o .states t)
 tick-passed threads states o sound t = at (empty (o .waiting)) (eqb (expired states o .object .holder) 0)
   where
-    out : Quiet (states t) (expired states o .states t)
-    out =
-        both-quiet (changed-quiet one-tick-less ticked-quiet states (o .waiting) t) (changed-quiet moved moved-quiet (aged states o) (parting states o .gone) t)
-
     at : (none free : Bool)
         → let after = expired states o in
         Passed (pick none false (pick free (is-handed (after .object) t) false)) (states t)
         (pick none (record { states = states; object = o })
         (pick free (record { states = handed-states (after .states) (after .object); object = handed-object (after .object) }) after) .states t)
     at true free = quiet-passed (same-quiet (states t))
-    at false true = then-passed out (handed-passed (expired states o .states) (expired states o .object) t (expired-placed threads states o sound t))
-    at false false = quiet-passed out
+    at false true = then-passed (expired-quiet states o t) (handed-passed (expired states o .states) (expired states o .object) t (expired-placed threads states o sound t))
+    at false false = quiet-passed (expired-quiet states o t)
 
 -- what its own event that counts makes of a thread
 abbrev pub OwnTurned : Event → Reply → ThreadState → Type 0
