@@ -1,7 +1,7 @@
-//! A second implementation of the lock engine, its replay and the checks made with it.
+//! A second implementation of the lock engine, its replay, its report and the checks made with them.
 //! Written from the specification alone, so that agreement with the proved one says something. In comments "document 01" is the specification, and
 //! "request L1", "request L2" and "request L3" the customer's requests for timed waits, on exits that waited for a stranger, and to be told which
-//! threads an event unparked, which amend it.
+//! threads an event unparked, which amend it; "request L4" is that for a report on many schedules.
 
 pub mod aim;
 pub mod aimed_exits;
@@ -9,6 +9,8 @@ pub mod aimed_ticks;
 pub mod arguments;
 pub mod checked;
 pub mod engine;
+pub mod enters;
+pub mod enters_check;
 pub mod exits;
 pub mod generate;
 pub mod long_cases;
@@ -17,13 +19,19 @@ pub mod outcome;
 pub mod plain;
 pub mod program;
 pub mod random;
+pub mod recount;
 pub mod replay;
 pub mod report;
+pub mod report_inputs;
+pub mod report_long_cases;
 pub mod run_queue;
+pub mod seen;
 pub mod shrink;
 pub mod sound;
 pub mod stored;
+pub mod suite;
 pub mod table;
+pub mod tally;
 pub mod thread_set;
 pub mod unparked;
 pub mod word;

@@ -3,8 +3,8 @@
 use crate::engine::Event;
 use crate::exits::let_out;
 use crate::outcome::{Outcome, Returned};
-use crate::report::Report;
 use crate::table::{Operation, Phase, Table, MAX_THREADS};
+use crate::tally::{Kind, Tally};
 
 #[derive(Clone, Copy, Debug, PartialEq, Eq)]
 pub enum Rare {
@@ -50,8 +50,18 @@ impl Rare {
         Rare::LetOutStepped,
     ];
 
-    /// What is counted.
-    pub fn name(self) -> &'static str {
+    /// All but those of a run queue, which only runs from a fresh table have.
+    pub fn of_events() -> &'static [Rare] {
+        &Rare::ALL[..Rare::LetOutQueued as usize]
+    }
+}
+
+impl Kind for Rare {
+    fn place(self) -> usize {
+        self as usize
+    }
+
+    fn name(self) -> &'static str {
         match self {
             Rare::EndedAtTheFlag => "exits finished at the flag in phase 4",
             Rare::LetOutAtCheck => "exits let out at phase 6",
@@ -70,9 +80,8 @@ impl Rare {
         }
     }
 
-    /// All but those of a run queue, which only runs from a fresh table have.
-    pub fn of_events() -> &'static [Rare] {
-        &Rare::ALL[..Rare::LetOutQueued as usize]
+    fn least(self) -> u64 {
+        LEAST
     }
 }
 
@@ -80,8 +89,7 @@ impl Rare {
 const LEAST: u64 = 100;
 
 /// How often each came up.
-#[derive(Clone, Copy, Debug, Default, PartialEq, Eq)]
-pub struct Met([u64; RARE]);
+pub type Met = Tally<Rare>;
 
 impl Met {
     /// Notes what an accepted event did.
@@ -148,36 +156,5 @@ impl Met {
         let last = unparked.contains(MAX_THREADS as u8);
         self.add(Rare::LastThread, last.into());
         Ok(())
-    }
-
-    pub fn add(&mut self, rare: Rare, number: u64) {
-        self.0[rare as usize] += number;
-    }
-
-    pub fn add_all(&mut self, other: &Met) {
-        for (number, more) in self.0.iter_mut().zip(other.0) {
-            *number += more;
-        }
-    }
-
-    pub fn number(&self, rare: Rare) -> u64 {
-        self.0[rare as usize]
-    }
-
-    pub fn print(&self, rares: &[Rare]) {
-        for rare in rares {
-            println!("{}: {}", rare.name(), self.number(*rare));
-        }
-    }
-
-    /// A whole run must have met each of these often enough.
-    pub fn check(&self, rares: &[Rare], report: &mut Report) {
-        for rare in rares {
-            let result = match self.number(*rare) {
-                LEAST.. => Ok(()),
-                number => Err(format!("{number} met, of at least {LEAST}")),
-            };
-            report.check(rare.name(), result);
-        }
     }
 }

@@ -22,6 +22,7 @@ pub enum Returned {
     MalformedLine = 21,
     SizesOutOfRange = 22,
     LimitOutOfRange = 23,
+    TooManyLines = 24,
 }
 
 impl Returned {

@@ -1,4 +1,4 @@
-//! Runs another replay program on an input, feeding and reading it at once and not waiting for ever.
+//! Runs another program on an input, feeding and reading it at once and not waiting for ever.
 
 use std::io::{Read, Write};
 use std::process::{Child, Command, Stdio};

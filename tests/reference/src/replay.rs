@@ -28,9 +28,7 @@ pub enum Line {
 
 /// The fresh table that a schedule's header asks for, and the lines behind it; nothing where there is no good header.
 pub fn open_schedule(input: &[u8]) -> Option<(Table, impl Iterator<Item = Option<Line>> + '_)> {
-    let mut lines = input
-        .split_inclusive(|byte| *byte == b'\n')
-        .map(|line| line.strip_suffix(b"\n").and_then(read_line));
+    let mut lines = split_lines(input).map(read_ended_line);
     match lines.next()?? {
         Line::Header {
             threads,
@@ -39,6 +37,16 @@ pub fn open_schedule(input: &[u8]) -> Option<(Table, impl Iterator<Item = Option
         } => Some((Table::fresh(threads, objects, reserved).ok()?, lines)),
         Line::Event(_) => None,
     }
+}
+
+/// The lines of an input, each with its newline; the last may lack it.
+pub fn split_lines(input: &[u8]) -> impl Iterator<Item = &[u8]> {
+    input.split_inclusive(|byte| *byte == b'\n')
+}
+
+/// Reads a line with its newline; nothing where it is malformed, as it is without one.
+pub fn read_ended_line(line: &[u8]) -> Option<Line> {
+    line.strip_suffix(b"\n").and_then(read_line)
 }
 
 /// Reads a line without its newline; nothing where it is malformed.
@@ -259,7 +267,7 @@ fn print_place(phase: u8, woken: u8, word: u32, output: &mut Vec<u8>) {
     print_hexadecimal::<WORD_DIGITS>(word, output);
 }
 
-fn print_number_alone(returned: Returned, output: &mut Vec<u8>) {
+pub fn print_number_alone(returned: Returned, output: &mut Vec<u8>) {
     print_decimal(returned.number(), output);
     output.push(b'\n');
 }

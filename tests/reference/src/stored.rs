@@ -1,4 +1,4 @@
-//! Cases with a known output: the schedules stored in a folder, each `NAME.in` with its `NAME.out`.
+//! Cases with a known output: the inputs stored in a folder, each `NAME.in` with its `NAME.out`.
 
 use std::fs;
 use std::io;
@@ -28,10 +28,7 @@ pub fn read_folder(folder: &Path) -> io::Result<Vec<Case>> {
         }
     }
     if cases.is_empty() {
-        return Err(io::Error::new(
-            io::ErrorKind::NotFound,
-            "no stored schedules",
-        ));
+        return Err(io::Error::new(io::ErrorKind::NotFound, "no stored cases"));
     }
     cases.sort_by(|one, other| one.name.cmp(&other.name));
     Ok(cases)
