@@ -15,11 +15,12 @@ finish() {
     [ "$failed" -eq 0 ]
 }
 
-# Whether the proved replay and the second one are built; says how where one is not.
+# Whether both proved programs are in the folder $1 and the second ones in $2; says how they get there where one is not.
 programs_there() {
-    for needed in "$@"; do
+    for needed in "$1/replay" "$1/report" "$2/reference_replay" "$2/reference_report"; do
         if [ ! -x "$needed" ]; then
-            echo "$(basename "$0" .sh): $needed is not there: rt check replay builds target/bin/replay, cargo build in tests/reference builds reference_replay"
+            echo "$(basename "$0" .sh): $needed is not there: rt check replay and rt check report build those of target/bin, cargo build in" \
+                "tests/reference the second ones"
             return 1
         fi
     done

@@ -1,7 +1,7 @@
 #!/usr/bin/env python3
-"""Runs a replay program on pipes that a shell cannot make, and prints what it did, a case to a line.
+"""Runs a program on pipes that a shell cannot make, and prints what it did, a case to a line.
 
-    tests/pipes.py PROGRAM
+    tests/pipes.py replay|report PROGRAM
 
 bad_input.sh compares the lines with those it expects.
 """
@@ -16,6 +16,11 @@ TIME_LIMIT = 20
 EVENTS = 100_000
 # where the program tells how its run ended
 ENDING = 3
+# What ends a run before the end of its input, in one write, and what the program prints of PIECES.
+EARLY = {'replay': b'x\n', 'report': b'\n' * 60_001}
+PIECES = (b'L 1 1', b' 0\nE 1 1\n', b'S 1\nX', b' 1 1\nS 1\n')
+ANSWERS = {'replay': b'0 1 0 000000 00000000\n1 0 0 000100 00000000\n0 1 0 000100 00000000\n0 9 0 000000 00000000\n',
+           'report': b'1 0 0 1 0 0 0 0 10000 0 0 0 0 0 0 0\n0 0 0 1 0 0 0 0 10000 0 0 0 0 0 0 0\n'}
 
 
 def nonblocking(descriptor):
@@ -49,12 +54,12 @@ def ending(child, reader):
     return os.read(reader, 2).decode()
 
 
-def bad_header_then_silence(program):
-    """A bad header on an input that stays open, as at a terminal: the run ends and does not wait for more."""
+def early_then_silence(program, early):
+    """What ends the run, on an input that stays open, as at a terminal: it ends and does not wait for more."""
     reader, writer = os.pipe()
     child, told = start(program, reader, subprocess.PIPE)
     os.close(reader)
-    os.write(writer, b'x\n')
+    os.write(writer, early)
     result = ending(child, told)
     return f'{child.stdout.read().decode().strip()} {result}'
 
@@ -68,17 +73,34 @@ def no_input_yet(program):
     return f'{child.stdout.read().decode()}{result}'
 
 
-def in_pieces(program):
+def in_pieces(program, answers):
     """An input that comes in pieces, cut inside a line and at its end: what has not come yet is not the end of the input."""
     child, told = start(program, subprocess.PIPE, subprocess.PIPE)
-    for piece in (b'L 1 1', b' 0\nE 1 1\n', b'S 1\nX', b' 1 1\nS 1\n'):
+    for piece in PIECES:
         child.stdin.write(piece)
         child.stdin.flush()
         time.sleep(0.2)
     child.stdin.close()
     result = ending(child, told)
-    answers = b'0 1 0 000000 00000000\n1 0 0 000100 00000000\n0 1 0 000100 00000000\n0 9 0 000000 00000000\n'
     return f'{"all" if child.stdout.read() == answers else "other answers"} {result}'
+
+
+def full_output(program):
+    """A non-blocking output that is full before anything is written: the run has failed."""
+    _reader, writer = os.pipe()
+    nonblocking(writer)
+    try:
+        while True:
+            os.write(writer, b' ' * (1 << 12))
+    except BlockingIOError:
+        pass
+    child, told = start(program, subprocess.PIPE, writer)
+    try:
+        child.stdin.write(b''.join(PIECES))
+        child.stdin.close()
+    except BrokenPipeError:
+        pass
+    return ending(child, told)
 
 
 def slow_reader(program):
@@ -111,14 +133,19 @@ def slow_reader(program):
     return f'{shape} {result}'
 
 
-def main():
+def main(name, program):
     keep_ending_taken()
-    for case in (bad_header_then_silence, no_input_yet, in_pieces, slow_reader):
-        print(case(sys.argv[1]), flush=True)
+    print(early_then_silence(program, EARLY[name]), flush=True)
+    print(no_input_yet(program), flush=True)
+    print(in_pieces(program, ANSWERS[name]), flush=True)
+    print(full_output(program), flush=True)
+    # No report is long enough to fill a pipe.
+    if name == 'replay':
+        print(slow_reader(program), flush=True)
 
 
-if len(sys.argv) != 2:
+if len(sys.argv) != 3 or sys.argv[1] not in ANSWERS:
     sys.exit(__doc__)
-if not os.access(sys.argv[1], os.X_OK):
-    sys.exit(f'pipes: {sys.argv[1]} is no program: rt check replay builds target/bin/replay')
-main()
+if not os.access(sys.argv[2], os.X_OK):
+    sys.exit(f'pipes: {sys.argv[2]} is no program: rt check {sys.argv[1]} builds target/bin/{sys.argv[1]}')
+main(*sys.argv[1:])

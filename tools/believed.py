@@ -1,12 +1,12 @@
 #!/usr/bin/env python3
-"""Lists in docs/ARCHITECTURE.md which definitions a reader has to believe of demand 3, and which of demand 2 besides.
+"""Lists in docs/ARCHITECTURE.md which definitions a reader has to believe of demand 3, which of demand 2 besides, and which of the report besides both.
 
     tools/believed.py            writes the list, between two marks
     tools/believed.py --check    fails if the list is not up to date; last line 'N passed, M failed'
 
 From a statement, follows every name that its definition uses, through the `use` lines, and lists the files of specs/ in which the definitions stand.
-Demand 3 is a claim about the engine's begin, step and tick, so these are not followed there: the code computes them, and the claim bounds what they do. Demand 2
-is what they say.
+Demand 3 is a claim about the engine's begin, step and tick, so these are not followed there: the code computes them, and the claim bounds what they
+do. Demand 2 is what they say. The report counts what steps do, so its promise stands on both.
 """
 import pathlib
 import re
@@ -17,13 +17,16 @@ DOCUMENT = ROOT / 'docs' / 'ARCHITECTURE.md'
 MARKS = ('<!-- written by tools/believed.py -->', '<!-- end of what tools/believed.py writes -->')
 CLAIM = [(('lock_schedule', 'Demand'), 'DemandThree')]
 ENGINE = [(('lock_engine', 'Handle'), 'handle')]
+REPORT = [(('report_counts', 'Report'), 'ReportRight')]
 
 HEAD = re.compile(r'^(?:unfoldable |abbrev )*(?:pub )?(?:record |data )?(\S+)(?: .*)? :(?: |$)')
+INNER = re.compile(r'^  (?:unfoldable |abbrev )*(?:pub )?(\S+)(?: .*)? :(?: |$)')
 IMPORT = re.compile(r'^use (\S+?)\.\{([^}]*)\}', re.M)
 
 
 class Specs:
-    """A file of specs/: where each imported name comes from, the lines of each definition, and which definition makes a name."""
+    """A file of specs/: where each imported name comes from, the lines of each definition, and which definition makes a name. A module with parameters
+    is one definition, which makes all names that are defined in it."""
 
     def __init__(self, crate, file):
         text = (ROOT / 'crates' / crate / 'specs' / f'{file}.antt').read_text(encoding='utf-8')
@@ -39,10 +42,12 @@ class Specs:
     def _define(self):
         current, data = None, False
         for line in self.code:
-            head = HEAD.match(line)
+            head, inner = HEAD.match(line), INNER.match(line)
             if head:
                 current, data = head.group(1), ' data ' in f' {line}'
                 self.owner[current] = current
+            elif inner and current == 'module':
+                self.owner[inner.group(1)] = current
             self.definitions.setdefault(current, []).append(line)
             constructors = re.match(r'^  ((?:\S+ )+):', line)
             if data and constructors:
@@ -104,21 +109,33 @@ def described(files, met):
     return counts, rows
 
 
+def besides(starts, files, met):
+    """What is met from these and not among those: how much it is, and a row for each crate."""
+    more_files, more_met = reached(starts)
+    more_files = {place: specs for place, specs in more_files.items() if place not in files}
+    more_met = {place: names for place, names in more_met.items() if place not in met}
+    (lines, code, used), rows = described(more_files, more_met)
+    files.update(more_files)
+    met.update(more_met)
+    return f'{len(more_files)} files of {lines} lines, {code} without comments, imports and blank lines, {used} used.', rows
+
+
 def block():
-    engine = {place for place, _ in ENGINE}
-    files, met = reached(CLAIM, engine)
+    files, met = reached(CLAIM, {place for place, _ in ENGINE})
     (lines, code, used), rows = described(files, met)
-    more_files, more_met = reached(ENGINE)
-    more = described({place: specs for place, specs in more_files.items() if place not in files},
-                     {place: names for place, names in more_met.items() if place not in met})
+    claim = (f'{len(files)} files of {lines} lines, {code} of them without comments, imports and blank lines; '
+             f'the definitions that it uses are {used} of these.')
+    engine, engine_rows = besides(ENGINE, files, met)
+    report, report_rows = besides(REPORT, files, met)
     table = ['| Crate | Files of `specs/` | Types of the code in |', '|---|---|---|']
     return '\n'.join([
         MARKS[0],
-        f'Demand 3: {len(files)} files of {lines} lines, {code} of them without comments, imports and blank lines; the definitions that it uses are {used} of these.',
+        f'Demand 3: {claim}',
         '', *table, *rows, '',
-        f'Demand 2, that the steps are document 01\'s, on these besides: {len(more_files) - len(set(more_files) & set(files))} files of {more[0][0]} lines, '
-        f'{more[0][1]} without comments, imports and blank lines, {more[0][2]} used.',
-        '', *table, *more[1],
+        f'Demand 2, that the steps are document 01\'s, on these besides: {engine}',
+        '', *table, *engine_rows, '',
+        f'The report (document 02, L4), on these besides both: {report}',
+        '', *table, *report_rows,
         MARKS[1]])
 
 

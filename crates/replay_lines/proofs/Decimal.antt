@@ -2,17 +2,17 @@
 use Prim.Native.Nat.{ℕ, zero, suc, _+_, _-_, _*_, _/_, _%_, _≤_, _<_}
 use mathlib.Core.Path.{_≡_, refl, sym, ap, _∙_, subst}
 use mathlib.Core.Logic.{_≢_}
-use mathlib.Core.Bool.{Bool, true, false}
+use mathlib.Core.Bool.{true, false}
 use mathlib.Core.List.{List, [], _∷_, _++_, append-assoc, append-nil}
 use native.Mathlib.Omega.{arith}
 use native.Mathlib.Nat.{div-add-mod', mod-lt}
 use lib.Dec.{eqb, ltb}
 use lib.ListN.{length, take, drop, length-append}
 use borrow.Author.Tests.{ne-eqb, eqb-true, eqb-false, lt-ltb, le-ltb, ltb-true, ltb-false, le-leb}
-use Rattle.laws.specs.Choice.{pick}
 use Rattle.laws.proofs.Choice.{split, by-test, both-of}
-use Rattle.replay_text.specs.Digits.{digit-byte, digits, places-of, decimal}
+use Rattle.replay_text.specs.Digits.{digit-byte, digits, places-from, places-of, decimal}
 use Rattle.replay_text.specs.Bytes.{digit-zero}
+use Rattle.replay_text.proofs.{Stores.digits-length, Lengths.places-most}
 use Rattle.replay_lines.specs.Bytes.{digit-nine}
 use Rattle.replay_lines.specs.Number.{number-limit, is-digit, appended, read-digits, read-number}
 use Rattle.replay_lines.specs.declared.number.Number.{Number}
@@ -26,25 +26,18 @@ ltb-ten value digit bound small =
     (λ less. lt-ltb (value * 10 + digit) (bound * 10) (omega (arith, ltb-true value bound less)) ∙ sym less)
     (λ more. le-ltb (value * 10 + digit) (bound * 10) (omega (arith, ltb-false value bound more)) ∙ sym more)
 
-places-pick : (ten hundred thousand : Bool)
-    → pick ten 2 (pick hundred 3 (pick thousand 4 5)) ≡ suc (pick ten 1 (pick hundred 2 (pick thousand 3 4)))
-places-pick true hundred thousand = refl
-places-pick false true thousand = refl
-places-pick false false true = refl
-places-pick false false false = refl
-
 module _ (value digit : ℕ) (some : 1 ≤ value) (small : digit < 10) (fits : value * 10 + digit ≤ number-limit) where
   places-more : places-of (value * 10 + digit) ≡ suc (places-of value)
-  unfolding places-of
+  unfolding places-of places-from
   places-more =
       rw (
         le-ltb (value * 10 + digit) 10 (omega arith),
         ltb-ten value digit 10 small,
         ltb-ten value digit 100 small,
         ltb-ten value digit 1000 small,
+        lt-ltb (value * 10 + digit) 100000 (omega arith),
         lt-ltb value 10000 (omega arith),
       )
-      (places-pick (ltb value 10) (ltb value 100) (ltb value 1000))
 
   quotient : (value * 10 + digit) / 10 ≡ value
   quotient = omega (arith, div-add-mod' (value * 10 + digit) 10, mod-lt (value * 10 + digit) {m = 10} (omega arith))
@@ -57,10 +50,17 @@ module _ (value digit : ℕ) (some : 1 ≤ value) (small : digit < 10) (fits : v
   decimal-more = rw places-more (rw (quotient, remainder) (rw (lt-ltb digit 10 small) refl))
 
 decimal-digit : (digit : ℕ) → digit < 10 → decimal digit ≡ (digit-zero + digit) ∷ []
-unfolding decimal digits digit-byte places-of
+unfolding decimal digits digit-byte places-of places-from
 decimal-digit digit small =
     let whole : digit % 10 ≡ digit = native.Mathlib.Nat.mod-eq-of-lt small in
     rw (lt-ltb digit 10 small) (rw whole (rw (lt-ltb digit 10 small) refl))
+
+-- a number of a line has at most five digits: it does not reach the fifth bound, so four bounds are enough
+pub number-fits : (number : ℕ) → number ≤ number-limit → length (decimal number) ≤ 5
+unfolding decimal places-of places-from
+number-fits number fits =
+    let count : places-of number ≡ places-from 4 10 number = rw (lt-ltb number 100000 (omega arith)) in
+    omega (arith, digits-length 10 (places-of number) number, count, places-most 4 10 number)
 
 -- what a number found at the start of a text says of it, given the decimal of the digits before: the rest of its digits stand there
 abbrev Continues : List ℕ → ℕ → List ℕ → Number → Type 0

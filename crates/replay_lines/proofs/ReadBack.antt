@@ -11,18 +11,18 @@ use lib.ListN.{length, drop}
 use lib.Seq.{drop-append-seam}
 use borrow.Author.Tests.{eqb-true, ltb-false}
 use Rattle.laws.specs.{Choice.pick, Count.one-if}
-use Rattle.laws.proofs.Choice.{by-test}
+use Rattle.laws.proofs.Choice.{split, by-test}
 use Rattle.replay_text.specs.Digits.{decimal}
 use Rattle.replay_text.specs.Bytes.{newline, space}
 use Rattle.replay_lines.specs.Bytes.{letter-C, letter-L, letter-S, letter-V}
 use Rattle.replay_lines.specs.Number.{number-limit, is-digit, read-number, one-byte-more, read-field}
 use Rattle.replay_lines.specs.Grammar.{number-then, field-then, end-line, read-step, timed-wait, read-begin-limit, read-begin-object, read-begin}
-use Rattle.replay_lines.specs.Grammar.{read-header-reserved, read-header-objects, read-header, operation-of, read-line}
+use Rattle.replay_lines.specs.Grammar.{read-header-reserved, read-header-objects, read-header, header-or-bad, operation-of, read-line}
 use Rattle.replay_lines.specs.LineText.{spaced, line-break, Letter, Writes}
 use Rattle.replay_lines.specs.declared.number.Number.{Number}
 use Rattle.replay_lines.specs.declared.number.Number.the-variants.{Found, Absent}
 use Rattle.replay_lines.specs.declared.reading.Line.{Line}
-use Rattle.replay_lines.specs.declared.reading.Line.the-variants.{Header, Begin, Step, Tick, Malformed}
+use Rattle.replay_lines.specs.declared.reading.Line.the-variants.{Header, Begin, Step, Tick, BadHeader, Malformed}
 use Rattle.replay_lines.proofs.Decimal.{NoDigit, number-read, Starts, number-starts}
 
 -- a field that is written is read, up to what stands behind it
@@ -87,8 +87,8 @@ header-read threads objects reserved fits fits′ =
 
 -- EACH LINE OF DOCUMENT 01 AND REQUEST L1 IS READ
 pub written-read : {line : Line} {text : List ℕ} → Writes line text → read-line text ≡ line
-unfolding read-line operation-of
-written-read (Writes.header {threads} {objects} {reserved} fits fits′) = header-read threads objects reserved fits fits′
+unfolding read-line operation-of header-or-bad
+written-read (Writes.header {threads} {objects} {reserved} fits fits′) = ap header-or-bad (header-read threads objects reserved fits fits′)
 written-read (Writes.begin {thread = thread} {object} Letter.enter fits fits′) = plain-read 1 thread object refl refl fits fits′
 written-read (Writes.begin {thread = thread} {object} Letter.exit fits fits′) = plain-read 2 thread object refl refl fits fits′
 written-read (Writes.begin {thread = thread} {object} Letter.wait fits fits′) = plain-read 3 thread object refl refl fits fits′
@@ -122,9 +122,12 @@ end-form [] line P none some = none
 end-form (byte ∷ []) line P none some = by-test P (eqb byte newline) (λ last. some (ap (λ (x : ℕ). x ∷ []) (eqb-true byte newline last))) (λ other. none)
 end-form (byte ∷ more ∷ text) line P none some = none
 
--- malformed, or written like this
+-- no line of a form, or written like this
+abbrev pub Says : Line → List ℕ → Line → Type 0
+Says none text line = (line ≡ none) ⊎ Writes line text
+
 abbrev Form : List ℕ → Line → Type 0
-Form text line = (line ≡ Malformed) ⊎ Writes line text
+Form text line = Says Malformed text line
 
 -- the letters that begin an operation: those with no limit, and that of the timed wait
 data Opens : ℕ → ℕ → Type 0 where
@@ -177,14 +180,18 @@ module _ (letter : ℕ) (text : List ℕ) where
       field-form rest _ (Form (letter ∷ text)) (inl refl) (λ object end fits′ second.
       limit-form text thread object end opens fits fits′ (first ∙ ap (spaced thread) second))))
 
-  header-form : letter ≡ letter-L → Form (letter ∷ text) (read-header text)
-  unfolding read-header read-header-objects read-header-reserved
+  -- a header that is not of its form is a bad one
+  abbrev Headed : Line → Type 0
+  Headed line = Says BadHeader (letter ∷ text) (header-or-bad line)
+
+  header-form : letter ≡ letter-L → Headed (read-header text)
+  unfolding read-header read-header-objects read-header-reserved header-or-bad
   header-form same =
-      field-form text _ (Form (letter ∷ text)) (inl refl) (λ threads rest fits first.
-      field-form rest _ (Form (letter ∷ text)) (inl refl) (λ objects more fits′ second.
-      field-form more _ (Form (letter ∷ text)) (inl refl) (λ r end fits″ third.
-      by-test (Form (letter ∷ text)) (ltb 1 r) (λ large. inl refl)
-      (λ small. end-form end (Header threads objects (eqb r 1)) (Form (letter ∷ text)) (inl refl) (λ last.
+      field-form text _ Headed (inl refl) (λ threads rest fits first.
+      field-form rest _ Headed (inl refl) (λ objects more fits′ second.
+      field-form more _ Headed (inl refl) (λ r end fits″ third.
+      by-test Headed (ltb 1 r) (λ large. inl refl)
+      (λ small. end-form end (Header threads objects (eqb r 1)) Headed (inl refl) (λ last.
       let bit : one-if (eqb r 1) ≡ r = one-bit r (ltb-false 1 r small) in
       let whole : letter ∷ text ≡ letter-L ∷ spaced threads (spaced objects (spaced (one-if (eqb r 1)) line-break)) =
       ap (λ (x : ℕ). x ∷ text) same
@@ -212,12 +219,13 @@ letter-form letter =
         by-test (λ n. (n ≡ 0) ⊎ Opens n letter) (eqb letter byte)
         (λ same. inr (subst (λ (l : ℕ). Opens operation l) (sym (eqb-true letter byte same)) is)) (λ away. rest)
 
--- A LINE THAT IS READ IS ONE OF DOCUMENT 01 OR REQUEST L1
-pub read-written : (text : List ℕ) → (read-line text ≡ Malformed) ⊎ Writes (read-line text) text
+-- A LINE THAT IS READ IS ONE OF DOCUMENT 01 OR REQUEST L1; a bad header begins with L, and other malformed lines do not
+pub read-written : (letter : ℕ) (text : List ℕ) → Says (pick (eqb letter letter-L) BadHeader Malformed) (letter ∷ text) (read-line (letter ∷ text))
 unfolding read-line
-read-written [] = inl refl
-read-written (letter ∷ text) =
-    by-test (Form (letter ∷ text)) (eqb letter letter-L) (λ same. header-form letter text (eqb-true letter letter-L same))
-    (λ other. by-test (Form (letter ∷ text)) (eqb letter letter-S) (λ same. step-form letter text (eqb-true letter letter-S same))
+read-written letter text =
+    split (eqb letter letter-L)
+    (λ same. rw same (rw (eqb-true letter letter-L same) (header-form letter-L text refl)))
+    (λ other. rw other
+    (by-test (Form (letter ∷ text)) (eqb letter letter-S) (λ same. step-form letter text (eqb-true letter letter-S same))
     (λ away. by-test (Form (letter ∷ text)) (eqb letter letter-C) (λ same. tick-form letter text (eqb-true letter letter-C same))
-    (λ none. begin-form letter text (operation-of letter) (letter-form letter))))
+    (λ none. begin-form letter text (operation-of letter) (letter-form letter)))))

@@ -1,7 +1,8 @@
 -- The lines of a schedule (document 01, "The replay program"): `L threads objects r`, then `E`, `X`, `W`, `N` or `A` with thread and
 -- object, or `S` with thread; and request L1's `V` with thread, object and limit, and `C`. A line is given with its newline, so that a
--- last piece without one is malformed.
+-- last piece without one is malformed, or behind `L` a bad header (L4).
 use Prim.Native.Nat.{ℕ}
+use mathlib.Core.Bool.{Bool, true, false}
 use mathlib.Core.List.{List, [], _∷_}
 use lib.ListN.{drop}
 use lib.Dec.{ltb, eqb}
@@ -12,7 +13,7 @@ use Rattle.replay_lines.specs.Number.{read-field}
 use Rattle.replay_lines.specs.declared.number.Number.{Number}
 use Rattle.replay_lines.specs.declared.number.Number.the-variants.{Found, Absent}
 use Rattle.replay_lines.specs.declared.reading.Line.{Line}
-use Rattle.replay_lines.specs.declared.reading.Line.the-variants.{Header, Begin, Step, Tick, Malformed}
+use Rattle.replay_lines.specs.declared.reading.Line.the-variants.{Header, Begin, Step, Tick, BadHeader, Malformed}
 
 abbrev pub number-then : Number → List ℕ → (ℕ → List ℕ → Line) → Line
 number-then (Found value length) text next = next value (drop length text)
@@ -59,6 +60,24 @@ read-header-objects threads text = field-then text (read-header-reserved threads
 unfoldable pub read-header : List ℕ → Line
 read-header text = field-then text read-header-objects
 
+-- a line that begins with L is a header, of its form or not
+unfoldable pub header-or-bad : Line → Line
+header-or-bad (Header threads objects reserved) = Header threads objects reserved
+header-or-bad (Begin operation thread object limit) = BadHeader
+header-or-bad (Step thread) = BadHeader
+header-or-bad Tick = BadHeader
+header-or-bad BadHeader = BadHeader
+header-or-bad Malformed = BadHeader
+
+-- whether a line begins with L (the law `header-begins`)
+unfoldable pub is-header : Line → Bool
+is-header (Header threads objects reserved) = true
+is-header (Begin operation thread object limit) = false
+is-header (Step thread) = false
+is-header Tick = false
+is-header BadHeader = true
+is-header Malformed = false
+
 -- the number of the operation with this letter, by document 01 and request L1; 0 if there is none
 unfoldable pub operation-of : ℕ → ℕ
 operation-of letter =
@@ -69,5 +88,5 @@ operation-of letter =
 unfoldable pub read-line : List ℕ → Line
 read-line [] = Malformed
 read-line (letter ∷ text) =
-    pick (eqb letter letter-L) (read-header text)
+    pick (eqb letter letter-L) (header-or-bad (read-header text))
     (pick (eqb letter letter-S) (read-step text) (pick (eqb letter letter-C) (end-line text Tick) (read-begin (operation-of letter) text)))

@@ -2,8 +2,9 @@
 -- object, or `S` with thread; and as request L1 does: `V` with thread, object and limit, and `C`. The laws of proofs/ReadBack.antt say that
 -- the reader takes these lines and no others.
 use Prim.Native.Nat.{ℕ, _≤_}
-use mathlib.Core.Bool.{Bool}
+use mathlib.Core.Bool.{Bool, false}
 use mathlib.Core.List.{List, [], _∷_, _++_}
+use lib.Dec.{eqb}
 use Rattle.laws.specs.Count.{one-if}
 use Rattle.replay_text.specs.Digits.{decimal}
 use Rattle.replay_text.specs.Bytes.{newline, space}
@@ -26,6 +27,11 @@ pub data Letter : ℕ → ℕ → Type 0 where
   wait : Letter 3 letter-W
   notify : Letter 4 letter-N
   notify-all : Letter 5 letter-A
+
+-- a line whose first byte is this one
+abbrev pub begins-with : ℕ → List ℕ → Bool
+begins-with letter [] = false
+begins-with letter (byte ∷ line) = eqb byte letter
 
 -- the text of a line, its newline with it
 pub data Writes : Line → List ℕ → Type 0 where

@@ -11,7 +11,7 @@ use crate::bytes::LETTER_X;
 use crate::number::Number;
 use crate::number::read_field;
 ghost use mathlib.Core.Path.{_≡_};
-ghost use Rattle.replay_lines.specs.Grammar.{end-line, read-step, read-begin, read-begin-object, read-begin-limit, read-header, read-header-objects, read-header-reserved, operation-of, read-line};
+ghost use Rattle.replay_lines.specs.Grammar.{end-line, read-step, read-begin, read-begin-object, read-begin-limit, read-header, read-header-objects, read-header-reserved, header-or-bad, is-header, operation-of, read-line};
 use replay_text::NEWLINE;
 
 // The number of the one operation that has a limit.
@@ -36,6 +36,8 @@ pub enum Line {
     },
     // one tick of the clock
     Tick,
+    // a line that begins with L and has not the header's form
+    BadHeader,
     Malformed,
 }
 
@@ -154,6 +156,56 @@ fn read_header_reserved(threads: u16, objects: u16, text: &[u8]) -> Line
     )
 }
 
+// What a line says that begins with L: a header, of its form or not.
+fn header_or_bad(line: Line) -> Line
+    ensures { λ r. ⌜ r ≡ header-or-bad line ⌝ }
+{
+    match line {
+        Line::Header {
+            threads,
+            objects,
+            reserved,
+        } => Line::Header {
+            threads: threads,
+            objects: objects,
+            reserved: reserved,
+        },
+        Line::Begin {
+            operation: _,
+            thread: _,
+            object: _,
+            limit: _,
+        } => Line::BadHeader,
+        Line::Step { thread: _ } => Line::BadHeader,
+        Line::Tick => Line::BadHeader,
+        Line::BadHeader => Line::BadHeader,
+        Line::Malformed => Line::BadHeader,
+    }
+}
+
+// Whether a line begins with L.
+pub fn is_header(line: Line) -> bool
+    ensures { λ r. ⌜ r ≡ is-header line ⌝ }
+{
+    match line {
+        Line::Header {
+            threads: _,
+            objects: _,
+            reserved: _,
+        } => true,
+        Line::Begin {
+            operation: _,
+            thread: _,
+            object: _,
+            limit: _,
+        } => false,
+        Line::Step { thread: _ } => false,
+        Line::Tick => false,
+        Line::BadHeader => true,
+        Line::Malformed => false,
+    }
+}
+
 // The number of the operation with this letter, 0 if there is none.
 fn operation_of(letter: u8) -> u8
     ensures { λ r. ⌜ r ≡ operation-of letter ⌝ }
@@ -189,7 +241,7 @@ pub fn read_line(line: &[u8]) -> Line
     let letter = line[0];
     let text = &line[1..];
     if letter == LETTER_L {
-        return read_header(text);
+        return header_or_bad(read_header(text));
     }
     if letter == LETTER_S {
         return read_step(text);

@@ -56,19 +56,35 @@ end-part {replay = replay} {session} {session′} {inside} {input} {out} {wrote}
   finishes = λ ends room nothing. ap (rest-output replay session′ false) (no-bytes input nothing) ∙ no-more replay session′ silent;
 }
 
--- a session that no line moves on, and that prints nothing more, prints nothing whatever comes
-module _ {S : Type 0} (replay : Replay S) (session : S)
-    (stays : (line : Line) → replay .next session line ≡ session) (says : (line : Line) → replay .prints session line ≡ []) (closes : replay .closing session ≡ []) where
-  lines-silent : (lines : List (List ℕ)) → output-of replay session lines ≡ []
+-- sessions that print nothing, and that lines keep so, print nothing whatever comes
+module _ {S : Type 0} (replay : Replay S) (Quiet : S → Type 0)
+    (stays : (session : S) → Quiet session → (line : Line) → Quiet (replay .next session line))
+    (says : (session : S) → Quiet session → (line : Line) → replay .prints session line ≡ [])
+    (closes : (session : S) → Quiet session → replay .closing session ≡ []) where
+  pub lines-silent : (session : S) → Quiet session → (lines : List (List ℕ)) → output-of replay session lines ≡ []
   unfolding output-of
-  lines-silent [] = closes
-  lines-silent (line ∷ lines) =
-      ap (λ (x : List ℕ). x ++ output-of replay (replay .next session (read-line line)) lines) (says (read-line line))
-      ∙ ap (λ (x : S). output-of replay x lines) (stays (read-line line)) ∙ lines-silent lines
+  lines-silent session quiet [] = closes session quiet
+  lines-silent session quiet (line ∷ lines) =
+      ap (λ (x : List ℕ). x ++ output-of replay (replay .next session (read-line line)) lines) (says session quiet (read-line line))
+      ∙ lines-silent (replay .next session (read-line line)) (stays session quiet (read-line line)) lines
 
-  pub over-silent : (inside : Bool) (input : List ℕ) → rest-output replay session inside input ≡ []
-  unfolding rest-output
-  over-silent inside input = lines-silent _
+-- sessions of one replay that do the same as sessions of another
+module _ {S T : Type 0} (replay : Replay S) (other : Replay T) (into : S → T)
+    (moves : (session : S) (line : Line) → other .next (into session) line ≡ into (replay .next session line))
+    (says : (session : S) (line : Line) → other .prints (into session) line ≡ replay .prints session line)
+    (closes : (session : S) → other .closing (into session) ≡ replay .closing session) where
+  lines-alike : (session : S) (lines : List (List ℕ)) → output-of other (into session) lines ≡ output-of replay session lines
+  unfolding output-of
+  lines-alike session [] = closes session
+  lines-alike session (line ∷ lines) =
+      let next = replay .next session (read-line line) in
+      ap (λ (x : List ℕ). x ++ output-of other (other .next (into session) (read-line line)) lines) (says session (read-line line))
+      ∙ ap (λ (x : List ℕ). replay .prints session (read-line line) ++ x)
+      (ap (λ (x : T). output-of other x lines) (moves session (read-line line)) ∙ lines-alike next lines)
+
+  pub replays-alike : (session : S) (input : List ℕ) → replay-of other (into session) input ≡ replay-of replay session input
+  unfolding replay-of
+  replays-alike session input = lines-alike session (lines-of input)
 
 -- a run by parts: each part is a start of the input that is left, and what is not used of it is left for the next
 pub data ByParts {S : Type 0} (replay : Replay S) : S → Bool → List ℕ → List ℕ → Type 0 where

@@ -52,7 +52,7 @@ long-prints replay session (byte ∷ input) tail long none =
     let start = byte ∷ input in
     let whole = start ++ first-line (lines-of tail) in
     let same : read-line whole ≡ read-line start =
-    long-line whole (omega (arith, length-append start (first-line (lines-of tail)))) ∙ sym (long-line start long) in
+    long-line byte _ (omega (arith, length-append start (first-line (lines-of tail)))) ∙ sym (long-line byte input long) in
     ap (output-of replay session) (line-open byte input tail none)
     ∙ ap (λ (x : Line). replay .prints session x ++ output-of replay (replay .next session x) (later-lines (lines-of tail))) same
 

@@ -1,6 +1,6 @@
 -- What it means that a part of the input was taken and what it prints was written. The definitions speak of every tail that may
 -- come behind the part, so that parts compose.
-use Prim.Native.Nat.{ℕ, _≤_, _<_}
+use Prim.Native.Nat.{ℕ, _+_, _≤_, _<_}
 use mathlib.Core.Path.{_≡_}
 use mathlib.Core.Logic.{_⊎_}
 use mathlib.Core.Bool.{Bool, true}
@@ -8,11 +8,12 @@ use mathlib.Core.List.{List, [], _++_}
 use lib.ListN.{length, take, drop}
 use Rattle.replay_lines.specs.Cutting.{line-end, line-limit}
 use Rattle.replay_text.specs.Text.{line-room}
+use Rattle.replay_text.specs.Row.{report-room}
 use Rattle.replay_parts.specs.Replay.{Replay, rest-output}
 
--- room for what a last piece without a newline prints, and for what the end of the input prints
+-- room for what a last piece without a newline prints, and for what the end of the input prints: a report, or less
 abbrev pub end-room : ℕ
-end-room = 128
+end-room = line-room + report-room
 
 -- what may come behind a part: nothing behind the last one
 abbrev pub Follows : Bool → List ℕ → Type 0

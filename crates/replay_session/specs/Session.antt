@@ -14,7 +14,7 @@ use Rattle.lock_engine.specs.Outcome.{reply-returned, reply-woken}
 use Rattle.lock_engine.specs.Handle.{begin, step, tick-event}
 use Rattle.lock_engine.specs.declared.outcome.Outcome.{Outcome}
 use Rattle.replay_lines.specs.declared.reading.Line.{Line}
-use Rattle.replay_lines.specs.declared.reading.Line.the-variants.{Header, Begin, Step, Tick, Malformed}
+use Rattle.replay_lines.specs.declared.reading.Line.the-variants.{Header, Begin, Step, Tick, BadHeader, Malformed}
 use Rattle.replay_text.specs.Text.{answer-text}
 use Rattle.replay_text.specs.declared.answer.Answer.{Answer}
 use Rattle.replay_text.specs.declared.answer.Answer.the-variants.{Silent, Alone, Ticked, Accepted}
@@ -47,6 +47,7 @@ open-by table (Header threads objects reserved) = let made = fresh-of (sized-req
 open-by table (Begin operation thread object limit) = staying Over table (Alone malformed)
 open-by table (Step thread) = staying Over table (Alone malformed)
 open-by table Tick = staying Over table (Alone malformed)
+open-by table BadHeader = staying Over table (Alone malformed)
 open-by table Malformed = staying Over table (Alone malformed)
 
 abbrev pub phase-of : Table → ℕ → ℕ
@@ -87,6 +88,7 @@ run-of table (Header threads objects reserved) = staying Running table (Alone ma
 run-of table (Begin operation thread object limit) = begun-by table thread operation object limit
 run-of table (Step thread) = stepped-by table thread
 run-of table Tick = after-tick (tick-event table)
+run-of table BadHeader = staying Running table (Alone malformed)
 run-of table Malformed = staying Running table (Alone malformed)
 
 unfoldable pub react-at-stage : Stage → Table → Line → Reaction

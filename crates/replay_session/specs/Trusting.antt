@@ -15,7 +15,7 @@ use Rattle.lock_engine.specs.Outcome.{reply-returned, reply-woken}
 use Rattle.lock_engine.specs.Handle.{handle-trusting}
 use Rattle.lock_engine.specs.declared.outcome.Reply.{Reply}
 use Rattle.replay_lines.specs.declared.reading.Line.{Line}
-use Rattle.replay_lines.specs.declared.reading.Line.the-variants.{Header, Begin, Step, Tick, Malformed}
+use Rattle.replay_lines.specs.declared.reading.Line.the-variants.{Header, Begin, Step, Tick, BadHeader, Malformed}
 use Rattle.replay_text.specs.declared.answer.Answer.{Answer}
 use Rattle.replay_text.specs.declared.answer.Answer.the-variants.{Silent, Alone}
 use Rattle.replay_session.specs.Session.{malformed, staying, open-by, answer-with, after-event, after-tick}
@@ -44,6 +44,7 @@ line-event (Header threads objects reserved) = StepEvent 0
 line-event (Begin operation thread object limit) = BeginEvent operation (narrow-of thread) (narrow-of object) limit
 line-event (Step thread) = StepEvent (narrow-of thread)
 line-event Tick = StepEvent 0
+line-event BadHeader = StepEvent 0
 line-event Malformed = StepEvent 0
 
 unfoldable pub run-by : Table → Line → Bool → Reaction
@@ -51,6 +52,7 @@ run-by table (Header threads objects reserved) issound = staying Running table (
 run-by table (Begin operation thread object limit) issound = event-known table (BeginEvent operation (narrow-of thread) (narrow-of object) limit) issound
 run-by table (Step thread) issound = event-known table (StepEvent (narrow-of thread)) issound
 run-by table Tick issound = after-tick (handle-trusting table TickEvent issound)
+run-by table BadHeader issound = staying Running table (Alone malformed)
 run-by table Malformed issound = staying Running table (Alone malformed)
 
 unfoldable pub react-by : Stage → Table → Line → Bool → Reaction
@@ -67,6 +69,7 @@ is-thread-event (Header threads objects reserved) = false
 is-thread-event (Begin operation thread object limit) = true
 is-thread-event (Step thread) = true
 is-thread-event Tick = false
+is-thread-event BadHeader = false
 is-thread-event Malformed = false
 
 unfoldable pub runs-thread-event : Stage → Line → Bool

@@ -89,6 +89,7 @@ fn open_by(table: Table, line: Line) -> Reaction
         } => stay(Stage::Over, table, Answer::Alone { number: MALFORMED }),
         Line::Step { thread: _ } => stay(Stage::Over, table, Answer::Alone { number: MALFORMED }),
         Line::Tick => stay(Stage::Over, table, Answer::Alone { number: MALFORMED }),
+        Line::BadHeader => stay(Stage::Over, table, Answer::Alone { number: MALFORMED }),
         Line::Malformed => stay(Stage::Over, table, Answer::Alone { number: MALFORMED }),
     }
 }
@@ -227,6 +228,7 @@ fn run_by(table: Table, line: Line, issound: bool) -> Reaction
             issound,
         ),
         Line::Tick => after_tick(handle_trusting(table, Event::Tick, issound)),
+        Line::BadHeader => stay(Stage::Running, table, Answer::Alone { number: MALFORMED }),
         Line::Malformed => stay(Stage::Running, table, Answer::Alone { number: MALFORMED }),
     }
 }
@@ -276,6 +278,7 @@ pub fn line_event(line: Line) -> Event
             thread: narrow(thread as u32),
         },
         Line::Tick => Event::Step { thread: 0 },
+        Line::BadHeader => Event::Step { thread: 0 },
         Line::Malformed => Event::Step { thread: 0 },
     }
 }
@@ -297,6 +300,7 @@ fn is_thread_event(line: Line) -> bool
         } => true,
         Line::Step { thread: _ } => true,
         Line::Tick => false,
+        Line::BadHeader => false,
         Line::Malformed => false,
     }
 }

@@ -20,7 +20,7 @@ use Rattle.lock_engine.proofs.InPlace.{turn-here, own-here, in-place, Taken}
 use Rattle.lock_engine.proofs.Full.{Full}
 use Rattle.lock_engine.proofs.After.{is-tick, has-thread, event-leaves}
 use Rattle.replay_lines.specs.declared.reading.Line.{Line}
-use Rattle.replay_lines.specs.declared.reading.Line.the-variants.{Header, Begin, Step, Tick, Malformed}
+use Rattle.replay_lines.specs.declared.reading.Line.the-variants.{Header, Begin, Step, Tick, BadHeader, Malformed}
 use Rattle.replay_text.specs.declared.answer.Answer.{Answer}
 use Rattle.replay_session.specs.Session.{answer-from, answer-with}
 use Rattle.replay_session.specs.Trusting.{sound-by, event-known, line-event, is-thread-event, runs-thread-event, turn-answer, run-by, react-by, react-trusting}
@@ -82,6 +82,7 @@ event-line table (Header threads objects reserved) issound is = false≢true is
 event-line table (Begin operation thread object limit) issound is = refl
 event-line table (Step thread) issound is = refl
 event-line table Tick issound is = false≢true is
+event-line table BadHeader issound is = false≢true is
 event-line table Malformed issound is = false≢true is
 
 -- it is no tick
@@ -91,6 +92,7 @@ no-tick (Header threads objects reserved) = refl
 no-tick (Begin operation thread object limit) = refl
 no-tick (Step thread) = refl
 no-tick Tick = refl
+no-tick BadHeader = refl
 no-tick Malformed = refl
 
 -- A LINE IN PLACE

@@ -22,7 +22,7 @@ use Rattle.lock_engine.proofs.Refused.{handle-shut}
 use Rattle.lock_schedule.proofs.FreshWellTyped.{fresh-well-typed}
 use Rattle.lock_schedule.proofs.Theorem.{reached-sound, sound-kept, well-typed-kept}
 use Rattle.replay_lines.specs.declared.reading.Line.{Line}
-use Rattle.replay_lines.specs.declared.reading.Line.the-variants.{Header, Begin, Step, Tick, Malformed}
+use Rattle.replay_lines.specs.declared.reading.Line.the-variants.{Header, Begin, Step, Tick, BadHeader, Malformed}
 use Rattle.replay_stream.proofs.Numbers.{narrow-begun, narrow-stepped}
 use Rattle.replay_session.specs.Session.{opened-by, open-by, after-event, after-tick, run-of, react-at-stage, react-of}
 use Rattle.replay_session.specs.Trusting.{sound-by, session-sound, run-by, react-by, react-trusting}
@@ -47,6 +47,7 @@ run-known table known (Step thread) =
     ap (λ (outcome : Outcome). after-event outcome number (thread-at table number .object)) (event-told table known (StepEvent number))
     ∙ narrow-stepped table thread
 run-known table known Tick = ap after-tick (event-told table known TickEvent)
+run-known table known BadHeader = refl
 run-known table known Malformed = refl
 
 react-with : (stage : Stage) (table : Table) {issound : Bool} → issound ≡ sound-by stage table → (line : Line) → react-by stage table line issound ≡ react-at-stage stage table line
@@ -105,6 +106,7 @@ open-kept table (Header threads objects reserved) = opens (sized-request threads
 open-kept table (Begin operation thread object limit) = (refl, tt)
 open-kept table (Step thread) = (refl, tt)
 open-kept table Tick = (refl, tt)
+open-kept table BadHeader = (refl, tt)
 open-kept table Malformed = (refl, tt)
 
 -- an event keeps the table well typed, too
@@ -125,6 +127,7 @@ run-kept table typed (Step thread) =
     (event-same table typed (StepEvent thread) (sound-of table) refl, event-well-typed table typed (StepEvent thread) (sound-of table) refl)
 run-kept table typed Tick =
     (event-same table typed TickEvent (sound-of table) refl, event-well-typed table typed TickEvent (sound-of table) refl)
+run-kept table typed BadHeader = (refl, typed)
 run-kept table typed Malformed = (refl, typed)
 
 react-kept : (stage : Stage) (table : Table) → WellTypedBy stage table → (line : Line)

@@ -1,4 +1,4 @@
-// The replay program's session, fed a part of its input at a time: whole lines are taken, and what they print is written.
+// The state of either program, fed a part of its input at a time: whole lines are taken, and what they print is written.
 // A line that is too long for any form is answered at once, so that a part of fixed size is always enough.
 mod ending;
 mod feeding;

@@ -2,3 +2,4 @@
 pub mod Stores
 pub mod Lengths
 pub mod Room
+pub mod Shares

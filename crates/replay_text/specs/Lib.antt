@@ -1,5 +1,6 @@
--- What the replay program prints, in document 01's words, and what it means that it was written.
+-- What the replay program and the report program print, in the documents' words, and what it means that it was written.
 pub mod Bytes
 pub mod Digits
 pub mod Text
+pub mod Row
 pub mod Written

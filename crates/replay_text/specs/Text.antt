@@ -1,4 +1,4 @@
--- The lines that the replay program prints (document 01, "The replay program"), each with its newline.
+-- The lines that the replay program prints (document 01, "The replay program"), each with its newline; the report's 24 is a number alone, too.
 use Prim.Native.Nat.{ℕ}
 use mathlib.Core.List.{List, [], _∷_, _++_}
 use Rattle.replay_text.specs.Bytes.{newline, space}
@@ -48,9 +48,9 @@ answer-text (Alone number) = number-line number
 answer-text (Ticked returned unparked) = tick-line returned unparked
 answer-text (Accepted returned phase woken word unparked) = answer-line returned phase woken word unparked
 
--- a field of five digits and the byte behind them
+-- a field of ten digits and the byte behind them
 abbrev pub field-limit : ℕ
-field-limit = 6
+field-limit = 11
 
 -- every line fits (the law `answer-fits`)
 abbrev pub line-room : ℕ

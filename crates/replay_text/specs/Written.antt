@@ -6,14 +6,13 @@ use lib.Dec.{leb}
 use lib.ListN.{length}
 use lib.Seq.{sets}
 use Rattle.laws.specs.Choice.{pick}
-use Rattle.replay_text.specs.Text.{line-room}
 
 -- the text is stored byte by byte from `at` on, and r is the place behind it
 pub record Wrote (before after : List ℕ) (at r : ℕ) (text : List ℕ) : Type 0 where
   pub place : r ≡ at + length text
   pub bytes : after ≡ sets before at text
 
--- the same where there is room for any line; else nothing is stored, and r is the place itself
-pub record Put (before after : List ℕ) (at r : ℕ) (line : List ℕ) : Type 0 where
-  pub place : r ≡ pick (leb (at + line-room) (length before)) (at + length line) at
-  pub bytes : after ≡ pick (leb (at + line-room) (length before)) (sets before at line) before
+-- the same where so many bytes are left, which is room for any line of its kind; else nothing is stored, and r is the place itself
+pub record Put (room : ℕ) (before after : List ℕ) (at r : ℕ) (line : List ℕ) : Type 0 where
+  pub place : r ≡ pick (leb (at + room) (length before)) (at + length line) at
+  pub bytes : after ≡ pick (leb (at + room) (length before)) (sets before at line) before

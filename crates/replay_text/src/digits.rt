@@ -35,8 +35,8 @@ pub(crate) fn put_digits(out: &mut [u8], at: usize, base: u32, width: usize, num
     at + width
 }
 
-// How many decimal digits the number has.
-fn places(number: u16) -> usize
+// How many decimal digits the number has. Small numbers, which are the most, are found first.
+fn places(number: u32) -> usize
     ensures { λ r. ⌜ r ≡ places-of number ⌝ }
 {
     if number < 10 {
@@ -51,16 +51,31 @@ fn places(number: u16) -> usize
     if number < 10000 {
         return 4;
     }
-    5
+    if number < 100000 {
+        return 5;
+    }
+    if number < 1000000 {
+        return 6;
+    }
+    if number < 10000000 {
+        return 7;
+    }
+    if number < 100000000 {
+        return 8;
+    }
+    if number < 1000000000 {
+        return 9;
+    }
+    10
 }
 
 // Most numbers that are printed have one digit.
-pub(crate) fn put_decimal(out: &mut [u8], at: usize, number: u16) -> usize
+pub(crate) fn put_decimal(out: &mut [u8], at: usize, number: u32) -> usize
     requires { ⌜ at + decimal-limit ≤ length (now out) ⌝ }
     ensures { λ r. ⌜ Wrote (now (out .entry)) (now (out .exit)) at r (decimal number) ⌝ }
 {
-    if (number as u32) < DECIMAL {
-        return put_byte(out, at, digit_byte(number as u32));
+    if number < DECIMAL {
+        return put_byte(out, at, digit_byte(number));
     }
-    put_digits(out, at, DECIMAL, places(number), number as u32)
+    put_digits(out, at, DECIMAL, places(number), number)
 }

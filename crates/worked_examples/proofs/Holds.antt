@@ -21,10 +21,11 @@ use Rattle.lock_rules.specs.Rules.{go-in, exit-go-in, exit-tell, enter-try}
 use Rattle.table_bytes.specs.Reading.{enough}
 use Rattle.replay_lines.specs.Number.{is-digit, read-digits, read-number, read-field}
 use Rattle.replay_lines.specs.Grammar.{end-line, read-step, read-begin-limit, read-begin-object, read-begin, operation-of, read-line}
-use Rattle.replay_text.specs.Digits.{digit-byte, digits, places-of, decimal}
+use Rattle.replay_text.specs.Digits.{digit-byte, digits, places-from, places-of, decimal}
 use Rattle.replay_text.specs.Text.{field-text, hexadecimal-text, tick-line, answer-line, answer-text}
+use Rattle.replay_text.specs.Row.{share, remainder, five-text, row-text}
 use Rattle.worked_examples.specs.{Words.WordExamples, Records.RecordExamples, Rules.RuleExamples, Ticks.TickExamples, LetOuts.LetOutExamples}
-use Rattle.worked_examples.specs.{Unparks.UnparkExamples, Lines.LineExamples}
+use Rattle.worked_examples.specs.{Unparks.UnparkExamples, Lines.LineExamples, Rows.RowExamples}
 
 pub word-examples : WordExamples
 unfolding read-word read-flat read-reserved fat-of owned-by
@@ -128,7 +129,7 @@ unpark-examples =
     }
 
 pub line-examples : LineExamples
-unfolding is-digit read-digits read-number read-field end-line read-step read-begin-limit read-begin-object read-begin operation-of read-line digit-byte digits places-of decimal field-text hexadecimal-text tick-line answer-line answer-text
+unfolding is-digit read-digits read-number read-field end-line read-step read-begin-limit read-begin-object read-begin operation-of read-line digit-byte digits places-from places-of decimal field-text hexadecimal-text tick-line answer-line answer-text
 line-examples =
     record {
       step = refl;
@@ -146,3 +147,7 @@ line-examples =
       ticked = refl;
       tick-refused = refl;
     }
+
+pub row-examples : RowExamples
+unfolding digit-byte digits places-from places-of decimal field-text share remainder five-text row-text
+row-examples = record { thirds = refl; nothing = refl; largest = refl }

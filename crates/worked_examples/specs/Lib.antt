@@ -6,3 +6,4 @@ pub mod Ticks
 pub mod LetOuts
 pub mod Unparks
 pub mod Lines
+pub mod Rows

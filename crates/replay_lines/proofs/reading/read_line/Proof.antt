@@ -9,9 +9,11 @@ use Rattle.replay_lines.proofs.reading.read_line.Tie as tie
 returns-2 : tie.Need-returns-2
 unfolding read-line
 returns-2 c =
-    let some = c .before .before .before .before in
+    let read = c .before in
+    let some = read .before .before .before .before in
     let line = some .before .before .args .line .now in
-    rw (first-byte line (some .if1 .left)) (simp (eq-eqb _ _ (c .before .if2 .taken)) (rw (rest-of 1 line) at (c .read-header .ensures)))
+    rw (first-byte line (some .if1 .left))
+    (simp (eq-eqb _ _ (read .before .if2 .taken)) (rw (read .read-header .ensures, rest-of 1 line) at (c .header-or-bad .ensures)))
 
 returns-3 : tie.Need-returns-3
 unfolding read-line
@@ -46,4 +48,4 @@ unfolding read-line
 read-line-spec =
     tie.close
     (tie.spec (λ c. rw (no-bytes (c .before .before .args .line .now) (c .if1 .taken))) (λ c. search needs) (λ c. search needs) (λ c. search needs)
-    (λ c. search needs) (λ c κs. tt) returns-2 (λ c κs. tt) returns-3 (λ c κs. tt) returns-4 (λ c κs. tt) (λ c κs. tt) returns-5)
+    (λ c. search needs) (λ c κs. tt) (λ c κs. tt) returns-2 (λ c κs. tt) returns-3 (λ c κs. tt) returns-4 (λ c κs. tt) (λ c κs. tt) returns-5)

@@ -8,6 +8,6 @@ pub is-thread-event-spec : {M : Type 1} → statement M
 unfolding is-thread-event
 is-thread-event-spec =
     tie.close
-    (tie.spec (λ c. search needs) (λ c. search needs) (λ c. search needs) (λ c. search needs) (λ c. search needs)
+    (tie.spec (λ c. search needs) (λ c. search needs) (λ c. search needs) (λ c. search needs) (λ c. search needs) (λ c. search needs)
     (λ c. simp (c .enum-told .given .1)) (λ c. simp (c .enum-told2 .given .1)) (λ c. simp (c .enum-told3 .given .1))
-    (λ c. simp (c .enum-told4 .given .1)) (λ c. simp (c .enum-told5 .given .1)))
+    (λ c. simp (c .enum-told4 .given .1)) (λ c. simp (c .enum-told5 .given .1)) (λ c. simp (c .enum-told6 .given .1)))

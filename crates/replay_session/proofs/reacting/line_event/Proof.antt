@@ -9,7 +9,7 @@ unfolding line-event
 line-event-spec =
     tie.close
     (tie.spec (λ c. search needs) (λ c. search needs) (λ c. search needs) (λ c κs. tt) (λ c. search needs) (λ c κs. tt) (λ c. search needs)
-    (λ c. search needs) (λ c. search needs) (λ c κs. tt) (λ c. search needs) (λ c. search needs) (λ c. simp (c .enum-told .given .1))
-    (λ c. simp (c .narrow2 .ensures, c .before .narrow .ensures, c .before .before .before .line .given .1))
+    (λ c. search needs) (λ c. search needs) (λ c κs. tt) (λ c. search needs) (λ c. search needs) (λ c. search needs)
+    (λ c. simp (c .enum-told .given .1)) (λ c. simp (c .narrow2 .ensures, c .before .narrow .ensures, c .before .before .before .line .given .1))
     (λ c. simp (c .narrow3 .ensures, c .before .before .line2 .given .1)) (λ c. simp (c .enum-told2 .given .1))
-    (λ c. simp (c .enum-told3 .given .1)))
+    (λ c. simp (c .enum-told3 .given .1)) (λ c. simp (c .enum-told4 .given .1)))

@@ -1,4 +1,4 @@
--- `replay_stream::turn::close` meets its contract: the answer that the end gives is put, and the session has closed.
+-- `replay_stream::turn::close` meets its contract: what the end prints is put, and the state has closed.
 use borrow.Author.Needs.{needs}
 use Rattle.replay_stream.proofs.Turned.{closed}
 use Rattle.replay_stream.proofs.turn.close.Statement.{statement}
@@ -6,10 +6,9 @@ use Rattle.replay_stream.proofs.turn.close.Tie as tie
 
 returns : tie.Need-returns
 returns c =
-    let put = c .before .before in
-    let closing = put .before .before .before in
-    let start = closing .before .before in
-    closed (start .args .session) (start .pre) (closing .closing .ensures) (put .put-answer .ensures)
+    let put = c .before .before .before in
+    let start = put .before .before .before in
+    closed (start .args .state) (start .pre) (c .closed-state .ensures) (put .put-closing .ensures)
 
 pub close-spec : {M : Type 1} → statement M
 close-spec =

@@ -25,4 +25,4 @@ returns c =
 pub put-answer-spec : {M : Type 1} → statement M
 put-answer-spec =
     tie.close
-    (tie.spec (λ c κs. tt) room (λ c. search needs) returns (λ c. put-refused _ _ _ (sym (c .before .has-room .ensures) ∙ c .if1 .left)))
+    (tie.spec (λ c κs. tt) room (λ c. search needs) returns (λ c. put-refused line-room _ _ _ (sym (c .before .has-room .ensures) ∙ c .if1 .left)))

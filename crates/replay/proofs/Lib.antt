@@ -1,6 +1,0 @@
--- Laws of the program.
-pub mod Counts
-pub mod Draining
-pub mod Taking
-pub mod Running
-pub mod EndedRuns

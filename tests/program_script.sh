@@ -1,0 +1,72 @@
+#!/bin/sh
+# The scripts ./replay and ./report over programs that are built: their statuses, their arguments and a link to them. When they build again:
+# program_builds.sh. tests/program_script.sh; the last line is 'N passed, M failed'.
+set -u
+. "$(dirname "$0")/counting.sh"
+here=$(cd "$(dirname "$0")/.." && pwd -P) || exit 2
+work=$(mktemp -d) || exit 2
+trap 'rm -rf "$work"' EXIT
+
+# The output of a call, `whole` where it is the stored one, and its status.
+outcome() {
+    "$@" >"$work/output" 2>"$work/said"
+    status=$?
+    if cmp -s "$work/output" "$expected"; then echo "whole $status"; else echo "$(head -n 1 "$work/output") $status"; fi
+}
+
+# The first call sees that all is proved as it is, and builds nothing.
+calls() {
+    check "$name: standard input" "$(outcome "$script" <"$input")" 'whole 0'
+    check "$name: nothing is proved again" "$(grep -c '^\[' "$work/said")" 0
+    check "$name: a second call says nothing" "$(outcome "$script" <"$input") $(wc -c <"$work/said")" 'whole 0 0'
+    check "$name: a file" "$(outcome "$script" "$input")" 'whole 0'
+    ln -sf "$script" "$work/first" && ln -sf first "$work/second"
+    check "$name: a link to a link, from elsewhere" "$(cd "$work" && outcome ./second "$input")" 'whole 0'
+    check "$name: a link in PATH" "$(PATH=$work:$PATH && outcome second "$input")" 'whole 0'
+}
+
+# $1 and $2: what is printed before the run ends early, without a header and with sizes out of range.
+statuses() {
+    check "$name: endless, no header" "$(yes | outcome timeout 20 "$script")" "$1 3"
+    check "$name: endless, sizes out of range" "$({ echo 'L 33 1 0'; yes; } | outcome timeout 20 "$script")" "$2 3"
+    check "$name: a folder" "$(outcome "$script" "$here")" ' 4'
+    check "$name: and it says who could not read" "$(grep -c "^$name: " "$work/said")" 1
+    "$script" "$input" >/dev/full 2>/dev/null
+    check "$name: a full device" "$?" 5
+    "$script" "$input" >&- 2>/dev/null
+    check "$name: no standard output" "$?" 5
+    check "$name: no standard input" "$(outcome "$script" <&-)" ' 4'
+    "$script" <"$work/open" >"$work/output" 2>&1 &
+    sleep 0.5
+    kill "$!"
+    wait "$!"
+    check "$name: ended by a signal to it alone" "$?" 143
+    # Nothing is read, and so nothing written, before the reader is gone.
+    { sleep 0.5; cat "$input"; } | { "$script"; echo $? >"$work/status"; } | true
+    check "$name: nobody reads any more" "$(cat "$work/status")" 141
+}
+
+# $1: the number that is printed where the run ends early.
+arguments() {
+    check "$name: no such file" "$(outcome "$script" "$work/none")" ' 2'
+    check "$name: and it says so by its name" "$(cat "$work/said")" "$name: $work/none cannot be opened"
+    check "$name: an option that there is not" "$(outcome "$script" --fast)" ' 2'
+    check "$name: two files" "$(outcome "$script" "$input" "$input")" ' 2'
+    check "$name: help" "$(outcome "$script" --help)" "usage: ./$name [FILE] 0"
+    check "$name: and it says what status 3 means here" "$(grep -c "^ *3 .*$1 was printed" "$work/output")" 1
+}
+
+# An input that stays open and has nothing in it.
+mkfifo "$work/open"
+exec 7<>"$work/open"
+for name in replay report; do
+    script=$here/$name
+    case $name in
+    replay) input=$here/examples/listing.txt expected=$here/crates/replay/stdout early='21 22' ;;
+    report) input=$here/examples/branches.txt expected=$here/examples/branches.expected early='24 24' ;;
+    esac
+    calls
+    statuses $early
+    arguments "${early#* }"
+done
+finish
