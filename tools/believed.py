@@ -1,12 +1,13 @@
 #!/usr/bin/env python3
-"""Lists in docs/ARCHITECTURE.md which definitions a reader has to believe of demand 3, which of demand 2 besides, and which of the report besides both.
+"""Lists in docs/ARCHITECTURE.md which definitions a reader has to believe of demand 3, which of six steps besides, which of demand 2, and which of the
+report besides both demands.
 
     tools/believed.py            writes the list, between two marks
     tools/believed.py --check    fails if the list is not up to date; last line 'N passed, M failed'
 
 From a statement, follows every name that its definition uses, through the `use` lines, and lists the files of specs/ in which the definitions stand.
-Demand 3 is a claim about the engine's begin, step and tick, so these are not followed there: the code computes them, and the claim bounds what they
-do. Demand 2 is what they say. The report counts what steps do, so its promise stands on both.
+Demand 3 and six steps are claims about the engine's begin, step and tick, so these are not followed there: the code computes them, and the claims bound
+what they do. Demand 2 is what they say. The report counts what steps do, so its promise stands on both demands.
 """
 import pathlib
 import re
@@ -16,6 +17,7 @@ ROOT = pathlib.Path(__file__).resolve().parent.parent
 DOCUMENT = ROOT / 'docs' / 'ARCHITECTURE.md'
 MARKS = ('<!-- written by tools/believed.py -->', '<!-- end of what tools/believed.py writes -->')
 CLAIM = [(('lock_schedule', 'Demand'), 'DemandThree')]
+STEPS = [(('step_bounds', 'SixSteps'), 'SixSteps')]
 ENGINE = [(('lock_engine', 'Handle'), 'handle')]
 REPORT = [(('report_counts', 'Report'), 'ReportRight')]
 
@@ -109,9 +111,9 @@ def described(files, met):
     return counts, rows
 
 
-def besides(starts, files, met):
-    """What is met from these and not among those: how much it is, and a row for each crate."""
-    more_files, more_met = reached(starts)
+def besides(starts, files, met, stops=()):
+    """What is met from these and not among those: how much it is, and a row for each crate. It is among those then."""
+    more_files, more_met = reached(starts, stops)
     more_files = {place: specs for place, specs in more_files.items() if place not in files}
     more_met = {place: names for place, names in more_met.items() if place not in met}
     (lines, code, used), rows = described(more_files, more_met)
@@ -121,10 +123,12 @@ def besides(starts, files, met):
 
 
 def block():
-    files, met = reached(CLAIM, {place for place, _ in ENGINE})
+    engine_files = {place for place, _ in ENGINE}
+    files, met = reached(CLAIM, engine_files)
     (lines, code, used), rows = described(files, met)
     claim = (f'{len(files)} files of {lines} lines, {code} of them without comments, imports and blank lines; '
              f'the definitions that it uses are {used} of these.')
+    steps, steps_rows = besides(STEPS, dict(files), dict(met), engine_files)
     engine, engine_rows = besides(ENGINE, files, met)
     report, report_rows = besides(REPORT, files, met)
     table = ['| Crate | Files of `specs/` | Types of the code in |', '|---|---|---|']
@@ -132,9 +136,11 @@ def block():
         MARKS[0],
         f'Demand 3: {claim}',
         '', *table, *rows, '',
-        f'Demand 2, that the steps are document 01\'s, on these besides: {engine}',
+        f'Six steps (document 02, L5), on these besides: {steps}',
+        '', *table, *steps_rows, '',
+        f'Demand 2, that the steps are document 01\'s, on those of demand 3 besides: {engine}',
         '', *table, *engine_rows, '',
-        f'The report (document 02, L4), on these besides both: {report}',
+        f'The report (document 02, L4), on those of both demands besides: {report}',
         '', *table, *report_rows,
         MARKS[1]])
 

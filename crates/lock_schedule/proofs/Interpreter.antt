@@ -52,14 +52,14 @@ returned-shown (Refused refusal) commits = refl
 returned-shown (Answered answer) commits = refl
 
 -- what one event of the engine tells, where it is the turn of the records, is what the table with lists does
-record Told (threads objects : ℕ) (t : Table) (lists : ListTable) (event : Event) : Type 0 where
-  represents : Represents threads objects (handle t event .table) (turn threads objects lists event .table)
-  sound : SoundTable threads objects (turn threads objects lists event .table)
-  shown : reply-shown (handle t event .reply) (handle t event .commits) ≡ turn threads objects lists event .reply
-  number : reply-returned (handle t event .reply) ≡ returned (turn threads objects lists event .reply)
-  names : (n : ℕ) → has-thread (handle t event .unparked) n ≡ turn threads objects lists event .unparked n
+pub record Told (threads objects : ℕ) (t : Table) (lists : ListTable) (event : Event) : Type 0 where
+  pub represents : Represents threads objects (handle t event .table) (turn threads objects lists event .table)
+  pub sound : SoundTable threads objects (turn threads objects lists event .table)
+  pub shown : reply-shown (handle t event .reply) (handle t event .commits) ≡ turn threads objects lists event .reply
+  pub number : reply-returned (handle t event .reply) ≡ returned (turn threads objects lists event .reply)
+  pub names : (n : ℕ) → has-thread (handle t event .unparked) n ≡ turn threads objects lists event .unparked n
 
-told : (threads objects : ℕ) (t : Table) (lists : ListTable) → Represents threads objects t lists → SoundTable threads objects lists → (event : Event)
+pub told : (threads objects : ℕ) (t : Table) (lists : ListTable) → Represents threads objects t lists → SoundTable threads objects lists → (event : Event)
     → turn-of (handle t event) ≡ turn-on record-kind threads objects t event → Told threads objects t lists event
 told threads objects t lists represents sound event same =
     let (after, sound-after, reply, named) = turn-represents threads objects t lists represents sound event in

@@ -3,4 +3,6 @@ pub mod EngineKind
 pub mod FreshWellTyped
 pub mod Theorem
 pub mod Interpreter
+pub mod Steps
+pub mod StepsReached
 pub mod Runs

@@ -2,4 +2,5 @@
 pub mod Schedule
 pub mod Demand
 pub mod Interpreter
+pub mod StepsByStart
 pub mod Runs

@@ -1,4 +1,5 @@
 -- A run: a fresh table as asked for, and a schedule on it.
+use Prim.Native.Nat.{ℕ, _≤_}
 use mathlib.Core.List.{List}
 use Rattle.lock_rules.specs.declared.event.Event.{Event}
 use Rattle.lock_table.specs.Fresh.{InRange, fresh-of}
@@ -6,8 +7,10 @@ use Rattle.lock_table.specs.declared.fresh_table.FreshRequest.{FreshRequest}
 use Rattle.lock_table.specs.declared.record.Table.{Table}
 use Rattle.lock_table.specs.declared.fresh_table.FreshAnswer.{FreshAnswer}
 use Rattle.lock_table.specs.declared.fresh_table.FreshAnswer.the-variants.{Made, SizeOutOfRange}
+use Rattle.step_bounds.specs.SixSteps.{steps-taken, step-limit}
 use Rattle.lock_schedule.specs.Schedule.{final-of}
 use Rattle.lock_schedule.specs.Demand.{Claim}
+use Rattle.lock_schedule.specs.StepsByStart.{StepsWithin}
 use Rattle.lock_schedule.specs.declared.running.RunResult.{RunResult}
 
 -- 22: with no table made there is nothing to run the schedule on
@@ -23,3 +26,8 @@ run-of request events =
 -- the claim of demand 3, of a run whose request is in range
 abbrev pub ClaimOfRun : FreshRequest → List Event → RunResult → Type 0
 ClaimOfRun request events result = InRange request → Claim (fresh-of request .table) events (result .table)
+
+-- and the claim of document 02's L5, with what more is known of a thread's steps
+abbrev pub StepsOfRun : FreshRequest → List Event → RunResult → Type 0
+StepsOfRun request events result =
+    InRange request → (n : ℕ) → let first = fresh-of request .table in (steps-taken n first events ≤ step-limit) × StepsWithin first events (result .table) n

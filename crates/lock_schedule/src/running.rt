@@ -9,7 +9,7 @@ use lock_table::Table;
 ghost use mathlib.Core.Path.{_≡_};
 ghost use Rattle.event_bytes.specs.Encoding.{events-of};
 ghost use Rattle.lock_schedule.specs.Schedule.{final-of};
-ghost use Rattle.lock_schedule.specs.Runs.{run-fresh, run-of, ClaimOfRun};
+ghost use Rattle.lock_schedule.specs.Runs.{run-fresh, run-of, ClaimOfRun, StepsOfRun};
 
 pub struct RunResult {
     // whether a table was made
@@ -66,6 +66,7 @@ fn run_fresh(answer: FreshAnswer, table: Table, events: &[u8]) -> RunResult
 pub fn run(request: FreshRequest, events: &[u8]) -> RunResult
     ensures same { λ r. ⌜ r ≡ run-of request (events-of (now (events .entry))) ⌝ }
     ensures claimed { λ r. ⌜ ClaimOfRun request (events-of (now (events .entry))) r ⌝ }
+    ensures steps { λ r. ⌜ StepsOfRun request (events-of (now (events .entry))) r ⌝ }
 {
     let made = lock_table::fresh(request);
     let answer = made.answer;
