@@ -55,6 +55,10 @@ extern "C" {
 /* The longest limit of a timed wait, in ticks; the shortest is 1. */
 #define DUSKCLAMP_TICKS 65535
 
+/* The most steps that a thread takes of its own from beginning an operation, or from being unparked, until it finishes, is refused or parks, in whatever
+ * order the events of the others come; duskclamp_step has more. */
+#define DUSKCLAMP_STEPS 6
+
 /* The operations; an idle thread has 0. */
 #define DUSKCLAMP_ENTER 1
 #define DUSKCLAMP_EXIT 2
@@ -138,7 +142,10 @@ uint64_t duskclamp_timed_wait(uint8_t *bytes, size_t length, uint32_t thread, ui
 /* The thread takes one step of its operation. Returned: 0, 1, 2, or the first of 11, 12, 15, 16, 18, 19, 20 that applies.
  * An operation ends with the step that returns 1, 18 or 19, save that an exit which has parked, in phase 5, may be let out: a step of another thread
  * that inflates the lock ends it, and has its thread in the set. That thread is idle then: its phase is 0, its next begin is accepted, and its next step
- * returns 15, which is the exit's 1 with the woken number 0. */
+ * returns 15, which is the exit's 1 with the woken number 0.
+ * No thread spins. On a table that came from duskclamp_fresh by events alone a thread takes at most DUSKCLAMP_STEPS steps that return 0, 1, 2, 18 or 19
+ * from beginning an enter, an exit or a wait, 1 from beginning a notify, 2 from being unparked and 1 of them if it is to resume; with the last one the
+ * step returns 1, 2, 18 or 19. Other bytes may be a sound table that no events lead to, and there it may take more. */
 uint64_t duskclamp_step(uint8_t *bytes, size_t length, uint32_t thread);
 
 /* One tick of the clock, taken from every timed wait that is in a waiting chain. Those with none left run out: they join the entry chain, from the lowest

@@ -26,12 +26,26 @@ static const operation scripts[THREADS][LONGEST + 1] = {
 static uint8_t table[DUSKCLAMP_TABLE_SIZE];
 /* Where each thread is in its script, and how many have come to its end. */
 static uint32_t places[THREADS], ended;
+/* The steps of each thread since it began its operation or was unparked, and the most that there were. They are DUSKCLAMP_STEPS at most: nobody spins. */
+static uint32_t taken[THREADS], most;
 /* The run queue, from its first thread on. A thread is in it once at most: one in a set was parked, so it was not in the queue. */
 static uint32_t queue[THREADS], first, queued;
 
 static void put(uint32_t thread) {
     queue[(first + queued) % THREADS] = thread;
     queued++;
+}
+
+/* The thread has begun, or was unparked: its steps are counted from here. */
+static void start(uint32_t thread) {
+    taken[thread - 1] = 0;
+    put(thread);
+}
+
+static void count(uint32_t thread) {
+    taken[thread - 1]++;
+    if (taken[thread - 1] > most)
+        most = taken[thread - 1];
 }
 
 static uint32_t take(void) {
@@ -68,7 +82,7 @@ static void begin(uint32_t thread) {
                                                            : duskclamp_begin(table, sizeof table, thread, next->number, next->object);
     if (DUSKCLAMP_RETURNED(answer) != DUSKCLAMP_GONE_ON)
         stop(thread, answer);
-    put(thread);
+    start(thread);
 }
 
 /* The thread's operation is over. */
@@ -83,7 +97,7 @@ static void put_unparked(uint64_t answer) {
     for (uint32_t thread = 1; set != 0; thread++, set >>= 1) {
         if (set & 1) {
             say(thread, "unparked\n");
-            put(thread);
+            start(thread);
         }
     }
 }
@@ -107,6 +121,8 @@ static void say_finished(uint32_t thread, uint64_t answer) {
 static void step(void) {
     uint32_t thread = take();
     uint64_t answer = duskclamp_step(table, sizeof table, thread);
+    if (DUSKCLAMP_RETURNED(answer) != DUSKCLAMP_THREAD_IDLE)
+        count(thread);
     switch (DUSKCLAMP_RETURNED(answer)) {
     case DUSKCLAMP_GONE_ON:
         put(thread);
@@ -148,5 +164,6 @@ int main(void) {
             ticks++;
         }
     }
-    return ended == THREADS ? 0 : 1;
+    printf("most steps until a thread finished or parked: %" PRIu32 "\n", most);
+    return ended == THREADS && most <= DUSKCLAMP_STEPS ? 0 : 1;
 }

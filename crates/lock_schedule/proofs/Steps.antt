@@ -1,6 +1,6 @@
 -- Six steps, and how many by what they are counted from: the engine's schedules have the counts of those on tables with lists.
 use Prim.Native.Nat.{ℕ, _+_, _≤_}
-use mathlib.Core.Path.{_≡_, refl, sym, ap, _∙_, subst}
+use mathlib.Core.Path.{_≡_, refl, ap, _∙_}
 use mathlib.Core.List.{List, [], _∷_}
 use native.Mathlib.Omega.{arith}
 use Rattle.lock_rules.specs.{Numbers.phase-of, Events.returned, Feed.blank}
@@ -11,10 +11,9 @@ use Rattle.lock_table.specs.Access.{phase-number-at}
 use Rattle.lock_table.specs.Fresh.{InRange, fresh-of}
 use Rattle.lock_table.specs.declared.fresh_table.FreshRequest.{FreshRequest}
 use Rattle.lock_table.specs.declared.record.Table.{Table}
-use Rattle.lock_records.specs.Unparked.{CanStep}
 use Rattle.lock_records.proofs.{Represents.Represents, FreshRecords.fresh-represents}
 use Rattle.lock_records.proofs.Claim.{schedule-represents, phase-is}
-use Rattle.lock_records.proofs.Parking.{runs-so, so-runs}
+use Rattle.lock_records.proofs.Parking.{runs-so}
 use Rattle.lock_engine.specs.{Outcome.reply-returned, Handle.handle}
 use Rattle.step_bounds.specs.SixSteps.{steps-after, along, steps-taken, SixSteps}
 use Rattle.step_bounds.specs.Starts.{NotBegun, most-from, start-after, start-of-steps}

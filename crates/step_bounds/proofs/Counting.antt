@@ -1,11 +1,11 @@
 -- One event and the steps of one thread: what it has taken and what it has left are together no more than there are from its start.
 use Prim.Native.Nat.{ℕ, _+_, _≤_, _<_}
-use mathlib.Core.Path.{_≡_, refl, sym, ap, _∙_, subst}
+use mathlib.Core.Path.{_≡_, refl, sym, _∙_, subst}
 use mathlib.Core.Bool.{Bool, true, false, not}
 use native.Mathlib.Omega.{arith}
 use lib.Dec.{eqb}
 use borrow.Author.Tests.{ne-eqb}
-use Rattle.laws.specs.Choice.{pick, both, either}
+use Rattle.laws.specs.Choice.{both, either}
 use Rattle.laws.proofs.Choice.{split, false≢true, by-equal, both-no, both-first, failed}
 use Rattle.lock_word.specs.declared.meaning.WordSeen.{WordSeen}
 use Rattle.lock_rules.specs.Numbers.{phase-of, phase-of-doing, asked-for, first-refusal, refusal-number}

@@ -1,13 +1,13 @@
 -- One object with lists: a step leaves its thread fewer steps than it had. Another's event leaves a thread that was not parked no more than it had, and one
 -- that was parked as many as there are from being unparked.
-use Prim.Native.Nat.{ℕ, _+_, _≤_, _<_}
+use Prim.Native.Nat.{ℕ, _+_, _≤_}
 use mathlib.Core.Path.{_≡_, refl, ap, _∙_}
 use mathlib.Core.Logic.{_≢_}
 use mathlib.Core.Bool.{Bool, true, false}
 use mathlib.Core.List.{List, [], _∷_}
 use native.Mathlib.Omega.{arith}
 use lib.Dec.{eqb}
-use Rattle.laws.specs.{Choice.pick, Update.update, Count.count}
+use Rattle.laws.specs.{Choice.pick, Count.count}
 use Rattle.laws.proofs.Choice.{by-test}
 use Rattle.laws.proofs.Update.{update-same, update-other}
 use Rattle.chains.specs.declared.named.Chain.{Chain}
@@ -31,7 +31,8 @@ use Rattle.step_bounds.specs.Starts.{Unparked, most-from}
 use Rattle.step_bounds.proofs.Ranks.{doing-left, left, Keeps, left-kept, left-back}
 use Rattle.step_bounds.proofs.RankRules.{Sends, Lowers, decide-lowers}
 
--- a thread whose state and whose object's word another's event has changed
+-- A thread whose state and whose object's word another's event has changed: it has no more steps left than it had, and if it was parked no more than there
+-- are from being unparked to its new phase.
 abbrev pub Falls : WordSeen → ThreadState → WordSeen → ThreadState → Type 0
 Falls word state after next = left after next ≤ pick (unparked state) (left word state) (most-from (Unparked (phase-of next)))
 
@@ -58,13 +59,29 @@ module _ (word : WordSeen) where
     then-falls c calm falls = rw (← (calm .parks), ← (calm .same)) falls
 
     pub same-falls : (state : ThreadState) → Falls word state after state
-    same-falls state = each-state (λ seen. Falls word seen after seen) (omega arith, λ doing. left-kept word after keeps (Running doing), search arith, search arith, search arith) state
+    same-falls =
+        each-state (λ state. Falls word state after state)
+        (omega arith, λ doing. left-kept word after keeps (Running doing), search arith, search arith, search arith)
 
     handed-falls : (state : ThreadState) → Falls word state after (handed state)
-    handed-falls = each-state _ (omega arith, λ doing. left-kept word after keeps (Running doing), each-carried _ (omega arith, omega arith, λ limit. omega arith, λ saved. omega arith), search arith, search arith)
+    handed-falls =
+        each-state _ (
+          omega arith,
+          λ doing. left-kept word after keeps (Running doing),
+          each-carried _ (omega arith, omega arith, λ limit. omega arith, λ saved. omega arith),
+          search arith,
+          search arith,
+        )
 
     let-out-falls : (state : ThreadState) → Falls word state after (let-out-state state)
-    let-out-falls = each-state _ (omega arith, λ doing. left-kept word after keeps (Running doing), each-carried _ (omega arith, omega arith, λ limit. omega arith, λ saved. omega arith), search arith, search arith)
+    let-out-falls =
+        each-state _ (
+          omega arith,
+          λ doing. left-kept word after keeps (Running doing),
+          each-carried _ (omega arith, omega arith, λ limit. omega arith, λ saved. omega arith),
+          search arith,
+          search arith,
+        )
 
     sent-back-falls : Unreserved after → (state : ThreadState) → Falls word state after (sent-back state)
     sent-back-falls clear = each-state _ (omega arith, λ doing. left-back word after clear (Running doing), search arith, search arith, search arith)

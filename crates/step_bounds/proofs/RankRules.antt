@@ -1,6 +1,6 @@
 -- Every rule leaves its thread fewer steps than it had, and makes no word reserved that was not, so that nobody else gets more.
 use Prim.Native.Nat.{ℕ, _+_, _-_, _<_}
-use mathlib.Core.Bool.{Bool, true, false}
+use mathlib.Core.Bool.{Bool}
 use native.Mathlib.Omega.{arith}
 use lib.Dec.{eqb, ltb}
 use Rattle.laws.specs.Choice.{pick, both}
@@ -11,7 +11,7 @@ use Rattle.lock_rules.specs.Actions.{finish-word, let-go}
 use Rattle.lock_rules.specs.Rules.{onward, owner-seen, enter-look, exit-owned, deflation, wait-owned, notify-owned, notify-all-owned, owner-only}
 use Rattle.lock_rules.specs.Rules.{enter-store, exit-store, cancel, go-in-again, go-in, exit-go-in, holder-only, enter-check, enter-try, exit-test}
 use Rattle.lock_rules.specs.Rules.{exit-tell, exit-leave, wait-inflate, wait-give-up, wait-resume, decide}
-use Rattle.lock_rules.specs.declared.{OnwardStep.OnwardStep, Doing.Doing, Sight.Sight, ChainWork.ChainWork, Effect.Effect, Action.Action, WordChange.WordChange}
+use Rattle.lock_rules.specs.declared.{OnwardStep.OnwardStep, Doing.Doing, Sight.Sight, ChainWork.ChainWork, Effect.Effect, Action.Action}
 use Rattle.lock_rules.specs.declared.OnwardStep.the-variants.{ToCheck, ToTell, ToInflate}
 use Rattle.lock_rules.specs.declared.Doing.the-variants.{EnterLook, EnterStore, EnterCancel, EnterGoIn, EnterCheck, EnterTry, ExitLook, ExitStore}
 use Rattle.lock_rules.specs.declared.Doing.the-variants.{ExitGoIn, ExitTest, ExitTell, ExitLeave, WaitLook, WaitCancel, WaitGoIn, WaitInflate}
@@ -23,7 +23,7 @@ use Rattle.lock_rules.proofs.Each.{each-carried, Words, each-word}
 use Rattle.lock_rules.proofs.Changes.{seen-after}
 use Rattle.lock_rules.proofs.SoundEffects.{either-way}
 use Rattle.lock_rules.proofs.Invariant.{Unreserved, KeptWord, phase-row, ReliesOn}
-use Rattle.step_bounds.proofs.Ranks.{look-left, doing-left, left, look-clear, Keeps}
+use Rattle.step_bounds.proofs.Ranks.{doing-left, left, look-clear, Keeps}
 
 -- a thread is sent back only to a word that is not reserved
 abbrev pub Sends : ChainWork → WordSeen → Type 0
@@ -68,12 +68,13 @@ module _ (thread : ℕ) (sight : Sight) where
 
   -- the kept word is the word, so the word was reserved before the store
   kept-reserved : (c new : ℕ) (word : WordSeen) → KeptWord thread c word → Keeps word (Reserved thread new)
-  kept-reserved c new = each-word _ (λ kept. absurd kept, λ kept. absurd kept, λ kept. absurd kept, λ owner d kept. absurd kept, λ owner d kept reserved. absurd reserved)
+  kept-reserved c new =
+      each-word _ (λ kept. absurd kept, λ kept. absurd kept, λ kept. absurd kept, λ owner d kept. absurd kept, λ owner d kept clear. absurd clear)
 
   store-lowers : (c new : ℕ) → KeptWord thread c (sight .word) → Lowers thread (sight .word) 5 (finish-word sight (OwnReserved new))
   store-lowers c new kept = record { own = omega arith; keeps = kept-reserved c new (sight .word) kept; sends = tt }
 
-  -- a cancelled word is not reserved, nor is any other that a cancel leaves
+  -- a cancelled word is not reserved
   cancelled-clear : (owner c : ℕ) → Unreserved (cancelled (Reserved owner c))
   cancelled-clear owner c = either-way Unreserved (eqb c 0) tt tt
 
@@ -86,7 +87,7 @@ module _ (thread : ℕ) (sight : Sight) where
         record { own = low Free tt; keeps = λ clear. tt; sends = tt },
         record { own = low Fat tt; keeps = λ clear. tt; sends = tt },
         λ owner c. record { own = low (Flat owner c) tt; keeps = λ clear. tt; sends = tt },
-        λ owner c. record { own = low (cancelled (Reserved owner c)) (cancelled-clear owner c); keeps = λ clear. cancelled-clear owner c; sends = cancelled-clear owner c },
+        λ owner c. let after = cancelled-clear owner c in record { own = low (cancelled (Reserved owner c)) after; keeps = λ clear. after; sends = after },
       )
 
   again-lowers : (carried : OnwardStep) → Lowers thread (sight .word) 3 (go-in-again sight carried)
@@ -112,19 +113,22 @@ module _ (thread : ℕ) (sight : Sight) where
   -- an exit leaves a fat word fat, or frees it
   deflated-lowers : Lowers thread Fat 5 (let-go sight (deflation sight) 0 ExitLeave)
   deflated-lowers =
-      either-way (λ change. Lowers thread Fat 5 (let-go sight change 0 ExitLeave)) (both (sight .entryempty) (both (sight .contentionempty) (eqb (sight .waiters) 0))) (search arith) (search arith)
+      either-way (λ change. Lowers thread Fat 5 (let-go sight change 0 ExitLeave))
+      (both (sight .entryempty) (both (sight .contentionempty) (eqb (sight .waiters) 0))) (search arith) (search arith)
 
   pub decide-lowers : (doing : Doing) → ReliesOn (phase-row doing .reliance) thread (sight .word) (sight .flag) (sight .holder)
       → Lowers thread (sight .word) (doing-left (sight .word) doing) (decide thread sight doing)
-  unfolding decide enter-look enter-store cancel enter-check enter-try exit-owned exit-store exit-go-in exit-test exit-tell exit-leave wait-owned wait-inflate wait-give-up
-      wait-resume notify-owned notify-all-owned
+  unfolding decide enter-look enter-store cancel enter-check enter-try exit-owned exit-store exit-go-in exit-test exit-tell exit-leave wait-owned
+      wait-inflate wait-give-up wait-resume notify-owned notify-all-owned
   decide-lowers EnterLook relies =
       by-word EnterLook (enter-look thread sight) (
         search arith,
         search arith,
         search arith,
-        λ owner c. either-lowers (Flat owner c) 4 (eqb owner thread) _ _ (either-lowers (Flat owner c) 4 (ltb c count-limit) _ _ (search arith) (search arith)) (search arith),
-        λ owner c. either-lowers (Reserved owner c) 6 (eqb owner thread) _ _ (either-lowers (Reserved owner c) 6 (ltb c count-limit) _ _ (search arith) (search arith)) (search arith),
+        λ owner c. either-lowers (Flat owner c) 4 (eqb owner thread) _ _
+            (either-lowers (Flat owner c) 4 (ltb c count-limit) _ _ (search arith) (search arith)) (search arith),
+        λ owner c. either-lowers (Reserved owner c) 6 (eqb owner thread) _ _
+            (either-lowers (Reserved owner c) 6 (ltb c count-limit) _ _ (search arith) (search arith)) (search arith),
       )
   decide-lowers (EnterStore c) relies = either-lowers (sight .word) 5 (ltb c count-limit) _ _ (store-lowers c (c + 1) (relies .0)) tt
   decide-lowers EnterCancel relies = cancel-lowers EnterLook (λ word clear. omega (arith, look-clear 4 word clear)) (sight .word)
@@ -140,7 +144,13 @@ module _ (thread : ℕ) (sight : Sight) where
       ))
   decide-lowers EnterTry relies =
       by-held 1 _
-      (by-word EnterTry (enter-try thread sight) (search arith, search arith, search arith, λ owner c. either-lowers (Flat owner c) 1 (eqb owner thread) _ _ (search arith) (search arith), search arith))
+      (by-word EnterTry (enter-try thread sight) (
+        search arith,
+        search,
+        search,
+        λ owner c. either-lowers (Flat owner c) 1 (eqb owner thread) _ _ (search arith) (search arith),
+        search,
+      ))
   decide-lowers ExitLook relies =
       by-owned ExitLook (exit-owned sight) (
         search arith,
@@ -159,10 +169,23 @@ module _ (thread : ℕ) (sight : Sight) where
   decide-lowers (WaitCancel limit) relies = cancel-lowers (WaitLook limit) (λ word clear. omega (arith, look-clear 4 word clear)) (sight .word)
   decide-lowers (WaitGoIn limit) relies = go-in-lowers (ToInflate limit)
   decide-lowers (WaitInflate limit) relies =
-      by-held 2 _ (by-word (WaitInflate limit) (wait-inflate thread sight limit) (search, search, search, λ owner c. either-lowers (Flat owner c) 2 (eqb owner thread) _ _ (search arith) (search arith), search))
+      by-held 2 _
+      (by-word (WaitInflate limit) (wait-inflate thread sight limit)
+      (search, search, search, λ owner c. either-lowers (Flat owner c) 2 (eqb owner thread) _ _ (search arith) (search arith), search))
   decide-lowers (WaitGiveUp limit) relies =
-      by-held 1 _ (by-word (WaitGiveUp limit) (wait-give-up sight limit) (search, search, either-lowers Fat 1 (eqb (sight .depth) 0) _ _ (search arith) (search arith), search, search))
+      by-held 1 _
+      (by-word (WaitGiveUp limit) (wait-give-up sight limit)
+      (search, search, either-lowers Fat 1 (eqb (sight .depth) 0) _ _ (search arith) (search arith), search, search))
   decide-lowers (WaitResume suspension) relies =
-      by-held 1 _ (by-word (WaitResume suspension) (wait-resume sight suspension) (search, search, either-lowers Fat 1 (eqb (sight .depth) 0) _ _ (search arith) (search arith), search, search))
-  decide-lowers NotifyLook relies = by-owned NotifyLook (notify-owned sight) (search arith, search arith, (either-lowers Fat 1 (eqb (sight .waiters) 0) _ _ (search arith) (search arith), omega arith), search arith, search arith)
+      by-held 1 _
+      (by-word (WaitResume suspension) (wait-resume sight suspension)
+      (search, search, either-lowers Fat 1 (eqb (sight .depth) 0) _ _ (search arith) (search arith), search, search))
+  decide-lowers NotifyLook relies =
+      by-owned NotifyLook (notify-owned sight) (
+        search arith,
+        search arith,
+        (either-lowers Fat 1 (eqb (sight .waiters) 0) _ _ (search arith) (search arith), omega arith),
+        search arith,
+        search arith,
+      )
   decide-lowers NotifyAllLook relies = by-owned NotifyAllLook (notify-all-owned sight) (search arith)

@@ -91,6 +91,10 @@ pub const MAX_OBJECTS: u32 = 64;
 /// The longest limit of a timed wait, in ticks; the shortest is 1.
 pub const MAX_TICKS: u32 = 65_535;
 
+/// The most steps that a thread takes of its own from beginning an operation, or from being unparked, until it finishes, is refused or parks, in
+/// whatever order the events of the others come; [`Table::step`] has more.
+pub const MAX_STEPS: u32 = 6;
+
 /// The version of a table's bytes, which rises whenever they change.
 pub const LAYOUT_VERSION: u32 = 2;
 
@@ -267,6 +271,27 @@ impl Table {
     /// assert!(outcome.unparked.iter().eq([1]));
     /// assert_eq!(table.step(1).result, Err(Refusal::ThreadIdle));
     /// table.begin(1, Operation::Enter, 1)?;
+    /// # Ok::<(), Refusal>(())
+    /// ```
+    ///
+    /// No thread spins. On a table that came from [`Table::fresh`] by events alone a thread takes at most [`MAX_STEPS`] steps from beginning an enter, an
+    /// exit or a wait, one from beginning a notify, two from being unparked and one if it is to resume, a refused step other than `NotOwner` or `TooDeep`
+    /// being none. With the last of them it finishes, is refused or parks. Bytes taken from elsewhere may be a sound table that no events lead to, and
+    /// there it may take more.
+    ///
+    /// ```
+    /// use duskclamp::{Answer, MAX_STEPS, Operation, Phase, Refusal, Table, Words};
+    /// let mut table = Table::fresh(2, 1, Words::Reserved)?;
+    /// table.begin(1, Operation::Enter, 1)?;
+    /// table.step(1).result?;
+    ///
+    /// // The object is reserved for thread 1: thread 2 looks, cancels, looks, goes in, checks and tries.
+    /// table.begin(2, Operation::Enter, 1)?;
+    /// for _ in 1..MAX_STEPS {
+    ///     assert_eq!(table.step(2).result, Ok(Answer::GoneOn));
+    /// }
+    /// assert_eq!(table.step(2).result, Ok(Answer::Parked));
+    /// assert_eq!(table.phase(2), Ok(Phase::Contending));
     /// # Ok::<(), Refusal>(())
     /// ```
     pub fn step(&mut self, thread: u32) -> Outcome {
