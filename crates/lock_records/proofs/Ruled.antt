@@ -47,7 +47,7 @@ refusal-ruled NoSuchOperation high = (omega arith, omega arith)
 refusal-ruled LimitOutOfRange high = (omega arith, omega arith)
 
 module _ (threads objects : ℕ) (lists : ListTable) (plain : Plain) (world : World lists plain) where
-  step-ruled : (t : ℕ) (doing : Doing) → 1 ≤ t → t ≤ threads → lists .threads t .state ≡ Running doing → RuledReply (step-at lists t doing .reply)
+  pub step-ruled : (t : ℕ) (doing : Doing) → 1 ≤ t → t ≤ threads → lists .threads t .state ≡ Running doing → RuledReply (step-at lists t doing .reply)
   step-ruled t doing low high e =
       let same : turn threads objects lists (Step t) ≡ step-at lists t doing = simp (le-leb 1 t low, le-leb t threads high, e) in
       let after = subst (λ (result : TurnOf ListTable). World (result .table) (feed plain (Step t) (result .reply))) same
