@@ -4,6 +4,7 @@ use crate::engine::{apply, Event};
 use crate::exits::{check_parked, let_out};
 use crate::met::Met;
 use crate::outcome::{Outcome, Returned};
+use crate::own_steps::{phases, OwnSteps};
 use crate::plain::PlainMonitors;
 use crate::replay::{open_schedule, Line};
 use crate::run_queue::CheckedQueue;
@@ -11,11 +12,12 @@ use crate::sound::is_sound;
 use crate::table::Table;
 use crate::unparked::check_unparked;
 
-/// A run of the engine with the plain monitors and an interpreter's run queue beside it.
+/// A run of the engine with the plain monitors, an interpreter's run queue and the count of own steps beside it.
 pub struct Checked {
     pub table: Table,
     pub plain: PlainMonitors,
     pub queue: CheckedQueue,
+    pub own_steps: OwnSteps,
     pub met: Met,
 }
 
@@ -41,6 +43,7 @@ impl Checked {
             plain: PlainMonitors::new(table.objects),
             table,
             queue: CheckedQueue::default(),
+            own_steps: OwnSteps::default(),
             met: Met::default(),
         }
     }
@@ -62,7 +65,20 @@ impl Checked {
         check_table(&self.table, &self.plain)?;
         self.queue.feed(event, outcome, &let_out, &mut self.met);
         self.queue.check(&self.table)?;
+        self.count_own_steps(&before, event, outcome.returned)?;
         Ok(outcome)
+    }
+
+    fn count_own_steps(
+        &mut self,
+        before: &Table,
+        event: Event,
+        returned: Returned,
+    ) -> Result<(), String> {
+        let (before, after) = (phases(before), phases(&self.table));
+        self.own_steps
+            .feed(event, returned, &before, &after, &mut self.met);
+        self.own_steps.check(&after)
     }
 }
 

@@ -5,7 +5,7 @@ use crate::engine::{apply, Event};
 use crate::random::Random;
 use crate::table::{Operation, Phase, Table, MAX_LIMIT, MAX_OBJECTS, MAX_THREADS};
 use crate::word::MAX_COUNT;
-use crate::{aimed_exits, aimed_ticks};
+use crate::{aimed_exits, aimed_steps, aimed_ticks};
 use std::io::Write;
 
 /// Sizes up to which most tables go.
@@ -24,14 +24,17 @@ enum Target {
     Exits(u64),
     /// Ticks that hand several monitors, so many times.
     Ticks(u64),
+    /// Exits and waits of six steps, at so many objects.
+    Steps(u8),
 }
 
 impl Target {
-    /// Three schedules in ten aim at exits, and two at ticks.
+    /// Three schedules in ten aim at exits, two at ticks, and one at steps.
     fn draw(random: &mut Random) -> Target {
         match random.between(1, 10) {
             1..=3 => Target::Exits(random.between(1, 3)),
             4..=5 => Target::Ticks(random.between(1, 2)),
+            6 => Target::Steps(random.between(2, 5) as u8),
             _ => Target::Nothing,
         }
     }
@@ -42,7 +45,12 @@ impl Target {
             Target::Nothing => (1, 1),
             Target::Exits(_) => (aimed_exits::LEAST_THREADS, 1),
             Target::Ticks(_) => (aimed_ticks::LEAST, aimed_ticks::LEAST),
+            Target::Steps(objects) => (aimed_steps::LEAST_THREADS, objects),
         }
+    }
+
+    fn needs_reserved(self) -> bool {
+        matches!(self, Target::Steps(_))
     }
 }
 
@@ -83,7 +91,7 @@ impl Plan {
         Plan {
             threads,
             objects,
-            reserved: random.percent(50),
+            reserved: aim.needs_reserved() || random.percent(50),
             busy_threads: some_of(random, threads, least_threads, most_threads),
             busy_objects: some_of(random, objects, 1, most_objects),
             aim,
@@ -245,6 +253,7 @@ impl Generator {
             Target::Nothing => return,
             Target::Exits(times) => aimed_exits::events(random, table, threads, object, times),
             Target::Ticks(times) => aimed_ticks::events(random, table, threads, times),
+            Target::Steps(objects) => aimed_steps::events(random, table, threads, objects),
         };
         for event in events {
             write_event_line(event, &mut self.text);

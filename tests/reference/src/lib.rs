@@ -1,10 +1,12 @@
 //! A second implementation of the lock engine, its replay, its report and the checks made with them.
 //! Written from the specification alone, so that agreement with the proved one says something. In comments "document 01" is the specification, and
 //! "request L1", "request L2" and "request L3" the customer's requests for timed waits, on exits that waited for a stranger, and to be told which
-//! threads an event unparked, which amend it; "request L4" is that for a report on many schedules.
+//! threads an event unparked, which amend it; "request L4" is that for a report on many schedules, and "request L5" the one that bounds a thread's
+//! own steps by six.
 
 pub mod aim;
 pub mod aimed_exits;
+pub mod aimed_steps;
 pub mod aimed_ticks;
 pub mod arguments;
 pub mod checked;
@@ -16,6 +18,7 @@ pub mod generate;
 pub mod long_cases;
 pub mod met;
 pub mod outcome;
+pub mod own_steps;
 pub mod plain;
 pub mod program;
 pub mod random;

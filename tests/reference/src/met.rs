@@ -1,4 +1,5 @@
-//! What a run of schedules is to meet often enough, and how often it did: exits that end without going in, and events that unpark others.
+//! What a run of schedules is to meet often enough, and how often it did: exits that end without going in, events that unpark others, and threads
+//! that take as many steps of their own as they may.
 
 use crate::engine::Event;
 use crate::exits::let_out;
@@ -28,9 +29,16 @@ pub enum Rare {
     /// Events behind which a run queue holds an exit that was let out, and steps by which such a one leaves it.
     LetOutQueued,
     LetOutStepped,
+    /// Threads that have taken as many steps of their own as they may, from the begin or from being unparked.
+    SixStepsOfEnter,
+    SixStepsOfExit,
+    SixStepsOfWait,
+    SixStepsOfTimedWait,
+    TwoStepsUnparked,
+    OneStepOfResume,
 }
 
-const RARE: usize = 14;
+const RARE: usize = 20;
 
 impl Rare {
     pub const ALL: [Rare; RARE] = [
@@ -48,9 +56,15 @@ impl Rare {
         Rare::LastThread,
         Rare::LetOutQueued,
         Rare::LetOutStepped,
+        Rare::SixStepsOfEnter,
+        Rare::SixStepsOfExit,
+        Rare::SixStepsOfWait,
+        Rare::SixStepsOfTimedWait,
+        Rare::TwoStepsUnparked,
+        Rare::OneStepOfResume,
     ];
 
-    /// All but those of a run queue, which only runs from a fresh table have.
+    /// All but those of a run queue and of own steps, which only runs from a fresh table have.
     pub fn of_events() -> &'static [Rare] {
         &Rare::ALL[..Rare::LetOutQueued as usize]
     }
@@ -77,6 +91,12 @@ impl Kind for Rare {
             Rare::LastThread => "sets with thread 32",
             Rare::LetOutQueued => "events with an exit let out in the run queue",
             Rare::LetOutStepped => "exits let out that a step took from the run queue",
+            Rare::SixStepsOfEnter => "enters of six own steps",
+            Rare::SixStepsOfExit => "exits of six own steps",
+            Rare::SixStepsOfWait => "waits of six own steps",
+            Rare::SixStepsOfTimedWait => "timed waits of six own steps",
+            Rare::TwoStepsUnparked => "threads of two own steps from being unparked",
+            Rare::OneStepOfResume => "resumes of one own step from being unparked",
         }
     }
 

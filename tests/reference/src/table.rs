@@ -10,7 +10,7 @@ pub const MAX_DEPTH: u16 = u16::MAX;
 /// The longest limit of a timed wait, in ticks.
 pub const MAX_LIMIT: u16 = u16::MAX;
 
-#[derive(Clone, Copy, Debug, PartialEq, Eq)]
+#[derive(Clone, Copy, Debug, PartialEq, Eq, PartialOrd, Ord)]
 pub enum Operation {
     Enter,
     Exit,

@@ -1,5 +1,6 @@
 //! Thirty-two threads of random operations through the wrapper, behind events that aim at exits which end without going in and at ticks that hand several
-//! monitors, with the plain monitors and an interpreter's run queue as checks. Every other table takes the threads to be stepped from that queue alone.
+//! monitors, with the plain monitors, an interpreter's run queue and the count of own steps as checks. Every other table takes the threads to be stepped
+//! from that queue alone. On the first tables all events aim at six steps of a thread.
 //! Usage: stress [STEPS] [SEED]
 
 use duskclamp::{Answer, Operation, Phase, Refusal, Table, Words};
@@ -8,12 +9,15 @@ use reference::checked::check_table;
 use reference::engine::Event;
 use reference::met::{Met, Rare};
 use reference::outcome::{Outcome, Returned};
+use reference::own_steps::{OwnSteps, Phases, Start, IDLE, PARKED};
 use reference::plain::PlainMonitors;
 use reference::random::Random;
 use reference::report::Report;
 use reference::run_queue::CheckedQueue;
+use reference::table::MAX_OBJECTS;
 use reference::thread_set::ThreadSet;
-use reference::{aimed_exits, aimed_ticks};
+use reference::{aimed_exits, aimed_steps, aimed_ticks};
+use std::collections::BTreeMap;
 use std::process::ExitCode;
 use tables::layout::{decode, phase_byte};
 
@@ -24,15 +28,16 @@ const THREADS: u32 = 32;
 const ROUND: u64 = 100_000;
 /// Events between two comparisons of the whole table.
 const COMPARED: u64 = 64;
-/// How often each table is begun with events that aim at exits which end without going in, and at ticks that hand several monitors. From so many steps
-/// on, a run must have met what is rare.
+/// On so many tables, the first, all events aim at exits and waits of six steps, once at each object. Few come up at random, since an object's
+/// reservation is cancelled for good.
+const STEP_TABLES: u64 = 12;
+/// How often each other table is begun with events that aim at exits which end without going in, and at ticks that hand several monitors. From so many
+/// steps on, a run must have met what is rare.
 const EXIT_AIMS: u64 = 12;
 const TICK_AIMS: u64 = 16;
 const WHOLE_RUN: u64 = 1_000_000;
-/// The phases of a thread that is idle, of one about to go in, and of those that are parked.
-const IDLE: u8 = 0;
+/// The phase of a thread about to go in.
 const GO_IN: u8 = 4;
-const PARKED: [u8; 3] = [5, 8, 14];
 /// Ticks in percent of events.
 const TICKS: u64 = 5;
 /// Limits up to which most timed waits go, and up to which a few do.
@@ -67,7 +72,8 @@ fn run_tables(steps: u64, seed: u64, report: &mut Report) -> Tally {
     let mut total = Tally::default();
     while total.steps < steps {
         let round_seed = seed.wrapping_add(total.tables);
-        let mut round = Round::new(round_seed, total.tables % 2 == 0);
+        let (aims_at_steps, by_queue) = (total.tables < STEP_TABLES, total.tables % 2 == 0);
+        let mut round = Round::new(round_seed, aims_at_steps, by_queue);
         let result = round.run(ROUND.min(steps - total.steps));
         let failed = result.is_err();
         report.check(&format!("round of seed {round_seed}"), result);
@@ -89,6 +95,8 @@ struct Tally {
     woken: u64,
     ticks: u64,
     run_out: u64,
+    /// The most steps of its own that a thread took from each start.
+    own_steps: BTreeMap<Start, u32>,
     met: Met,
 }
 
@@ -102,7 +110,15 @@ impl Tally {
         self.woken += other.woken;
         self.ticks += other.ticks;
         self.run_out += other.run_out;
+        for (start, taken) in &other.own_steps {
+            self.note_own_steps(*start, *taken);
+        }
         self.met.add_all(&other.met);
+    }
+
+    fn note_own_steps(&mut self, start: Start, taken: u32) {
+        let most = self.own_steps.entry(start).or_default();
+        *most = taken.max(*most);
     }
 
     fn print(&self) {
@@ -114,6 +130,7 @@ impl Tally {
             "{} finished, {} parked, {} woken, {} ticks, {} run out",
             self.finished, self.parked, self.woken, self.ticks, self.run_out
         );
+        println!("most own steps: {:?}", self.own_steps);
         self.met.print(&Rare::ALL);
     }
 }
@@ -124,11 +141,15 @@ struct Round {
     table: Table,
     plain: PlainMonitors,
     queue: CheckedQueue,
+    own_steps: OwnSteps,
+    /// Whether all events aim at six steps.
+    aims_at_steps: bool,
     /// Whether threads are chosen by the run queue and their answers, and not by their phases.
     by_queue: bool,
     /// The threads at an operation, by their own answers: one that was let out is among them until its step is refused with 15.
     at_work: ThreadSet,
-    /// The parked threads, by the bytes behind the last event.
+    /// The phases, and the parked threads, by the bytes behind the last event.
+    phases: Phases,
     parked: ThreadSet,
     /// The operation and the object that a thread last began.
     operations_of: [Operation; THREADS as usize],
@@ -137,18 +158,26 @@ struct Round {
 }
 
 impl Round {
-    fn new(seed: u64, by_queue: bool) -> Round {
+    fn new(seed: u64, aims_at_steps: bool, by_queue: bool) -> Round {
         let mut random = Random::new(seed);
-        let objects = random.pick(&[1, 2, 4, 8, 64]);
-        let words = random.pick(&[Words::Free, Words::Reserved]);
+        let (objects, words) = match aims_at_steps {
+            true => (MAX_OBJECTS as u32, Words::Reserved),
+            false => (
+                random.pick(&[1, 2, 4, 8, 64]),
+                random.pick(&[Words::Free, Words::Reserved]),
+            ),
+        };
         Round {
             random,
             objects,
             table: Table::fresh(THREADS, objects, words).expect("sizes in range"),
             plain: PlainMonitors::new(objects as u8),
             queue: CheckedQueue::default(),
+            own_steps: OwnSteps::default(),
+            aims_at_steps,
             by_queue,
             at_work: ThreadSet::default(),
+            phases: [IDLE; THREADS as usize],
             parked: ThreadSet::default(),
             operations_of: [Operation::Enter; THREADS as usize],
             objects_of: [1; THREADS as usize],
@@ -159,7 +188,7 @@ impl Round {
     fn run(&mut self, steps: u64) -> Result<(), String> {
         self.aim(steps)?;
         let mut events = 0;
-        while self.tally.steps < steps {
+        while self.tally.steps < steps && !self.aims_at_steps {
             let result = match self.choose_thread() {
                 None if !self.one_is_due_soon() => break,
                 Some(thread) if !self.random.percent(TICKS) => self.turn(thread),
@@ -174,17 +203,9 @@ impl Round {
         self.compare()
     }
 
-    /// Events that aim, made by the second engine; the whole table is compared after each.
+    /// Takes the events that aim; the whole table is compared after each.
     fn aim(&mut self, steps: u64) -> Result<(), String> {
-        let threads: Vec<u8> = (1..=THREADS as u8).collect();
-        let object = self.random.between(1, self.objects.into()) as u8;
-        let mut table = decode(self.table.bytes()).ok_or("the bytes are no table")?;
-        let random = &mut self.random;
-        let mut events = aimed_exits::events(random, &mut table, &threads, object, EXIT_AIMS);
-        if self.objects >= aimed_ticks::LEAST.into() {
-            events.extend(aimed_ticks::events(random, &mut table, &threads, TICK_AIMS));
-        }
-        for (place, event) in events.into_iter().enumerate() {
+        for (place, event) in self.aimed_events()?.into_iter().enumerate() {
             if self.tally.steps == steps {
                 break;
             }
@@ -193,6 +214,22 @@ impl Round {
                 .map_err(|wrong| format!("aimed event {place}, {event:?}: {wrong}"))?;
         }
         Ok(())
+    }
+
+    /// Events that aim, made by the second engine.
+    fn aimed_events(&mut self) -> Result<Vec<Event>, String> {
+        let threads: Vec<u8> = (1..=THREADS as u8).collect();
+        let mut table = decode(self.table.bytes()).ok_or("the bytes are no table")?;
+        let (random, objects) = (&mut self.random, self.objects as u8);
+        if self.aims_at_steps {
+            return Ok(aimed_steps::events(random, &mut table, &threads, objects));
+        }
+        let object = random.between(1, objects.into()) as u8;
+        let mut events = aimed_exits::events(random, &mut table, &threads, object, EXIT_AIMS);
+        if objects >= aimed_ticks::LEAST {
+            events.extend(aimed_ticks::events(random, &mut table, &threads, TICK_AIMS));
+        }
+        Ok(events)
     }
 
     fn aimed_event(&mut self, event: Event) -> Result<(), String> {
@@ -353,9 +390,12 @@ impl Round {
         Ok(())
     }
 
-    /// Holds an event to the plain monitors and to the run queue: a thread's in the phase, or a tick.
+    /// Holds an event to the plain monitors, to the run queue and to the count of own steps: a thread's in the phase, or a tick.
     fn feed(&mut self, event: Event, phase: Option<u8>, outcome: Outcome) -> Result<(), String> {
         self.plain.feed(event, outcome)?;
+        let before = self.phases;
+        self.phases = std::array::from_fn(|place| self.phase(place as u32 + 1));
+        self.count_own_steps(event, outcome.returned, &before)?;
         self.check_set(outcome)?;
         self.tally.met.note_unparked(phase, outcome)?;
         match (event, outcome.returned) {
@@ -373,9 +413,25 @@ impl Round {
         Ok(())
     }
 
+    fn count_own_steps(
+        &mut self,
+        event: Event,
+        returned: Returned,
+        before: &Phases,
+    ) -> Result<(), String> {
+        let met = &mut self.tally.met;
+        self.own_steps
+            .feed(event, returned, before, &self.phases, met);
+        if let Event::Step { thread } = event {
+            let count = self.own_steps.count(thread as u8);
+            self.tally.note_own_steps(count.start, count.taken);
+        }
+        self.own_steps.check(&self.phases)
+    }
+
     /// The set of the last event, by the bytes before and behind it.
     fn check_set(&mut self, outcome: Outcome) -> Result<(), String> {
-        let is_parked = |thread: &u8| PARKED.contains(&self.phase((*thread).into()));
+        let is_parked = |thread: &u8| PARKED.contains(&self.phases[usize::from(*thread) - 1]);
         let parked: ThreadSet = (1..=THREADS as u8).filter(is_parked).collect();
         let (given, expected) = (outcome.unparked.bits(), self.parked.bits() & !parked.bits());
         self.parked = parked;
