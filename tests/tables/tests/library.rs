@@ -24,6 +24,12 @@ fn the_two_engines_agree() {
     assert_eq!(run.finish(false), ExitCode::SUCCESS);
 }
 
+/// The wrapper's number of steps is the one that the stress program holds the library to.
+#[test]
+fn the_most_steps_are_the_second_program_s() {
+    assert_eq!(duskclamp::MAX_STEPS, reference::own_steps::MOST);
+}
+
 /// Returned with nothing to store: all refusals but 18 and 19, which make the thread idle.
 fn stores_nothing(number: u8) -> bool {
     matches!(number, 11..=17 | 20 | 23)
