@@ -17,7 +17,7 @@ ROOT = pathlib.Path(__file__).resolve().parent.parent
 DOCUMENT = ROOT / 'docs' / 'ARCHITECTURE.md'
 MARKS = ('<!-- written by tools/believed.py -->', '<!-- end of what tools/believed.py writes -->')
 CLAIM = [(('lock_schedule', 'Demand'), 'DemandThree')]
-STEPS = [(('step_bounds', 'SixSteps'), 'SixSteps')]
+STEPS = [(('step_bounds', 'SixSteps'), 'SixSteps'), (('lock_schedule', 'StepsByStart'), 'StepsByStart')]
 ENGINE = [(('lock_engine', 'Handle'), 'handle')]
 REPORT = [(('report_counts', 'Report'), 'ReportRight')]
 
@@ -36,8 +36,9 @@ class Specs:
         self.imports, self.definitions, self.owner = {}, {}, {}
         for module, names in IMPORT.findall(text):
             for name in filter(None, map(str.strip, names.split(','))):
-                original, _, local = name.partition(' as ')
-                self.imports[local or original] = (module, original)
+                path, _, local = name.partition(' as ')
+                inner, _, original = path.rpartition('.')
+                self.imports[local or original] = ('.'.join(filter(None, (module, inner))), original)
         self.code = [line for line in IMPORT.sub('', text).splitlines() if line.strip() and not line.strip().startswith('--')]
         self._define()
 
@@ -112,7 +113,7 @@ def described(files, met):
 
 
 def besides(starts, files, met, stops=()):
-    """What is met from these and not among those: how much it is, and a row for each crate. It is among those then."""
+    """What is met from these and not among those: how much it is, and a row for each crate. Adds it to those."""
     more_files, more_met = reached(starts, stops)
     more_files = {place: specs for place, specs in more_files.items() if place not in files}
     more_met = {place: names for place, names in more_met.items() if place not in met}

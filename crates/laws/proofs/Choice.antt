@@ -98,6 +98,15 @@ pub both-no : (b : Bool) → both b false ≡ false
 both-no true = refl
 both-no false = refl
 
+-- a test does not pass beside its opposite
+pub both-not : (b : Bool) → both b (not b) ≡ false
+both-not true = refl
+both-not false = refl
+
+pub not-both : (b : Bool) → both (not b) b ≡ false
+not-both true = refl
+not-both false = refl
+
 pub either-no : (b : Bool) → either b false ≡ b
 either-no true = refl
 either-no false = refl

@@ -2,17 +2,16 @@
 use Prim.Native.Nat.{ℕ}
 use mathlib.Core.Path.{_≡_, refl, sym, ap, _∙_, subst}
 use mathlib.Core.Logic.{_≢_}
-use mathlib.Core.Bool.{Bool, true, false}
 use mathlib.Core.List.{List, [], _∷_}
 use native.Mathlib.Omega.{arith}
-use lib.Dec.{T, eqb}
+use lib.Dec.{T}
 use borrow.Author.Tests.{eq-eqb, ne-eqb}
-use Rattle.laws.specs.{Choice.pick, Count.count}
+use Rattle.laws.specs.Count.{count}
 use Rattle.laws.proofs.Choice.{either-way, equal?, by-test}
 use Rattle.laws.proofs.Count.{count-none}
 use Rattle.laws.proofs.Update.{update-other}
 use Rattle.chains.specs.declared.named.Chain.{Chain}
-use Rattle.lock_rules.specs.{Rules.decide, PlainMonitor.above-zero}
+use Rattle.lock_rules.specs.Rules.{decide}
 use Rattle.lock_rules.specs.Feed.{OperationLog, Plain, feed, LetOutRight}
 use Rattle.lock_rules.specs.declared.{Doing.Doing, ThreadState.ThreadState, ChainWork.ChainWork, Action.Action}
 use Rattle.lock_rules.specs.declared.OnwardStep.the-variants.{ToTell}
@@ -26,8 +25,8 @@ use Rattle.lock_rules.proofs.Each.{each-state, each-carried}
 use Rattle.lock_rules.proofs.Changes.{handed, moved, is-queued-exit, let-out-state, sent-back}
 use Rattle.lock_rules.proofs.Status.{unfinished, Runs}
 use Rattle.lock_rules.proofs.Objects.{ListObject, chain-of, empty, sight-of}
-use Rattle.lock_rules.proofs.Perform.{taken, changed-states, handed-object, handed-states, moved-states, states-after, effected, perform}
-use Rattle.lock_rules.proofs.Tick.{expired, tick-at}
+use Rattle.lock_rules.proofs.Perform.{taken, changed-states, changed-so, handed-states, moved-states, states-after, effected, perform}
+use Rattle.lock_rules.proofs.Tick.{expired, tick-at, by-tick}
 use Rattle.lock_rules.proofs.Quiet.{moved-quiet, sent-back-quiet, changed-quiet, expired-quiet, quiet-busy}
 use Rattle.lock_rules.proofs.TableKinds.{TurnOf, by-event}
 use Rattle.lock_rules.proofs.Tables.{ListThread, ListTable, states-at, step-at, list-kind, turn, seen-here}
@@ -43,8 +42,8 @@ handed-busy : (state : ThreadState) → T (unfinished state) → T (unfinished (
 handed-busy = each-state _ (search)
 
 handed-on : (states : ℕ → ThreadState) (o : ListObject) (t : ℕ) → T (unfinished (states t)) → T (unfinished (handed-states states o t))
-handed-on states o t busy =
-    by-test (λ (state : ThreadState). T (unfinished state)) (above-zero (count t (taken First (o .entry)))) (λ there. handed-busy (states t) busy) (λ away. busy)
+handed-on states o =
+    changed-so (λ before after. T (unfinished before) → T (unfinished after)) (λ state busy. busy) handed handed-busy states (taken First (o .entry))
 
 -- who is let out was a queued exit, and was one before the contenders moved
 pub exit-is : (state : ThreadState) → T (is-queued-exit state) → state ≡ Queued ToTell
@@ -58,7 +57,7 @@ let-out-exit state busy idle = by-test (λ after. after ≡ Idle → T (is-queue
 
 pub moved-from : (states : ℕ → ThreadState) (t : ℕ) (list : List ℕ) → T (is-queued-exit (changed-states moved states list t)) → T (is-queued-exit (states t))
 moved-from states t list =
-    by-test (λ (state : ThreadState). T (is-queued-exit state) → T (is-queued-exit (states t))) (above-zero (count t list)) (λ there. moved-exit (states t)) (λ away exits. exits)
+    changed-so (λ before after. T (is-queued-exit after) → T (is-queued-exit before)) (λ state exits. exits) moved moved-exit states list t
 
 module _ (states : ℕ → ThreadState) (t : ℕ) (busy : T (unfinished (states t))) where
   work-ends : (work : ChainWork) (o : ListObject) → states-after work states o t ≡ Idle → T (is-queued-exit (states t))
@@ -78,17 +77,10 @@ module _ (states : ℕ → ThreadState) (t : ℕ) (busy : T (unfinished (states 
       (sym (update-other (states-after (effect .work) states (effected thread effect o)) thread (effect .state) t other) ∙ idle)
 
   tick-ends : {A : Type 0} (o : ListObject) → tick-at states o .states t ≡ Idle → A
-  tick-ends o = busy≢idle _ (at (empty (o .waiting)) (eqb (expired states o .object .holder) 0))
-    where
-      gone : T (unfinished (expired states o .states t))
-      gone = quiet-busy (expired-quiet states o t) busy
-
-      at : (none free : Bool)
-          → T (unfinished (pick none (record { states = states; object = o })
-          (pick free (record { states = handed-states (expired states o .states) (expired states o .object); object = handed-object (expired states o .object) }) (expired states o)) .states t))
-      at true free = busy
-      at false true = handed-on (expired states o .states) (expired states o .object) t gone
-      at false false = gone
+  tick-ends o =
+      let moved-on = quiet-busy (expired-quiet states o t) busy in
+      busy≢idle _
+      (by-tick states o (λ result. T (unfinished (result .states t))) busy (handed-on (expired states o .states) (expired states o .object) t moved-on) (λ held. moved-on))
 
 -- a queued exit has committed once, and its answer was 1 with 0
 exit-answered : (log : OperationLog) → Logged (Queued ToTell) log → LetOutRight log

@@ -6,7 +6,7 @@ use mathlib.Core.Bool.{Bool, false}
 use mathlib.Core.List.{List, [], _∷_, _++_, cons≢nil}
 use native.Mathlib.Omega.{arith}
 use Rattle.laws.specs.{Choice.pick, Update.update, Count.count, Filter.failing}
-use Rattle.laws.proofs.Count.{count-append}
+use Rattle.laws.proofs.{Count.count-append, Choice.by-test}
 use Rattle.chains.specs.declared.named.Chain.{Chain}
 use Rattle.lock_rules.proofs.Changes.{seen-after, handed, moved, is-queued-exit, let-out-state, sent-back}
 use Rattle.lock_rules.specs.declared.{ThreadState.ThreadState, Taken.Taken, ChainWork.ChainWork, Answer.Answer, Effect.Effect, Action.Action}
@@ -77,6 +77,11 @@ first-of (first ∷ rest) = first
 -- the states, with those of some threads changed
 abbrev pub changed-states : (ThreadState → ThreadState) → (ℕ → ThreadState) → List ℕ → ℕ → ThreadState
 changed-states change states list t = pick (above-zero (count t list)) (change (states t)) (states t)
+
+-- what relates each state to itself and to what the change makes of it, relates every thread's state before to its state after
+pub changed-so : (R : ThreadState → ThreadState → Type 0) → ((state : ThreadState) → R state state) → (change : ThreadState → ThreadState)
+    → ((state : ThreadState) → R state (change state)) → (states : ℕ → ThreadState) (list : List ℕ) (t : ℕ) → R (states t) (changed-states change states list t)
+changed-so R same change changes states list t = by-test (R (states t)) (above-zero (count t list)) (λ there. changes (states t)) (λ away. same (states t))
 
 -- a thread joins a chain
 abbrev pub joined-object : Chain → ℕ → ListObject → ListObject

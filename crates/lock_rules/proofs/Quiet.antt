@@ -3,16 +3,13 @@ use Prim.Native.Nat.{ℕ}
 use mathlib.Core.Path.{_≡_, refl, sym, _∙_, subst}
 use mathlib.Core.List.{List}
 use lib.Dec.{T}
-use Rattle.laws.specs.Count.{count}
-use Rattle.laws.proofs.Choice.{by-test}
-use Rattle.lock_rules.specs.PlainMonitor.{above-zero}
 use Rattle.lock_rules.specs.declared.ThreadState.{ThreadState}
 use Rattle.lock_rules.proofs.Each.{each-state}
 use Rattle.lock_rules.proofs.Changes.{moved, sent-back}
 use Rattle.lock_rules.proofs.Status.{unparked, unfinished}
 use Rattle.lock_rules.proofs.Objects.{ListObject}
-use Rattle.lock_rules.proofs.Perform.{changed-states}
-use Rattle.lock_rules.proofs.Tick.{one-tick-less, aged, parting, expired}
+use Rattle.lock_rules.proofs.Perform.{changed-states, changed-so}
+use Rattle.lock_rules.proofs.Tick.{one-tick-less, expired, expired-so}
 
 pub record Quiet (before after : ThreadState) : Type 0 where
   pub parks : unparked after ≡ unparked before
@@ -33,15 +30,14 @@ ticked-quiet = each-state _ (search)
 -- made in any threads' states
 pub changed-quiet : (change : ThreadState → ThreadState) → ((state : ThreadState) → Quiet state (change state)) → (states : ℕ → ThreadState) (list : List ℕ) (t : ℕ)
     → Quiet (states t) (changed-states change states list t)
-changed-quiet change quiet states list t = by-test (Quiet (states t)) (above-zero (count t list)) (λ there. quiet (states t)) (λ away. same-quiet (states t))
+changed-quiet = changed-so Quiet same-quiet
 
-both-quiet : {a b c : ThreadState} → Quiet a b → Quiet b c → Quiet a c
-both-quiet first second = record { parks = second .parks ∙ first .parks; works = second .works ∙ first .works }
+behind-quiet : (a b c : ThreadState) → Quiet a b → Quiet b c → Quiet a c
+behind-quiet a b c first second = record { parks = second .parks ∙ first .parks; works = second .works ∙ first .works }
 
 -- a tick, until a monitor is handed
 pub expired-quiet : (states : ℕ → ThreadState) (o : ListObject) (t : ℕ) → Quiet (states t) (expired states o .states t)
-expired-quiet states o t =
-    both-quiet (changed-quiet one-tick-less ticked-quiet states (o .waiting) t) (changed-quiet moved moved-quiet (aged states o) (parting states o .gone) t)
+expired-quiet states o = expired-so states o Quiet same-quiet behind-quiet ticked-quiet moved-quiet
 
 -- nobody's operation ends
 pub quiet-busy : {before after : ThreadState} → Quiet before after → T (unfinished before) → T (unfinished after)

@@ -4,9 +4,8 @@ use mathlib.Core.Path.{_≡_, refl, sym, _∙_}
 use mathlib.Core.Logic.{_≢_}
 use mathlib.Core.Bool.{Bool, true, false}
 use native.Mathlib.Omega.{arith}
-use lib.Dec.{eqb}
 use Rattle.laws.specs.{Choice.pick, Count.count}
-use Rattle.laws.proofs.Choice.{by-test, by-equal, either-way, equal?, above-zero as some-left}
+use Rattle.laws.proofs.Choice.{either-way, equal?, above-zero as some-left}
 use Rattle.laws.proofs.Filter.{count-passing}
 use Rattle.chains.specs.declared.named.Chain.{Chain}
 use Rattle.lock_rules.specs.Limits.{one-less, ticked, no-ticks, at-zero}
@@ -18,7 +17,7 @@ use Rattle.lock_rules.specs.declared.Taken.the-variants.{First}
 use Rattle.lock_rules.proofs.Changes.{moved, handed}
 use Rattle.lock_rules.proofs.Objects.{ListObject, empty}
 use Rattle.lock_rules.proofs.Perform.{taken, count-taken, count-entered-all, handed-object, handed-states}
-use Rattle.lock_rules.proofs.Tick.{Ticked, one-tick-less, run-out-in, aged, due, parting, expired, tick-at}
+use Rattle.lock_rules.proofs.Tick.{Ticked, one-tick-less, run-out-in, aged, due, parting, expired, tick-at, by-tick}
 use Rattle.lock_rules.proofs.Reliances.{is-waiting}
 use Rattle.lock_rules.proofs.Membership.{PlacedAt, Members, placed-unmoved, placed-left, members-moved, members-handed}
 use Rattle.lock_rules.proofs.SharedFacts.{idle-changed}
@@ -74,10 +73,8 @@ module _ (threads : ℕ) (states : ℕ → ThreadState) (o : ListObject) (sound 
 
   pub ticked-fine : ((t : ℕ) → StateFine (states t)) → (t : ℕ) → StateFine (tick-at states o .states t)
   ticked-fine fine t =
-      by-test (λ (result : Ticked). StateFine (result .states t)) (empty (o .waiting)) (λ none. fine t)
-      (λ some. by-test (λ (result : Ticked). StateFine (result .states t)) (eqb (after .object .holder) 0)
-      (λ free. changed-fine (after .states) (expired-fine fine) handed handed-fine (taken First (after .object .entry)) t)
-      (λ held. expired-fine fine t))
+      by-tick states o (λ result. StateFine (result .states t)) (fine t)
+      (changed-fine (after .states) (expired-fine fine) handed handed-fine (taken First (after .object .entry)) t) (λ held. expired-fine fine t)
 
   idle-zero : after .states 0 ≡ Idle
   idle-zero = idle-changed moved refl (aged states o) (parting states o .gone) 0 (idle-changed one-tick-less refl states (o .waiting) 0 (sound .nobody))
@@ -136,6 +133,4 @@ module _ (threads : ℕ) (states : ℕ → ThreadState) (o : ListObject) (sound 
         }
 
     pub ticked-sound : SoundObject threads (tick-at states o .states) (tick-at states o .object)
-    ticked-sound =
-        by-test (λ (result : Ticked). SoundObject threads (result .states) (result .object)) (empty (o .waiting)) (λ none. sound)
-        (λ some. by-equal (λ (result : Ticked). SoundObject threads (result .states) (result .object)) (o .holder) 0 (λ free. free-sound) held-sound)
+    ticked-sound = by-tick states o (λ result. SoundObject threads (result .states) (result .object)) sound free-sound held-sound

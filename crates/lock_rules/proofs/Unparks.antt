@@ -9,7 +9,7 @@ use native.Mathlib.Omega.{arith}
 use lib.Dec.{T, eqb}
 use borrow.Author.Tests.{eq-eqb, ne-eqb, eqb-true}
 use Rattle.laws.specs.{Choice.pick, Choice.both, Count.count}
-use Rattle.laws.proofs.Choice.{either-way, equal?, both-first, both-second, false≢true, holds, failed}
+use Rattle.laws.proofs.Choice.{either-way, equal?, both-first, both-second, not-both, false≢true, holds, failed}
 use Rattle.laws.proofs.Update.{update-same, update-other}
 use Rattle.chains.specs.declared.named.Chain.{Chain}
 use Rattle.lock_rules.specs.Rules.{begun}
@@ -50,11 +50,6 @@ unparks-says before after in-set = (failed before (both-first (not before) after
 pub says-unparks : (before after : Bool) → before ≡ false → T after → both (not before) after ≡ true
 says-unparks before after parked free = rw (parked) (holds after free)
 
--- nobody is both
-never : (b : Bool) → false ≡ both (not b) b
-never true = refl
-never false = refl
-
 -- first a quiet change, then one that may unpark
 then-passed : {a b c : ThreadState} {named : Bool} → Quiet a b → Passed named b c → Passed named a c
 then-passed {a} {b} {c} quiet after =
@@ -65,7 +60,7 @@ then-passed {a} {b} {c} quiet after =
 
 quiet-passed : {a b : ThreadState} → Quiet a b → Passed false a b
 quiet-passed {a} {b} quiet =
-    record { names = never (unparked a) ∙ ap (both (not (unparked a))) (sym (quiet .parks)); stays = λ free. (rw (quiet .parks) free, quiet .works) }
+    record { names = sym (not-both (unparked a)) ∙ ap (both (not (unparked a))) (sym (quiet .parks)); stays = λ free. (rw (quiet .parks) free, quiet .works) }
 
 -- who is handed the monitor was queued
 handed-passed : (states : ℕ → ThreadState) (o : ListObject) (t : ℕ) → PlacedAt t (states t) o

@@ -27,8 +27,8 @@ use Rattle.lock_records.proofs.{Represents.Represents, FreshRecords.fresh-repre
 use Rattle.lock_records.proofs.Claim.{schedule-represents, phase-is}
 use Rattle.lock_records.proofs.Parking.{runs-so}
 use Rattle.lock_engine.specs.{Outcome.reply-returned, Handle.handle}
-use Rattle.step_bounds.specs.SixSteps.{is-step, steps-after, along, steps-taken, SixSteps}
-use Rattle.step_bounds.specs.Starts.{NotBegun, most-from, start-after, start-of-steps}
+use Rattle.step_bounds.specs.SixSteps.{is-step, own-steps, kept-after, along, steps-taken, SixSteps}
+use Rattle.step_bounds.specs.Starts.{NotBegun, Unparked, most-from, own-start, start-of-steps}
 use Rattle.step_bounds.proofs.{Counting.most-six, EveryEvent.left-to}
 use Rattle.step_bounds.proofs.Schedules.{runs-some, along-lists, lists-within}
 use Rattle.lock_schedule.specs.Schedule.{final-of}
@@ -37,20 +37,20 @@ use Rattle.lock_schedule.proofs.Theorem.{event-same, from-fresh}
 use Rattle.lock_schedule.proofs.Interpreter.{told}
 
 -- what is kept along a schedule of the engine is what is kept along that on lists
-along-same : (threads objects : ℕ) → 1 ≤ threads → 1 ≤ objects → {A : Type 0} (keep : Event → ℕ → ℕ → ℕ → A → A) (n : ℕ) (events : List Event) (kept : A)
+along-same : (threads objects : ℕ) → 1 ≤ threads → 1 ≤ objects → {A : Type 0} (unparked : ℕ → A) (own : Event → ℕ → A → A) (n : ℕ) (events : List Event) (kept : A)
     (t : Table) (lists : ListTable) → Represents threads objects t lists → SoundTable threads objects lists
-    → along keep n kept t events ≡ along-lists threads objects keep n kept lists events
-along-same threads objects some-threads some-objects keep n [] kept t lists represents sound = refl
-along-same threads objects some-threads some-objects keep n (event ∷ rest) kept t lists represents sound =
+    → along unparked own n kept t events ≡ along-lists threads objects unparked own n kept lists events
+along-same threads objects some-threads some-objects unparked own n [] kept t lists represents sound = refl
+along-same threads objects some-threads some-objects unparked own n (event ∷ rest) kept t lists represents sound =
     let after = told threads objects t lists represents sound event (event-same threads objects some-threads some-objects t lists represents sound event) in
     let result = turn threads objects lists event in
     let next = handle t event .table in
-    let same : keep event (reply-returned (handle t event .reply)) (phase-number-at t n) (phase-number-at next n) kept
-    ≡ keep event (returned (result .reply)) (phase-of (lists .threads n .state)) (phase-of (result .table .threads n .state)) kept =
-    λ j. keep event (after .number j) (phase-is threads objects t lists represents sound n j)
+    let same : kept-after unparked own n event (reply-returned (handle t event .reply)) (phase-number-at t n) (phase-number-at next n) kept
+    ≡ kept-after unparked own n event (returned (result .reply)) (phase-of (lists .threads n .state)) (phase-of (result .table .threads n .state)) kept =
+    λ j. kept-after unparked own n event (after .number j) (phase-is threads objects t lists represents sound n j)
     (phase-is threads objects next (result .table) (after .represents) (after .sound) n j) kept in
-    along-same threads objects some-threads some-objects keep n rest _ next (result .table) (after .represents) (after .sound)
-    ∙ ap (λ (k : _). along-lists threads objects keep n k (result .table) rest) same
+    along-same threads objects some-threads some-objects unparked own n rest _ next (result .table) (after .represents) (after .sound)
+    ∙ ap (λ (k : _). along-lists threads objects unparked own n k (result .table) rest) same
 
 -- a step that has a rule is one of its thread's own
 ruled-step : (answer : Answer) (commits : Bool) → RuledReply (Answered answer commits) → is-step (returned-of answer) ≡ true
@@ -89,10 +89,10 @@ module _ (request : FreshRequest) (in-range : InRange request) (events : List Ev
   abbrev lists : ListTable
   lists = fresh (request .reserved)
 
-  pub from-fresh-lists : {A : Type 0} (keep : Event → ℕ → ℕ → ℕ → A → A) (kept : A)
-      → along keep n kept first events ≡ along-lists (request .threads) (request .objects) keep n kept lists events
-  from-fresh-lists keep kept =
-      along-same (request .threads) (request .objects) (in-range .0) (in-range .2) keep n events kept first lists (fresh-represents request in-range)
+  pub from-fresh-lists : {A : Type 0} (unparked : ℕ → A) (own : Event → ℕ → A → A) (kept : A)
+      → along unparked own n kept first events ≡ along-lists (request .threads) (request .objects) unparked own n kept lists events
+  from-fresh-lists unparked own kept =
+      along-same (request .threads) (request .objects) (in-range .0) (in-range .2) unparked own n events kept first lists (fresh-represents request in-range)
       (sound-fresh (request .threads) (request .objects) (request .reserved))
 
   abbrev last : ListTable
@@ -101,10 +101,10 @@ module _ (request : FreshRequest) (in-range : InRange request) (events : List Ev
   -- steps taken and steps left
   all-within : steps-taken n first events + left-to last n ≤ most-from (start-of-steps n first events)
   all-within =
-      rw (from-fresh-lists (steps-after n) 0, from-fresh-lists (start-after n) NotBegun)
+      rw (from-fresh-lists (λ after. 0) own-steps 0, from-fresh-lists Unparked own-start NotBegun)
       (lists-within (request .threads) (request .objects) n events lists blank (world-fresh (request .reserved)) 0 NotBegun (omega arith))
 
-  pub steps-within : StepsWithin first events (final-of first events) n
+  steps-within : StepsWithin first events (final-of first events) n
   steps-within =
       let (reached, sound, same) = schedule-represents request in-range events in
       let represents : Represents (request .threads) (request .objects) (final-of first events) last = rw (from-fresh request in-range events .0) reached in

@@ -27,7 +27,7 @@ run-of request events =
 abbrev pub ClaimOfRun : FreshRequest → List Event → RunResult → Type 0
 ClaimOfRun request events result = InRange request → Claim (fresh-of request .table) events (result .table)
 
--- and the claim of document 02's L5, with what more is known of a thread's steps
+-- and the claims about its threads' own steps (document 02, L5)
 abbrev pub StepsOfRun : FreshRequest → List Event → RunResult → Type 0
 StepsOfRun request events result =
     InRange request → (n : ℕ) → let first = fresh-of request .table in (steps-taken n first events ≤ step-limit) × StepsWithin first events (result .table) n

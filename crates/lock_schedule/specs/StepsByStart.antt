@@ -1,4 +1,5 @@
--- The steps that a thread takes of its own, by what they are counted from: more than document 02 asks for with L5.
+-- The steps that a thread takes of its own, by what they are counted from (ours), and that with the last of them it "finishes, is refused or parks"
+-- (document 02, L5).
 use Prim.Native.Nat.{ℕ, _≤_, _<_}
 use mathlib.Core.Path.{_≡_}
 use mathlib.Core.Bool.{true}
@@ -17,8 +18,9 @@ use Rattle.lock_schedule.specs.Schedule.{final-of}
 
 -- of thread n and a schedule that came from one table to another
 pub record StepsWithin (first : Table) (events : List Event) (last : Table) (n : ℕ) : Type 0 where
+  -- ours: document 02 has six for all
   pub most : steps-taken n first events ≤ most-from (start-of-steps n first events)
-  -- While it is neither idle nor parked it has a step left, which nothing keeps it from taking; so with its last one it finishes, is refused or parks.
+  -- While it is neither idle nor parked it has a step left, and its next step is one. So with its last one it finishes, is refused or parks.
   pub unspent : CanStep last n → steps-taken n first events < most-from (start-of-steps n first events)
   pub able : CanStep last n → is-step (reply-returned (handle last (Step n) .reply)) ≡ true
 

@@ -6,7 +6,7 @@ use native.Mathlib.Omega.{arith}
 use lib.Dec.{eqb}
 use borrow.Author.Tests.{ne-eqb}
 use Rattle.laws.specs.Choice.{both, either}
-use Rattle.laws.proofs.Choice.{split, false≢true, by-equal, both-no, both-first, failed}
+use Rattle.laws.proofs.Choice.{split, false≢true, by-equal, both-no, both-not, both-first, failed}
 use Rattle.lock_word.specs.declared.meaning.WordSeen.{WordSeen}
 use Rattle.lock_rules.specs.Numbers.{phase-of, phase-of-doing, asked-for, first-refusal, refusal-number}
 use Rattle.lock_rules.specs.Operations.{Asked, Unknown, Known, Operation, timed-wait}
@@ -19,10 +19,10 @@ use Rattle.lock_rules.specs.declared.event.Refusal.the-variants.{NotSound, NoSu
 use Rattle.lock_rules.specs.declared.event.Refusal.the-variants.{NoSuchOperation, LimitOutOfRange}
 use Rattle.lock_rules.proofs.Each.{each-doing, each-state}
 use Rattle.lock_rules.proofs.{Status.unparked, SoundEffects.either-way}
-use Rattle.step_bounds.specs.SixSteps.{is-step, is-parked, is-unparked, own-steps, steps-after, step-limit}
-use Rattle.step_bounds.specs.Starts.{Start, NotBegun, Begun, Unparked, most-from, own-start, start-after}
+use Rattle.step_bounds.specs.SixSteps.{is-step, own-steps, is-parked-phase, kept-after, step-limit}
+use Rattle.step_bounds.specs.Starts.{Start, NotBegun, Begun, Unparked, most-from, own-start}
 use Rattle.step_bounds.proofs.Ranks.{left, look-six}
-use Rattle.step_bounds.proofs.RankMoves.{Falls}
+use Rattle.step_bounds.proofs.RankMoves.{Bounded}
 
 -- never more than six
 pub most-six : (start : Start) → most-from start ≤ step-limit
@@ -49,10 +49,10 @@ begun-left word number limit operation given asked =
     (λ n. by-equal fits number timed-wait (λ e. rw e (omega (arith, look-six 4 (omega arith) word))) (λ n. tt)))))))
 
 -- the phases of parked threads
-doing-unparked : (doing : Doing) → is-parked (phase-of-doing doing) ≡ false
+doing-unparked : (doing : Doing) → is-parked-phase (phase-of-doing doing) ≡ false
 doing-unparked = each-doing _ (search)
 
-parked-is : (state : ThreadState) → is-parked (phase-of state) ≡ not (unparked state)
+parked-is : (state : ThreadState) → is-parked-phase (phase-of state) ≡ not (unparked state)
 parked-is = each-state _ (refl, doing-unparked, λ carried. refl, refl, λ saved. refl)
 
 parked-none : (word : WordSeen) (state : ThreadState) → unparked state ≡ false → left word state ≡ 0
@@ -70,43 +70,42 @@ refused-none ThreadParked = refl
 refused-none NoSuchOperation = refl
 refused-none LimitOutOfRange = refl
 
+abbrev is-unparked : ThreadState → ThreadState → Bool
+is-unparked state next = both (is-parked-phase (phase-of state)) (not (is-parked-phase (phase-of next)))
+
 module _ (n : ℕ) (event : Event) (returned steps : ℕ) (start : Start) (word : WordSeen) (state : ThreadState) (word-after : WordSeen) (next : ThreadState) where
   abbrev pub Counted : Type 0
   Counted =
-      steps-after n event returned (phase-of state) (phase-of next) steps + left word-after next
-      ≤ most-from (start-after n event returned (phase-of state) (phase-of next) start)
+      kept-after (λ after. 0) own-steps n event returned (phase-of state) (phase-of next) steps + left word-after next
+      ≤ most-from (kept-after Unparked own-start n event returned (phase-of state) (phase-of next) start)
 
   -- an event of its own, when it was not parked
-  pub own-counted : own-event event returned n ≡ true → unparked state ≡ true → own-steps event returned steps + left word-after next ≤ most-from (own-start event start)
+  pub own-counted : own-event event returned n ≡ true → unparked state ≡ true → own-steps event returned steps + left word-after next ≤ most-from (own-start event returned start)
       → Counted
   own-counted own free within = rw (parked-is state, free, own) within
 
   -- any other, if it does not unpark the thread
-  stays-low : is-unparked (phase-of state) (phase-of next) ≡ false → Falls word state word-after next → left word-after next ≤ left word state
-  stays-low stays falls = at (unparked state) (unparked next) refl refl
+  stays-low : is-unparked state next ≡ false → Bounded word state word-after next → left word-after next ≤ left word state
+  stays-low stays bounded = at (unparked state) (unparked next) refl refl
     where
       at : (was is : Bool) → unparked state ≡ was → unparked next ≡ is → left word-after next ≤ left word state
-      at true is e q = rw e at falls
+      at true is e q = rw e at bounded
       at false true e q = false≢true (sym stays ∙ rw (parked-is state, parked-is next, e, q) refl)
       at false false e q = omega (arith, parked-none word-after next q)
 
-  pub other-counted : own-event event returned n ≡ false → Falls word state word-after next → steps + left word state ≤ most-from start → Counted
-  other-counted other falls within =
-      split (is-unparked (phase-of state) (phase-of next))
-      (λ freed. let parked : unparked state ≡ false = failed (unparked state) (sym (parked-is state) ∙ both-first (is-parked (phase-of state)) _ freed) in
-      rw freed (omega (arith, rw parked at falls)))
-      (λ stays. rw (stays, other) (omega (arith, within, stays-low stays falls)))
+  pub other-counted : own-event event returned n ≡ false → Bounded word state word-after next → steps + left word state ≤ most-from start → Counted
+  other-counted other bounded within =
+      split (is-unparked state next)
+      (λ freed. let parked : unparked state ≡ false = failed (unparked state) (sym (parked-is state) ∙ both-first (is-parked-phase (phase-of state)) _ freed) in
+      rw freed (omega (arith, rw parked at bounded)))
+      (λ stays. rw (stays, other) (omega (arith, within, stays-low stays bounded)))
 
 -- a refused event, its own or another's
-both-not : (b : Bool) → both b (not b) ≡ false
-both-not true = refl
-both-not false = refl
-
 pub refused-counted : (n : ℕ) (event : Event) (refusal : Refusal) → first-refusal < refusal-number refusal → (steps : ℕ) (start : Start) (word : WordSeen) (state : ThreadState)
     → steps + left word state ≤ most-from start → Counted n event (refusal-number refusal) steps start word state word state
 unfolding own-event
 refused-counted n (Begin number thread object limit) refusal high steps start word state within =
-    rw (both-not (is-parked (phase-of state)), ne-eqb (refusal-number refusal) 0 (λ e. omega (arith, high, e)), both-no (eqb n thread)) within
+    rw (both-not (is-parked-phase (phase-of state)), ne-eqb (refusal-number refusal) 0 (λ e. omega (arith, high, e)), both-no (eqb n thread)) within
 refused-counted n (Step thread) refusal high steps start word state within =
-    rw (both-not (is-parked (phase-of state)), refused-none refusal) (split (eqb n thread) (λ e. rw e within) (λ e. rw e within))
-refused-counted n Tick refusal high steps start word state within = rw (both-not (is-parked (phase-of state))) within
+    rw (both-not (is-parked-phase (phase-of state)), refused-none refusal) (split (eqb n thread) (λ e. rw e within) (λ e. rw e within))
+refused-counted n Tick refusal high steps start word state within = rw (both-not (is-parked-phase (phase-of state))) within

@@ -26,7 +26,7 @@ use Rattle.lock_rules.proofs.{Lift.World, Status.unparked}
 use Rattle.step_bounds.specs.SixSteps.{own-steps}
 use Rattle.step_bounds.specs.Starts.{Start, most-from}
 use Rattle.step_bounds.proofs.Ranks.{left}
-use Rattle.step_bounds.proofs.RankMoves.{Falls, same-falls, other-step, own-step, tick-falls}
+use Rattle.step_bounds.proofs.RankMoves.{Bounded, same-bounded, other-step, own-step, tick-bounded}
 use Rattle.step_bounds.proofs.Counting.{begun-left, Counted, own-counted, other-counted, refused-counted}
 
 -- the steps that a thread of the table has left
@@ -62,7 +62,7 @@ module _ (threads objects : ℕ) (table : ListTable) (plain : Plain) (world : Wo
         (rw (eq-eqb t t refl) refl) (rw idle refl) (omega (arith, begun-left (table .objects o .word) number limit operation given asked))))
         (λ away. let word = word-at table (table .threads n) in
         rw (update-other (table .threads) t thread n away)
-        (other-counted n (Begin number t o limit) 0 steps start word state word state (rw (ne-eqb n t away) refl) (same-falls word word (λ clear. clear) state) within))
+        (other-counted n (Begin number t o limit) 0 steps start word state word state (rw (ne-eqb n t away) refl) (same-bounded word word (λ clear. clear) state) within))
 
     -- a step of thread t, which is at the object `home`
     module _ (t : ℕ) (doing : Doing) (running : table .threads t .state ≡ Running doing) where
@@ -107,28 +107,28 @@ module _ (threads objects : ℕ) (table : ListTable) (plain : Plain) (world : Wo
       own-by e =
           let at-home = ap (λ (m : ℕ). table .threads m .object) e in
           let (thread, word) = there at-home in
-          let falls = subst Lowered (sym e) (own-step t (states-at table home) object doing relies steps here) in
+          let bounded = subst Lowered (sym e) (own-step t (states-at table home) object doing relies steps here) in
           let before : left (object .word) (states-at table home n) ≡ left-to table n =
           λ j. left (table .objects (sym at-home j) .word) (seen-here home (table .threads n) at-home j) in
           subst₂ CountedAt (sym word) (sym thread)
           (own-counted n (Step t) (returned-of (result .answer)) steps start (word-at table (table .threads n)) state (result .object .word) (result .states n)
-          (eq-eqb n t e) (ap (λ (m : ℕ). unparked (table .threads m .state)) e ∙ ap unparked running) (omega (arith, falls, before, within)))
+          (eq-eqb n t e) (ap (λ (m : ℕ). unparked (table .threads m .state)) e ∙ ap unparked running) (omega (arith, bounded, before, within)))
 
       other-by : n ≢ t → CountedAt (word-at turned (turned .threads n)) (turned .threads n)
       unfolding own-event
       other-by other =
           either-way (equal? (table .threads n .object) home)
           (λ here. let (thread, word) = there here in
-          let falls : Falls (word-at table (table .threads n)) state (result .object .word) (result .states n) =
-          subst₂ (λ (o : ℕ) (seen : ThreadState). Falls (table .objects o .word) seen (result .object .word) (result .states n)) (sym here)
+          let bounded : Bounded (word-at table (table .threads n)) state (result .object .word) (result .states n) =
+          subst₂ (λ (o : ℕ) (seen : ThreadState). Bounded (table .objects o .word) seen (result .object .word) (result .states n)) (sym here)
           (seen-here home (table .threads n) here) (other-step t (states-at table home) object doing relies n other) in
           subst₂ CountedAt (sym word) (sym thread)
           (other-counted n (Step t) (returned-of (result .answer)) steps start (word-at table (table .threads n)) state (result .object .word) (result .states n) (ne-eqb n t other)
-          falls within))
+          bounded within))
           (λ far. let (thread, word) = away far in
           let old = word-at table (table .threads n) in
           subst₂ CountedAt (sym word) (sym thread)
-          (other-counted n (Step t) (returned-of (result .answer)) steps start old state old state (ne-eqb n t other) (same-falls old old (λ clear. clear) state) within))
+          (other-counted n (Step t) (returned-of (result .answer)) steps start old state old state (ne-eqb n t other) (same-bounded old old (λ clear. clear) state) within))
 
       step-by : CountedBy (Step t) (step-at table t doing)
       step-by = either-way (equal? n t) own-by other-by
@@ -137,10 +137,10 @@ module _ (threads objects : ℕ) (table : ListTable) (plain : Plain) (world : Wo
     unfolding own-event
     tick-by =
         let home = table .threads n .object in
-        let falls = tick-falls (states-at table home) (table .objects home) n in
+        let bounded = tick-bounded (states-at table home) (table .objects home) n in
         let after = ticked-at table home in
         other-counted n Tick 0 steps start (table .objects home .word) state (after .object .word) (after .states n) refl
-        (rw (seen-here home (table .threads n) refl) at falls) within
+        (rw (seen-here home (table .threads n) refl) at bounded) within
 
     pub event-counted : (event : Event) → CountedBy event (turn threads objects table event)
     event-counted =

@@ -1,4 +1,4 @@
--- Whole schedules on tables with lists: from a fresh table a thread's steps, taken and left, are never more than there are from its start.
+-- Whole schedules on tables with lists: a thread's steps, taken and left, stay within what there are from its start.
 use Prim.Native.Nat.{ℕ, _+_, _≤_, _<_}
 use mathlib.Core.List.{List, [], _∷_}
 use native.Mathlib.Omega.{arith}
@@ -10,8 +10,8 @@ use Rattle.lock_rules.proofs.Each.{each-word, each-doing, each-state}
 use Rattle.lock_rules.proofs.Status.{Runs}
 use Rattle.lock_rules.proofs.Tables.{ListTable, turn, final}
 use Rattle.lock_rules.proofs.Lift.{World, world-turn}
-use Rattle.step_bounds.specs.SixSteps.{steps-after}
-use Rattle.step_bounds.specs.Starts.{Start, most-from, start-after}
+use Rattle.step_bounds.specs.SixSteps.{own-steps, kept-after}
+use Rattle.step_bounds.specs.Starts.{Start, Unparked, most-from, own-start}
 use Rattle.step_bounds.proofs.Ranks.{look-left, doing-left, left}
 use Rattle.step_bounds.proofs.EveryEvent.{left-to, event-counted}
 
@@ -31,15 +31,18 @@ runs-some word =
 
 module _ (threads objects : ℕ) where
   -- `along`, on lists
-  abbrev pub along-lists : {A : Type 0} → (Event → ℕ → ℕ → ℕ → A → A) → ℕ → A → ListTable → List Event → A
-  along-lists keep n kept table [] = kept
-  along-lists keep n kept table (event ∷ rest) =
+  abbrev pub along-lists : {A : Type 0} → (ℕ → A) → (Event → ℕ → A → A) → ℕ → A → ListTable → List Event → A
+  along-lists unparked own n kept table [] = kept
+  along-lists unparked own n kept table (event ∷ rest) =
       let result = turn threads objects table event in
-      along-lists keep n (keep event (returned (result .reply)) (phase-of (table .threads n .state)) (phase-of (result .table .threads n .state)) kept) (result .table) rest
+      let before = phase-of (table .threads n .state) in
+      let after = phase-of (result .table .threads n .state) in
+      along-lists unparked own n (kept-after unparked own n event (returned (result .reply)) before after kept) (result .table) rest
 
   pub lists-within : (n : ℕ) (events : List Event) (table : ListTable) (plain : Plain) → World table plain → (steps : ℕ) (start : Start)
       → steps + left-to table n ≤ most-from start
-      → along-lists (steps-after n) n steps table events + left-to (final threads objects table events) n ≤ most-from (along-lists (start-after n) n start table events)
+      → along-lists (λ after. 0) own-steps n steps table events + left-to (final threads objects table events) n
+      ≤ most-from (along-lists Unparked own-start n start table events)
   lists-within n [] table plain world steps start within = within
   lists-within n (event ∷ rest) table plain world steps start within =
       let result = turn threads objects table event in

@@ -5,14 +5,14 @@ use mathlib.Core.Bool.{Bool, true, false}
 use mathlib.Core.List.{List, [], _∷_, _++_}
 use Rattle.lock_rules.specs.declared.event.Event.{Event}
 use Rattle.lock_rules.specs.declared.event.Event.the-variants.{Begin, Step}
-use Rattle.lock_table.specs.Fresh.{fresh-of}
+use Rattle.lock_table.specs.Fresh.{sized-request, fresh-of}
 use Rattle.lock_table.specs.declared.fresh_table.FreshRequest.{FreshRequest}
 use Rattle.step_bounds.specs.SixSteps.{steps-taken, AtMost, step-limit}
 use Rattle.step_bounds.specs.Starts.{Start, Begun, Unparked, most-from, start-of-steps}
 
 -- so many threads and one object, whose word is anonymously reserved or free
 abbrev pub one-object : ℕ → Bool → FreshRequest
-one-object threads reserved = record { threads = threads; objects = 1; reserved = reserved }
+one-object threads reserved = sized-request threads 1 reserved
 
 -- a thread begins the operation of this number, without a limit
 abbrev pub begins : ℕ → ℕ → Event

@@ -5,47 +5,46 @@ use mathlib.Core.Bool.{Bool, not}
 use mathlib.Core.List.{List, [], _∷_}
 use lib.Dec.{eqb}
 use Rattle.laws.specs.Choice.{pick, both, either}
-use Rattle.lock_rules.specs.RunQueue.{own-event}
+use Rattle.lock_rules.specs.{RunQueue.own-event, Numbers.returned-of}
+use Rattle.lock_rules.specs.declared.Answer.the-variants.{GoneOn, Finished, Parked, NotOwner, TooDeep}
 use Rattle.lock_rules.specs.declared.event.Event.{Event}
 use Rattle.lock_rules.specs.declared.event.Event.the-variants.{Begin, Step, Tick}
-use Rattle.lock_table.specs.Access.{phase-number-at}
-use Rattle.lock_table.specs.Fresh.{InRange, fresh-of}
-use Rattle.lock_table.specs.declared.fresh_table.FreshRequest.{FreshRequest}
-use Rattle.lock_table.specs.declared.record.Table.{Table}
-use Rattle.lock_engine.specs.Outcome.{reply-returned}
-use Rattle.lock_engine.specs.Handle.{handle}
+use Rattle.lock_table.specs.{Access.phase-number-at, Fresh.InRange, Fresh.fresh-of}
+use Rattle.lock_table.specs.declared.{fresh_table.FreshRequest.FreshRequest, record.Table.Table}
+use Rattle.lock_engine.specs.{Outcome.reply-returned, Handle.handle}
 
--- what a step of its own returns; with any other number the thread took none
+-- what a step of its own returns: 0, 1, 2, 18 or 19; with any other number the thread took none
 abbrev pub is-step : ℕ → Bool
-is-step returned = either (eqb returned 0) (either (eqb returned 1) (either (eqb returned 2) (either (eqb returned 18) (eqb returned 19))))
+is-step returned =
+    either (eqb returned (returned-of GoneOn)) (either (eqb returned (returned-of (Finished 0))) (either (eqb returned (returned-of Parked))
+    (either (eqb returned (returned-of NotOwner)) (eqb returned (returned-of TooDeep)))))
 
--- parked: in phase 5, 8 or 14; unparked by an event: parked before it and not after
-abbrev pub is-parked : ℕ → Bool
-is-parked phase = either (eqb phase 5) (either (eqb phase 8) (eqb phase 14))
-
-abbrev pub is-unparked : ℕ → ℕ → Bool
-is-unparked before after = both (is-parked before) (not (is-parked after))
-
--- the count after an event of the thread's own, which returned this number: an accepted begin starts it again
+-- an event of the thread's own, which counts: an accepted begin starts the count again
 abbrev pub own-steps : Event → ℕ → ℕ → ℕ
 own-steps (Begin number thread object limit) returned steps = 0
 own-steps (Step thread) returned steps = pick (is-step returned) (steps + 1) steps
 own-steps Tick returned steps = steps
 
--- and after any event, with the phase of thread n before it and after: being unparked starts it again
-abbrev pub steps-after : ℕ → Event → ℕ → ℕ → ℕ → ℕ → ℕ
-steps-after n event returned before after steps =
-    pick (is-unparked before after) 0 (pick (own-event event returned n) (own-steps event returned steps) steps)
+-- the phases of parked threads; parked before an event and not after is unparked by it
+abbrev pub is-parked-phase : ℕ → Bool
+is-parked-phase phase = either (eqb phase 5) (either (eqb phase 8) (eqb phase 14))
 
--- what is kept of thread n along a schedule, event by event, from what each returned and from the tables before and after it
-abbrev pub along : {A : Type 0} → (Event → ℕ → ℕ → ℕ → A → A) → ℕ → A → Table → List Event → A
-along keep n kept table [] = kept
-along keep n kept table (event ∷ rest) =
+-- What is kept of thread n after an event: being unparked starts it again, by the phase that the thread is left in; else its own events change it.
+abbrev pub kept-after : {A : Type 0} → (ℕ → A) → (Event → ℕ → A → A) → ℕ → Event → ℕ → ℕ → ℕ → A → A
+kept-after unparked own n event returned before after kept =
+    pick (both (is-parked-phase before) (not (is-parked-phase after))) (unparked after) (pick (own-event event returned n) (own event returned kept) kept)
+
+-- along a schedule, from what each event returned and from the tables before and after it
+abbrev pub along : {A : Type 0} → (ℕ → A) → (Event → ℕ → A → A) → ℕ → A → Table → List Event → A
+along unparked own n kept table [] = kept
+along unparked own n kept table (event ∷ rest) =
     let outcome = handle table event in
-    along keep n (keep event (reply-returned (outcome .reply)) (phase-number-at table n) (phase-number-at (outcome .table) n) kept) (outcome .table) rest
+    let before = phase-number-at table n in
+    let after = phase-number-at (outcome .table) n in
+    along unparked own n (kept-after unparked own n event (reply-returned (outcome .reply)) before after kept) (outcome .table) rest
 
 abbrev pub steps-taken : ℕ → Table → List Event → ℕ
-steps-taken n table events = along (steps-after n) n 0 table events
+steps-taken n table events = along (λ after. 0) own-steps n 0 table events
 
 -- so many at most, in every schedule from any fresh table, of every thread
 abbrev pub AtMost : ℕ → Type 0

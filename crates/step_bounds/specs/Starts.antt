@@ -4,11 +4,10 @@ use Prim.Native.Nat.{ℕ}
 use mathlib.Core.List.{List}
 use lib.Dec.{eqb}
 use Rattle.laws.specs.Choice.{pick, either}
-use Rattle.lock_rules.specs.RunQueue.{own-event}
 use Rattle.lock_rules.specs.declared.event.Event.{Event}
 use Rattle.lock_rules.specs.declared.event.Event.the-variants.{Begin, Step, Tick}
 use Rattle.lock_table.specs.declared.record.Table.{Table}
-use Rattle.step_bounds.specs.SixSteps.{is-unparked, along, step-limit}
+use Rattle.step_bounds.specs.SixSteps.{along, step-limit}
 
 pub data Start : Type 0 where
   -- it has begun nothing
@@ -24,15 +23,12 @@ most-from NotBegun = 0
 most-from (Begun number) = pick (either (eqb number 4) (eqb number 5)) 1 step-limit
 most-from (Unparked phase) = pick (eqb phase 0) 0 (pick (eqb phase 15) 1 2)
 
--- It changes just where `steps-after` starts again: after an event of the thread's own, and after any event.
-abbrev pub own-start : Event → Start → Start
-own-start (Begin number thread object limit) start = Begun number
-own-start (Step thread) start = start
-own-start Tick start = start
+-- a thread's own event that counts: an accepted begin is a start
+abbrev pub own-start : Event → ℕ → Start → Start
+own-start (Begin number thread object limit) returned start = Begun number
+own-start (Step thread) returned start = start
+own-start Tick returned start = start
 
-abbrev pub start-after : ℕ → Event → ℕ → ℕ → ℕ → Start → Start
-start-after n event returned before after start =
-    pick (is-unparked before after) (Unparked after) (pick (own-event event returned n) (own-start event start) start)
-
+-- kept along a schedule as the count is, so it changes just where that starts again
 abbrev pub start-of-steps : ℕ → Table → List Event → Start
-start-of-steps n table events = along (start-after n) n NotBegun table events
+start-of-steps n table events = along Unparked own-start n NotBegun table events
