@@ -144,8 +144,8 @@ uint64_t duskclamp_timed_wait(uint8_t *bytes, size_t length, uint32_t thread, ui
  * that inflates the lock ends it, and has its thread in the set. That thread is idle then: its phase is 0, its next begin is accepted, and its next step
  * returns 15, which is the exit's 1 with the woken number 0.
  * No thread spins. On a table that came from duskclamp_fresh by events alone a thread takes at most DUSKCLAMP_STEPS steps that return 0, 1, 2, 18 or 19
- * from beginning an enter, an exit or a wait, 1 from beginning a notify, 2 from being unparked, or 1 if it is to resume; the last of them returns 1, 2,
- * 18 or 19. Other bytes may be a sound table that no events lead to, and there it may take more. */
+ * from beginning an enter, an exit or a wait, 1 from beginning a notify, 2 from being unparked, or 1 if it is to resume; with the last that it may
+ * take the step returns 1, 2, 18 or 19. Other bytes may be a sound table that no events lead to, and there it may take more. */
 uint64_t duskclamp_step(uint8_t *bytes, size_t length, uint32_t thread);
 
 /* One tick of the clock, taken from every timed wait that is in a waiting chain. Those with none left run out: they join the entry chain, from the lowest

@@ -30,7 +30,7 @@ use Rattle.lock_rules.proofs.Objects.{ListObject, chain-of}
 use Rattle.lock_rules.proofs.Perform.{changed-states, is-handed, first-of, handed-object, handed-states, count-entered-all}
 use Rattle.lock_rules.proofs.Tick.{Ticked, one-tick-less, run-out-in, aged, due, parting, expired, handed-if-free}
 use Rattle.lock_rules.proofs.{Reliances.is-waiting, Invariant.in-waiting}
-use Rattle.lock_rules.proofs.{SharedFacts.idle-changed, ListSound.SoundTable}
+use Rattle.lock_rules.proofs.{SharedFacts.expired-idle, ListSound.SoundTable}
 use Rattle.lock_rules.proofs.ListChains.{member-at, member-in, short}
 use Rattle.lock_rules.proofs.Tables.{ListThread, ListTable, states-at, seen-here}
 use Rattle.lock_table.specs.Limits.{thread-limit}
@@ -275,8 +275,7 @@ module _ (threads objects : ℕ) (t : Table) (lists : ListTable) (represents : R
   idle-still : placed-after 0 .state ≡ Idle
   idle-still =
       by-test (λ (thread : ListThread). thread .state ≡ Idle) (eqb (lists .threads 0 .object) o)
-      (λ at-o. idle-changed moved refl (aged states here) (parting states here .gone) 0
-      (idle-changed one-tick-less refl states (here .waiting) 0 (sound .sound o .nobody))) (λ away. nobody threads objects lists sound)
+      (λ at-o. expired-idle states here 0 (sound .sound o .nobody)) (λ away. nobody threads objects lists sound)
 
   abbrev at-hand : Monitor
   at-hand = monitor-record o links (here .holder) (here .depth)

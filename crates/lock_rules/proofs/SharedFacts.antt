@@ -17,9 +17,10 @@ use Rattle.lock_rules.specs.declared.{Suspension.Suspension, ThreadState
 use Rattle.lock_rules.specs.declared.ThreadState.the-variants.{Idle, Waiting}
 use Rattle.lock_word.specs.declared.meaning.WordSeen.{WordSeen}
 use Rattle.lock_word.specs.declared.meaning.WordSeen.the-variants.{Free, Anonymous, Fat, Flat, Reserved}
-use Rattle.lock_rules.specs.PlainMonitor.{PlainMonitor, above-zero}
-use Rattle.lock_rules.proofs.{Each.each-word, Objects.ListObject, Reliances.KeepsReliance, Reliances.is-waiting}
-use Rattle.lock_rules.proofs.Perform.{enter-queue, entered≢nil, changed-states}
+use Rattle.lock_rules.specs.PlainMonitor.{PlainMonitor}
+use Rattle.lock_rules.proofs.Tick.{one-tick-less, expired, expired-so}
+use Rattle.lock_rules.proofs.{Each.each-word, Changes.moved, Objects.ListObject, Reliances.KeepsReliance, Reliances.is-waiting}
+use Rattle.lock_rules.proofs.Perform.{enter-queue, entered≢nil, changed-states, changed-so}
 use Rattle.lock_rules.proofs.Invariant.{seat, telling?, leaving?, in-entry, in-waiting, Ghost, IsFat, ThreadOk}
 use Rattle.lock_rules.proofs.Invariant.{FlatOf, Thin, KeptWord, MonitorOk, FlagOk, Told, Unstranded, Invariant}
 
@@ -144,11 +145,13 @@ none (x ∷ xs) e = absurd (omega (arith, e))
 -- a thread that was idle still is, where states are changed by a function that leaves idle as it is
 pub idle-changed : (change : ThreadState → ThreadState) → change Idle ≡ Idle → (states : ℕ → ThreadState) (list : List ℕ) (t : ℕ) → states t ≡ Idle
     → changed-states change states list t ≡ Idle
-idle-changed change fixed states list t e = at (above-zero (count t list))
-  where
-    at : (b : Bool) → pick b (change (states t)) (states t) ≡ Idle
-    at true = ap change e ∙ fixed
-    at false = e
+idle-changed change fixed = changed-so (λ before after. before ≡ Idle → after ≡ Idle) (λ state e. e) change (λ state e. ap change e ∙ fixed)
+
+-- and at a tick, until a monitor is handed
+pub expired-idle : (states : ℕ → ThreadState) (o : ListObject) (t : ℕ) → states t ≡ Idle → expired states o .states t ≡ Idle
+expired-idle states o =
+    expired-so states o (λ before after. before ≡ Idle → after ≡ Idle) (λ state e. e) (λ a b c first second e. second (first e)) (λ state e. ap one-tick-less e)
+    (λ state e. ap moved e)
 
 module _ (states : ℕ → ThreadState) (o : ListObject) (ghost : Ghost) (inv : Invariant states o ghost) where
   pub first-queued : (first : ℕ) (rest : List ℕ) → o .entry ≡ first ∷ rest → (first ≢ 0) × (in-entry (states first) ≡ suc (count first rest))

@@ -24,10 +24,9 @@ use Rattle.lock_rules.specs.declared.WordChange.the-variants.{Unchanged,
 use Rattle.lock_rules.specs.declared.Taken.the-variants.{First, All}
 use Rattle.lock_rules.specs.declared.ChainWork.the-variants.{Stay, Join, JoinAndHand, Hand, Move, MoveAndLetOut, SendBack}
 use Rattle.lock_rules.specs.declared.Action.the-variants.{Unruled, Do}
-use Rattle.lock_rules.specs.PlainMonitor.{above-zero}
 use Rattle.lock_rules.proofs.Each.{each-doing, each-state, each-chain}
 use Rattle.lock_rules.proofs.Objects.{ListObject, chain-of, empty}
-use Rattle.lock_rules.proofs.Perform.{count-join, taking, taken, left, count-taken, first-of, changed-states, joined-object, handed-object}
+use Rattle.lock_rules.proofs.Perform.{count-join, taking, taken, left, count-taken, first-of, changed-states, changed-so, joined-object, handed-object}
 use Rattle.lock_rules.proofs.Perform.{enter-queue-all, count-entered-all, moved-object, moved-states, states-after, object-after, effected, perform}
 use Rattle.lock_rules.proofs.Invariant.{InChains, Placed}
 use Rattle.lock_rules.proofs.Membership.{PlacedAt, placed-left, placed-unmoved, members-after}
@@ -76,7 +75,7 @@ module _ (states : ℕ → ThreadState) (fine : (t : ℕ) → StateFine (states 
 
   pub changed-fine : (change : ThreadState → ThreadState) → ((state : ThreadState) → StateFine state → StateFine (change state)) → (list : List ℕ) (t : ℕ)
       → StateFine (changed-states change states list t)
-  changed-fine change kept list t = either-way StateFine (above-zero (count t list)) (kept (states t) (fine t)) (fine t)
+  changed-fine change kept list t = changed-so (λ before after. StateFine before → StateFine after) (λ state is. is) change kept states list t (fine t)
 
   states-after-fine : (work : ChainWork) (o : ListObject) (t : ℕ) → StateFine (states-after work states o t)
   states-after-fine Stay o t = fine t

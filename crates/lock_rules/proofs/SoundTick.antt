@@ -17,10 +17,10 @@ use Rattle.lock_rules.specs.declared.Taken.the-variants.{First}
 use Rattle.lock_rules.proofs.Changes.{moved, handed}
 use Rattle.lock_rules.proofs.Objects.{ListObject, empty}
 use Rattle.lock_rules.proofs.Perform.{taken, count-taken, count-entered-all, handed-object, handed-states}
-use Rattle.lock_rules.proofs.Tick.{Ticked, one-tick-less, run-out-in, aged, due, parting, expired, tick-at, by-tick}
+use Rattle.lock_rules.proofs.Tick.{Ticked, run-out-in, aged, due, parting, expired, tick-at, by-tick}
 use Rattle.lock_rules.proofs.Reliances.{is-waiting}
 use Rattle.lock_rules.proofs.Membership.{PlacedAt, Members, placed-unmoved, placed-left, members-moved, members-handed}
-use Rattle.lock_rules.proofs.SharedFacts.{idle-changed}
+use Rattle.lock_rules.proofs.SharedFacts.{idle-changed, expired-idle}
 use Rattle.lock_rules.proofs.ListSound.{LimitFine, LeftFine, WaitingFine, StateFine, SoundObject}
 use Rattle.lock_rules.proofs.SoundPerform.{handed-fine, changed-fine, whole-handed}
 
@@ -77,7 +77,7 @@ module _ (threads : ℕ) (states : ℕ → ThreadState) (o : ListObject) (sound 
       (changed-fine (after .states) (expired-fine fine) handed handed-fine (taken First (after .object .entry)) t) (λ held. expired-fine fine t)
 
   idle-zero : after .states 0 ≡ Idle
-  idle-zero = idle-changed moved refl (aged states o) (parting states o .gone) 0 (idle-changed one-tick-less refl states (o .waiting) 0 (sound .nobody))
+  idle-zero = expired-idle states o 0 (sound .nobody)
 
   placed-zero : PlacedAt 0 Idle (after .object)
   placed-zero =

@@ -47,7 +47,8 @@ module _ (states : ℕ → ThreadState) (o : ListObject) where
         object = parted-object Chain.Waiting (parting .gone) (parting .kept) o;
       }
 
-  -- what holds of both changes, and of one behind the other, holds until then
+  -- what relates each state to itself and to what either change makes of it, and goes on over the next change, relates every thread's state before to
+  -- its state when they have moved
   pub expired-so : (R : ThreadState → ThreadState → Type 0) → ((state : ThreadState) → R state state) → ((a b c : ThreadState) → R a b → R b c → R a c)
       → ((state : ThreadState) → R state (one-tick-less state)) → ((state : ThreadState) → R state (moved state)) → (t : ℕ) → R (states t) (expired .states t)
   expired-so R same behind ticks moves t =

@@ -5,7 +5,6 @@ use mathlib.Core.Logic.{_≢_}
 use mathlib.Core.Bool.{Bool, true, false}
 use mathlib.Core.List.{List, [], _∷_}
 use native.Mathlib.Omega.{arith}
-use lib.Dec.{eqb}
 use Rattle.laws.specs.Choice.{pick, both, either}
 use Rattle.laws.specs.{Count.count, Filter.failing}
 use Rattle.laws.proofs.Choice.{split, by-equal, either-way, equal?, false≢true}
@@ -19,31 +18,22 @@ use Rattle.lock_rules.specs.declared.ThreadState.the-variants.{Idle, Wai
 use Rattle.lock_rules.specs.declared.Taken.the-variants.{First}
 use Rattle.lock_word.specs.declared.meaning.WordSeen.{WordSeen}
 use Rattle.lock_word.specs.declared.meaning.WordSeen.the-variants.{Free, Anonymous, Fat, Flat, Reserved}
-use Rattle.lock_rules.proofs.Changes.{moved, handed}
+use Rattle.lock_rules.proofs.Changes.{handed}
 use Rattle.lock_rules.proofs.Objects.{ListObject, empty, with-word}
 use Rattle.lock_rules.proofs.Perform.{taken, left, first-of, count-taken, handed-object, handed-states}
-use Rattle.lock_rules.proofs.Tick.{Ticked, one-tick-less, run-out-in, aged, due, parting, expired, handed-if-free, tick-at}
+use Rattle.lock_rules.proofs.Tick.{Ticked, run-out-in, aged, due, parting, expired, handed-if-free, tick-at, by-tick}
 use Rattle.lock_rules.proofs.Invariant.{IsFat, Ghost, ThreadOk, Invariant, monitor-of}
 use Rattle.lock_rules.proofs.Reliances.{is-waiting}
 use Rattle.lock_rules.proofs.Membership.{PlacedAt, placed-unmoved, placed-left, not-first}
 use Rattle.lock_rules.proofs.OtherThreads.{Others, others-ghost, others-moved, others-handed}
-use Rattle.lock_rules.proofs.SharedFacts.{idle-changed, nobody-waits, fat-unowned}
+use Rattle.lock_rules.proofs.SharedFacts.{idle-changed, expired-idle, nobody-waits, fat-unowned}
 
 -- an idle thread is left so
 pub ticked-idle : (states : ℕ → ThreadState) (o : ListObject) (t : ℕ) → states t ≡ Idle → tick-at states o .states t ≡ Idle
-ticked-idle states o t idle = at (empty (o .waiting)) (eqb (expired states o .object .holder) 0)
-  where
-    moved-idle : expired states o .states t ≡ Idle
-    moved-idle =
-        idle-changed moved refl (aged states o) (parting states o .gone) t (idle-changed one-tick-less refl states (o .waiting) t idle)
-
-    at : (none free : Bool)
-        → pick none (record { states = states; object = o })
-        (pick free (record { states = handed-states (expired states o .states) (expired states o .object); object = handed-object (expired states o .object) }) (expired states o)) .states t
-        ≡ Idle
-    at true free = idle
-    at false true = idle-changed handed refl (expired states o .states) (taken First (expired states o .object .entry)) t moved-idle
-    at false false = moved-idle
+ticked-idle states o t idle =
+    let after = expired states o in
+    let still = expired-idle states o t idle in
+    by-tick states o (λ result. result .states t ≡ Idle) idle (idle-changed handed refl (after .states) (taken First (after .object .entry)) t still) (λ held. still)
 
 -- what the plain monitors know of the threads after the tick
 abbrev pub ghost-after : ListObject → Ghost → Ghost
@@ -148,8 +138,7 @@ module _ (states : ℕ → ThreadState) (it : ListObject) (ghost : Ghost) (inv :
       (λ t n. aged-ok t))
 
   idle-zero : after .states 0 ≡ Idle
-  idle-zero =
-      idle-changed moved refl (aged states o) (parting states o .gone) 0 (idle-changed one-tick-less refl states (it .waiting) 0 (inv .whole .nobody))
+  idle-zero = expired-idle states o 0 (inv .whole .nobody)
 
   placed-zero : PlacedAt 0 Idle (after .object)
   placed-zero =

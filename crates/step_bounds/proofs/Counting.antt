@@ -70,6 +70,7 @@ refused-none ThreadParked = refl
 refused-none NoSuchOperation = refl
 refused-none LimitOutOfRange = refl
 
+-- the test of `kept-after`
 abbrev is-unparked : ThreadState → ThreadState → Bool
 is-unparked state next = both (is-parked-phase (phase-of state)) (not (is-parked-phase (phase-of next)))
 

@@ -107,12 +107,12 @@ module _ (threads objects : ℕ) (table : ListTable) (plain : Plain) (world : Wo
       own-by e =
           let at-home = ap (λ (m : ℕ). table .threads m .object) e in
           let (thread, word) = there at-home in
-          let bounded = subst Lowered (sym e) (own-step t (states-at table home) object doing relies steps here) in
+          let lowered = subst Lowered (sym e) (own-step t (states-at table home) object doing relies steps here) in
           let before : left (object .word) (states-at table home n) ≡ left-to table n =
           λ j. left (table .objects (sym at-home j) .word) (seen-here home (table .threads n) at-home j) in
           subst₂ CountedAt (sym word) (sym thread)
           (own-counted n (Step t) (returned-of (result .answer)) steps start (word-at table (table .threads n)) state (result .object .word) (result .states n)
-          (eq-eqb n t e) (ap (λ (m : ℕ). unparked (table .threads m .state)) e ∙ ap unparked running) (omega (arith, bounded, before, within)))
+          (eq-eqb n t e) (ap (λ (m : ℕ). unparked (table .threads m .state)) e ∙ ap unparked running) (omega (arith, lowered, before, within)))
 
       other-by : n ≢ t → CountedAt (word-at turned (turned .threads n)) (turned .threads n)
       unfolding own-event

@@ -34,7 +34,7 @@ use Rattle.step_bounds.proofs.RankRules.{Sends, Lowers, decide-lowers}
 abbrev pub Bounded : WordSeen → ThreadState → WordSeen → ThreadState → Type 0
 Bounded word state after next = left after next ≤ pick (unparked state) (left word state) (most-from (Unparked (phase-of next)))
 
--- a change that leaves a thread parked, or as it is
+-- a change that neither parks nor unparks a thread, and leaves it as many steps as it had
 record Calm (word : WordSeen) (before after : ThreadState) : Type 0 where
   parks : unparked after ≡ unparked before
   same : left word after ≡ left word before

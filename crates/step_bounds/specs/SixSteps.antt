@@ -19,17 +19,18 @@ is-step returned =
     either (eqb returned (returned-of GoneOn)) (either (eqb returned (returned-of (Finished 0))) (either (eqb returned (returned-of Parked))
     (either (eqb returned (returned-of NotOwner)) (eqb returned (returned-of TooDeep)))))
 
--- an event of the thread's own, which counts: an accepted begin starts the count again
+-- the count after an event of the thread's own (`own-event`: of begins those that are accepted): a begin starts it again
 abbrev pub own-steps : Event → ℕ → ℕ → ℕ
 own-steps (Begin number thread object limit) returned steps = 0
 own-steps (Step thread) returned steps = pick (is-step returned) (steps + 1) steps
 own-steps Tick returned steps = steps
 
--- the phases of parked threads; parked before an event and not after is unparked by it
+-- the phases of parked threads; who is in one of them before an event and in none after is unparked by it
 abbrev pub is-parked-phase : ℕ → Bool
 is-parked-phase phase = either (eqb phase 5) (either (eqb phase 8) (eqb phase 14))
 
--- What is kept of thread n after an event: being unparked starts it again, by the phase that the thread is left in; else its own events change it.
+-- What is kept of thread n after an event: here the count, in Starts.antt its start too. Being unparked starts it again, by the phase that the thread is
+-- left in; else the thread's own events change it.
 abbrev pub kept-after : {A : Type 0} → (ℕ → A) → (Event → ℕ → A → A) → ℕ → Event → ℕ → ℕ → ℕ → A → A
 kept-after unparked own n event returned before after kept =
     pick (both (is-parked-phase before) (not (is-parked-phase after))) (unparked after) (pick (own-event event returned n) (own event returned kept) kept)

@@ -23,7 +23,7 @@ most-from NotBegun = 0
 most-from (Begun number) = pick (either (eqb number 4) (eqb number 5)) 1 step-limit
 most-from (Unparked phase) = pick (eqb phase 0) 0 (pick (eqb phase 15) 1 2)
 
--- a thread's own event that counts: an accepted begin is a start
+-- after an event of the thread's own, as in `own-steps`: a begin is a start
 abbrev pub own-start : Event → ℕ → Start → Start
 own-start (Begin number thread object limit) returned start = Begun number
 own-start (Step thread) returned start = start

@@ -276,8 +276,8 @@ impl Table {
     ///
     /// No thread spins. On a table that came from [`Table::fresh`] by events alone a thread takes at most [`MAX_STEPS`] steps from beginning an enter, an
     /// exit or a wait, one from beginning a notify, two from being unparked, or one if it is to resume. Steps refused with anything but `NotOwner` or
-    /// `TooDeep` do not count. With the last of them it finishes, is refused or parks. Bytes taken from elsewhere may be a sound table that no events lead
-    /// to, and there it may take more.
+    /// `TooDeep` do not count. With the last one that does, it finishes, is refused or parks. Bytes taken from elsewhere may be a sound table that no
+    /// events lead to, and there it may take more.
     ///
     /// ```
     /// use duskclamp::{Answer, MAX_STEPS, Operation, Phase, Refusal, Table, Words};

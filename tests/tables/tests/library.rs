@@ -26,7 +26,7 @@ fn the_two_engines_agree() {
 
 /// The wrapper's number of steps is the one that the stress program holds the library to.
 #[test]
-fn both_have_the_same_most_steps() {
+fn the_two_numbers_of_steps_agree() {
     assert_eq!(duskclamp::MAX_STEPS, reference::own_steps::MOST);
 }
 
