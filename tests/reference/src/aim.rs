@@ -16,7 +16,23 @@ pub struct Aim<'a> {
     pub stuck: bool,
 }
 
-impl Aim<'_> {
+impl<'a> Aim<'a> {
+    /// With no object yet.
+    pub fn new(
+        random: &'a mut Random,
+        table: &'a mut Table,
+        limits: RangeInclusive<u64>,
+    ) -> Aim<'a> {
+        Aim {
+            random,
+            table,
+            object: 0,
+            limits,
+            events: Vec::new(),
+            stuck: false,
+        }
+    }
+
     /// Begins an operation and steps until it comes to the phase.
     pub fn go(&mut self, thread: u8, operation: Operation, phase: Phase) {
         self.begin(thread, operation);

@@ -58,14 +58,8 @@ pub fn events(
     object: u8,
     times: u64,
 ) -> Vec<Event> {
-    let mut aim = Aim {
-        random,
-        table,
-        object,
-        limits: LIMITS,
-        events: Vec::new(),
-        stuck: false,
-    };
+    let mut aim = Aim::new(random, table, LIMITS);
+    aim.object = object;
     for _ in 0..times {
         aim.wind_down(threads);
         let cast = Cast::draw(aim.random, threads);

@@ -15,14 +15,7 @@ const CHOICES: [Operation; 3] = [Operation::Exit, Operation::Wait, Operation::Ti
 /// Events that aim once at each of the first so many objects. The table is fresh, with reserved words, and goes along; behind them nobody is at an
 /// object, or owns one.
 pub fn events(random: &mut Random, table: &mut Table, threads: &[u8], objects: u8) -> Vec<Event> {
-    let mut aim = Aim {
-        random,
-        table,
-        object: 0,
-        limits: 1..=LONGEST,
-        events: Vec::new(),
-        stuck: false,
-    };
+    let mut aim = Aim::new(random, table, 1..=LONGEST);
     for object in 1..=objects {
         aim.object = object;
         aim.take_six(threads);

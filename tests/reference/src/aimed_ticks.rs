@@ -16,14 +16,7 @@ const WAITS_TOO: u64 = 60;
 
 /// Events that aim so many times. At most one object is in use before, and only by these threads; the table goes along.
 pub fn events(random: &mut Random, table: &mut Table, threads: &[u8], times: u64) -> Vec<Event> {
-    let mut aim = Aim {
-        random,
-        table,
-        object: 0,
-        limits: 1..=LONGEST,
-        events: Vec::new(),
-        stuck: false,
-    };
+    let mut aim = Aim::new(random, table, 1..=LONGEST);
     for _ in 0..times {
         for object in 1..=aim.table.objects {
             aim.object = object;
