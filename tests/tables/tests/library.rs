@@ -24,10 +24,13 @@ fn the_two_engines_agree() {
     assert_eq!(run.finish(false), ExitCode::SUCCESS);
 }
 
-/// The wrapper's number of steps is the one that the stress program holds the library to.
+/// The number of steps in the wrapper and in the header is the one that the stress program holds the library to.
 #[test]
-fn the_two_numbers_of_steps_agree() {
-    assert_eq!(duskclamp::MAX_STEPS, reference::own_steps::MOST);
+fn the_numbers_of_steps_agree() {
+    let most = reference::own_steps::MOST;
+    assert_eq!(duskclamp::MAX_STEPS, most);
+    let header = include_str!("../../../include/duskclamp.h");
+    assert!(header.contains(&format!("#define DUSKCLAMP_STEPS {most}\n")));
 }
 
 /// Returned with nothing to store: all refusals but 18 and 19, which make the thread idle.
