@@ -35,6 +35,23 @@ static void call_run(void) {
     answer = duskclamp_run(table, sizeof table, (const uint8_t *)events, sizeof events, answers, 3);
 }
 
+/* All threads have the same script, and run on a copy of the table to the end. */
+static uint8_t copy[DUSKCLAMP_TABLE_SIZE], script[2 * DUSKCLAMP_OPERATION_SIZE];
+static duskclamp_script cursors[DUSKCLAMP_THREADS];
+static uint64_t trace[64];
+
+static void make_scripts(void) {
+    memcpy(copy, table, sizeof copy);
+    for (uint32_t place = 0; place < DUSKCLAMP_THREADS; place++)
+        cursors[place] = (duskclamp_script){0, 2, 0};
+    script[0] = DUSKCLAMP_ENTER, script[2] = (uint8_t)(operation % 5 + 1);
+    script[1] = script[3] = (uint8_t)object;
+}
+
+static void call_dispatch(void) {
+    answer = duskclamp_dispatch(copy, sizeof copy, 1 + operation, script, sizeof script, cursors, DUSKCLAMP_THREADS, trace, 64);
+}
+
 static void call_questions(void) {
     answer = duskclamp_thread_count(table, sizeof table);
     answer = duskclamp_phase(table, sizeof table, thread);
@@ -72,7 +89,7 @@ static void keep(size_t *most, size_t found) {
 }
 
 int main(void) {
-    size_t fresh = 0, begin = 0, step = 0, tick = 0, run = 0, questions = 0, nothing = used(call_nothing);
+    size_t fresh = 0, begin = 0, step = 0, tick = 0, run = 0, dispatch = 0, questions = 0, nothing = used(call_nothing);
     for (int round = 0; round < 8; round++) {
         sizes = 32;
         kind = round % 2;
@@ -91,9 +108,13 @@ int main(void) {
                 keep(&tick, used(call_tick));
             if (event % 16 == 0)
                 keep(&questions, used(call_questions));
+            if (event % 16 == 4) {
+                make_scripts();
+                keep(&dispatch, used(call_dispatch));
+            }
         }
     }
-    printf("fresh %zu, begin %zu, step %zu, tick %zu, run %zu, questions %zu bytes\n", fresh - nothing, begin - nothing, step - nothing,
-           tick - nothing, run - nothing, questions - nothing);
+    printf("fresh %zu, begin %zu, step %zu, tick %zu, run %zu, dispatch %zu, questions %zu bytes\n", fresh - nothing, begin - nothing, step - nothing,
+           tick - nothing, run - nothing, dispatch - nothing, questions - nothing);
     return 0;
 }

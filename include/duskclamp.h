@@ -8,9 +8,9 @@
  * one table at the same time are a data race, as on any other memory: the caller sees to it that there is one at a time.
  *
  * `bytes` must point to `length` bytes that may be read and, where they are not const, written. That is all that is asked of a caller, with the events
- * and the room for answers of duskclamp_run: any bytes and any numbers are answered. A refused event stores nothing in the table, save that 18 and 19
- * make the thread's record that of an idle one. What each call answers, and which bytes it leaves, is proved of the library; this declaration of it is
- * not checked against its source.
+ * and the room for answers of duskclamp_run and the scripts, records and room for a trace of duskclamp_dispatch: any bytes and any numbers are answered.
+ * A refused event stores nothing in the table, save that 18 and 19 make the thread's record that of an idle one. What each call answers, and which bytes
+ * it leaves, is proved of the library; this declaration of it is not checked against its source.
  *
  * What bytes are no table, and are answered 11 by every call that takes a table:
  *  - any number of bytes but DUSKCLAMP_TABLE_SIZE;
@@ -23,8 +23,8 @@
  *     DUSKCLAMP_RETURNED(answer) == DUSKCLAMP_FINISHED
  * and never `answer == DUSKCLAMP_FINISHED`.
  *
- * Stack: a run needs up to 7.1 KB, a step and a tick 5.7 KB, a begin and a question 5.4 KB, a fresh table 4.7 KB, beside what memcpy and memset
- * need. So measured by bench/stack.c, on a stack filled with a pattern, over a long schedule; no function calls itself.
+ * Stack: a dispatch needs up to 9.6 KB, a run 7.1 KB, a fresh table 5.8 KB, a step and a tick 5.7 KB, a begin and a question 5.4 KB, beside what memcpy
+ * and memset need. So measured by bench/stack.c, on a stack filled with a pattern, over a long schedule; no function calls itself.
  */
 #ifndef DUSKCLAMP_H
 #define DUSKCLAMP_H
@@ -58,6 +58,9 @@ extern "C" {
 /* The most steps that a thread takes of its own from beginning an operation, or from being unparked, until it finishes, is refused or parks, in whatever
  * order the events of the others come; duskclamp_step has more. */
 #define DUSKCLAMP_STEPS 6
+
+/* The most steps of a turn of duskclamp_dispatch; the fewest is 1. */
+#define DUSKCLAMP_QUANTUM 100
 
 /* The operations; an idle thread has 0. */
 #define DUSKCLAMP_ENTER 1
@@ -101,6 +104,8 @@ extern "C" {
 #define DUSKCLAMP_NO_RULE 20            /* the step has no rule; never from a fresh table on */
 #define DUSKCLAMP_SIZE_OUT_OF_RANGE 22  /* fresh: threads not 1 to 32, or objects not 1 to 64 */
 #define DUSKCLAMP_LIMIT_OUT_OF_RANGE 23 /* begin of a timed wait: the limit is not 1 to DUSKCLAMP_TICKS */
+#define DUSKCLAMP_QUANTUM_OUT_OF_RANGE 25 /* dispatch: the steps of a turn are not 1 to DUSKCLAMP_QUANTUM */
+#define DUSKCLAMP_SCRIPT_UNKNOWN 26     /* dispatch: not a record for each thread, or one whose script is not as duskclamp_dispatch has it */
 
 /* An event's answer, of 64 bits: the returned number in bits 0 to 7; the woken number in bits 8 to 15: with 1, how many threads a notify woke, or, of a
  * timed wait, 1 if it ran out, else 0; in bit 16 whether the step committed its operation; in bits 32 to 63 the set of threads that the event unparked. */
@@ -178,6 +183,44 @@ typedef struct duskclamp_event {
  * no event changes it, nothing is stored in it. */
 size_t duskclamp_run(uint8_t *bytes, size_t length, const uint8_t *events, size_t events_length, uint64_t *answers, size_t answers_length);
 
+/* A thread's script, twelve bytes: `length` operations of those that are lent, from operation `start` on, which is counted from 0. `cursor` of them have
+ * been begun; at `length` the thread is at its script's end. */
+typedef struct duskclamp_script {
+    uint32_t start;
+    uint32_t length;
+    uint32_t cursor;
+} duskclamp_script;
+
+/* How many bytes an operation that is lent has: its number, 1 to 5, and its object. */
+#define DUSKCLAMP_OPERATION_SIZE 2
+
+/* Runs the threads by their scripts, for a kiosk that has no interpreter: thread 1 first, then the others in rising number, then thread 1 again, each
+ * for a turn of at most `quantum` steps. A thread at no operation first begins the next of its script, which is no step and moves its cursor on. A turn
+ * ends before `quantum` steps with a step that returns 2, at the script's end, and where the thread is parked or its step has no rule (20, never from
+ * a fresh table on). 18 and 19 are steps: the operation is over, and the script goes on. After a round without a step the run ends. Then nobody can
+ * go on; threads may be parked for good, as in a deadlock or a wait that nobody notifies. Nobody is kept waiting: on a table that came from
+ * duskclamp_fresh by events alone an unparked thread with an operation to finish or to begin gets its step before the others have taken more than
+ * `quantum` for each of them. The clock does not tick.
+ *
+ * `scripts` points to `scripts_length` bytes, DUSKCLAMP_OPERATION_SIZE for each operation; a last odd byte is none. `cursors` points to
+ * `cursors_length` records, that of thread 1 first. Scripts may overlap or be the same, and threads of the table may be at an operation already: they
+ * finish it first. `trace` has room for `trace_length` entries, one for each step: as many are written as there are steps and as there is room for.
+ * None of these overlaps the table or another.
+ *
+ * Returned: 0, or the first of 11, 25, 26 that applies; then table, records and trace stay as they are. 26 if there are not as many records as the
+ * table has threads, or if of one of them `start` + `length` is above the number of operations that are lent, `cursor` is above `length`, or an operation
+ * of its script, one before the cursor too, has not a number from 1 to 5 and an object of the table. A timed wait is none of a script's operations.
+ * DUSKCLAMP_STEPS_TAKEN of the answer is the number of steps, also of those that the trace had no room for; 0 where the call is refused. On every sound
+ * table a run ends, with at most 210 steps for each operation that is not begun and 205 for each thread. */
+uint64_t duskclamp_dispatch(uint8_t *bytes, size_t length, uint32_t quantum, const uint8_t *scripts, size_t scripts_length, duskclamp_script *cursors,
+                            size_t cursors_length, uint64_t *trace, size_t trace_length);
+#define DUSKCLAMP_STEPS_TAKEN(answer) ((uint64_t)(answer) >> 8)
+
+/* An entry of a trace is the step's answer, for DUSKCLAMP_RETURNED and the others, and has in bits 24 to 31 the thread, and in bit 17 whether the thread
+ * began its operation just before the step. */
+#define DUSKCLAMP_TRACE_THREAD(entry) ((uint32_t)(((entry) >> 24) & 0xff))
+#define DUSKCLAMP_TRACE_BEGAN(entry) ((uint32_t)(((entry) >> 17) & 1))
+
 /* Questions. Of bytes that are no table 11; then 12 or 13 if there is no such thread or object. They are answered of a table that is not sound
  * too, by what its records say, so a number there need not be that of a thread: a loop along a chain of such a table counts its turns. */
 
@@ -249,6 +292,8 @@ static inline const char *duskclamp_returned_name(uint32_t returned) {
     case DUSKCLAMP_NO_RULE: return "no rule for the step";
     case DUSKCLAMP_SIZE_OUT_OF_RANGE: return "size out of range";
     case DUSKCLAMP_LIMIT_OUT_OF_RANGE: return "limit out of range";
+    case DUSKCLAMP_QUANTUM_OUT_OF_RANGE: return "quantum out of range";
+    case DUSKCLAMP_SCRIPT_UNKNOWN: return "script unknown";
     default: return "unknown";
     }
 }

@@ -13,13 +13,13 @@ if ! command -v gcc >/dev/null; then
     exit 2
 fi
 
-for source in examples/c/*.c; do
+for source in examples/c/*.c examples/kiosk/*.c; do
     name=$(basename "$source" .c)
     gcc -std=c99 -pedantic -Wall -Wextra -Werror -I include "$source" "$library" -o "target/c_$name"
     check "compiling $source with gcc" $? 0
     "target/c_$name" >"target/c_$name.out"
     check "running $name" $? 0
-    diff "examples/c/$name.expected" "target/c_$name.out"
+    diff "${source%.c}.expected" "target/c_$name.out"
     check "comparing the output of $name" $? 0
 done
 if command -v g++ >/dev/null; then

@@ -1,13 +1,13 @@
 #!/usr/bin/env python3
-"""Lists in docs/ARCHITECTURE.md which definitions a reader has to believe of demand 3, which of six steps besides, which of demand 2, and which of the
-report besides both demands.
+"""Lists in docs/ARCHITECTURE.md which definitions a reader has to believe of demand 3, which of six steps besides, which of the dispatcher besides both,
+which of demand 2, and which of the report besides both demands.
 
     tools/believed.py            writes the list, between two marks
     tools/believed.py --check    fails if the list is not up to date; last line 'N passed, M failed'
 
 From a statement, follows every name that its definition uses, through the `use` lines, and lists the files of specs/ in which the definitions stand.
-Demand 3 and six steps are claims about the engine's begin, step and tick, so these are not followed there: the code computes them, and the claims bound
-what they do. Demand 2 is what they say. The report counts what steps do, so its promise stands on both demands.
+Demand 3, six steps and the dispatcher's claims are about the engine's begin, step and tick, so these are not followed there: the code computes them, and
+the claims bound what they do. Demand 2 is what they say. The report counts what steps do, so its promise stands on both demands.
 """
 import pathlib
 import re
@@ -18,6 +18,8 @@ DOCUMENT = ROOT / 'docs' / 'ARCHITECTURE.md'
 MARKS = ('<!-- written by tools/believed.py -->', '<!-- end of what tools/believed.py writes -->')
 CLAIM = [(('lock_schedule', 'Demand'), 'DemandThree')]
 STEPS = [(('step_bounds', 'SixSteps'), 'SixSteps'), (('lock_schedule', 'StepsByStart'), 'StepsByStart')]
+DISPATCHER = [(('dispatch_rules', 'Claims'), claim) for claim in ('RunsEnd', 'RunsFair', 'NobodyLeft', 'RunsAreSchedules', 'RunsClaim')]
+DISPATCHER += [(('lock_dispatch', 'Lent'), 'RefusedLeavesSlice')]
 ENGINE = [(('lock_engine', 'Handle'), 'handle')]
 REPORT = [(('report_counts', 'Report'), 'ReportRight')]
 
@@ -129,7 +131,9 @@ def block():
     (lines, code, used), rows = described(files, met)
     claim = (f'{len(files)} files of {lines} lines, {code} of them without comments, imports and blank lines; '
              f'the definitions that it uses are {used} of these.')
-    steps, steps_rows = besides(STEPS, dict(files), dict(met), engine_files)
+    claimed, claimed_met = dict(files), dict(met)
+    steps, steps_rows = besides(STEPS, claimed, claimed_met, engine_files)
+    dispatcher, dispatcher_rows = besides(DISPATCHER, claimed, claimed_met, engine_files)
     engine, engine_rows = besides(ENGINE, files, met)
     report, report_rows = besides(REPORT, files, met)
     table = ['| Crate | Files of `specs/` | Types of the code in |', '|---|---|---|']
@@ -139,6 +143,8 @@ def block():
         '', *table, *rows, '',
         f'Six steps (document 02, L5), on these besides: {steps}',
         '', *table, *steps_rows, '',
+        f'The dispatcher (document 02, L6), on these and those of demand 3 besides: {dispatcher}',
+        '', *table, *dispatcher_rows, '',
         f'Demand 2, that the steps are document 01\'s, on those of demand 3 besides: {engine}',
         '', *table, *engine_rows, '',
         f'The report (document 02, L4), on those of both demands besides: {report}',

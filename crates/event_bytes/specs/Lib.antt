@@ -1,2 +1,3 @@
--- Events in bytes.
+-- Events in bytes, and their answers as numbers.
 pub mod Encoding
+pub mod Answer

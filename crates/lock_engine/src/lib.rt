@@ -17,3 +17,4 @@ pub use outcome::refusal_number;
 pub use outcome::returned;
 pub use outcome::woken;
 pub use turning::Turn;
+pub use turning::begun;

@@ -81,7 +81,8 @@ fn given_ticks(operation: Operation, limit: u32) -> Ticks
     }
 }
 
-fn begun(own: ThreadRecord, operation: Operation, number: u8, limit: u32) -> ThreadRecord
+// The record of a thread that begins the operation on the object with this number.
+pub fn begun(own: ThreadRecord, operation: Operation, number: u8, limit: u32) -> ThreadRecord
     ensures { λ r. ⌜ r ≡ begun own operation number limit ⌝ }
 {
     own.with_activity(Activity {

@@ -13,7 +13,8 @@ use Rattle.lock_engine.specs.Outcome.{reply-returned, reply-woken}
 use Rattle.lock_work.specs.Work.{work-stays}
 use Rattle.lock_engine.specs.Handle.{turn-with, work-done-of, handle-trusting, handle}
 use Rattle.lock_engine.specs.declared.turning.Turn.{Turn}
-use Rattle.lock_engine_c.specs.Calls.{packed-of, outcome-answer, reply-changes, event-number, event-turn, store-turn}
+use Rattle.event_bytes.specs.Answer.{packed-of}
+use Rattle.lock_engine_c.specs.Calls.{outcome-answer, reply-changes, event-number, event-turn, store-turn}
 
 module _ (event : Event) {first table : Table} {thread number : ℕ} {own : ThreadRecord} {object : ObjectRecord} {issound : Bool} {turn : Turn}
     (table-is : table ≡ first) (thread-is : thread ≡ event-thread event) (own-is : own ≡ thread-at first thread)

@@ -4,3 +4,4 @@ pub mod EventTurns
 pub mod FullTables
 pub mod RefusedBytes
 pub mod Runs
+pub mod RunBytes

@@ -44,7 +44,8 @@ use Rattle.table_bytes.proofs.SameBytes.{bytes-back}
 use Rattle.table_bytes.proofs.Enough.{enough-bytes}
 use Rattle.table_bytes.proofs.SetRecords.{thread-written, object-written}
 use Rattle.lock_engine_c.proofs.FullTables.{read-full}
-use Rattle.lock_engine_c.specs.Calls.{RefusedTo, set-unit, packed-of, returned-in, outcome-answer, event-answer, event-bytes, left-bytes, RefusedLeaves, begun-on, ticked-on}
+use Rattle.event_bytes.specs.Answer.{set-unit, packed-of, returned-in}
+use Rattle.lock_engine_c.specs.Calls.{RefusedTo, outcome-answer, event-answer, event-bytes, left-bytes, RefusedLeaves, begun-on, ticked-on}
 use Rattle.lock_engine_c.specs.Calls.{stepped-on, answer-changes, reply-changes, event-number, event-turn, store-turn, event-over}
 
 -- a begin that is refused leaves the table

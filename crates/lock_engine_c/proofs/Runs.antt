@@ -25,7 +25,6 @@ use Rattle.lock_engine.specs.Outcome.{reply-returned, reply-woken}
 use Rattle.lock_engine.specs.declared.outcome.Outcome.{Outcome}
 use Rattle.lock_engine.specs.declared.turning.Turn.{Turn}
 use Rattle.lock_work.specs.declared.settling.WorkDone.{WorkDone}
-use Rattle.lock_engine.proofs.InPlace.{Taken, stored, stored-so, worked-so}
 use Rattle.lock_engine.proofs.Refused.{refusing, handle-shut}
 use Rattle.lock_schedule.proofs.Theorem.{sound-kept, well-typed-kept}
 use Rattle.table_bytes.specs.{Rows.overwritten, Writing.bytes-of}
@@ -33,7 +32,8 @@ use Rattle.table_bytes.specs.Reading.{AreBytes, table-of, is-table}
 use Rattle.table_bytes.proofs.{Parts.overwritten-next, SameBytes.bytes-back}
 use Rattle.table_bytes.proofs.Written.{kept-is, table-long}
 use Rattle.table_bytes.proofs.ReadBack.{bytes-table, read-back}
-use Rattle.lock_engine_c.specs.Calls.{not-sound, packed-of, outcome-answer, event-answer, event-bytes, reply-changes, stored-over}
+use Rattle.event_bytes.specs.Answer.{packed-of}
+use Rattle.lock_engine_c.specs.Calls.{not-sound, outcome-answer, event-answer, event-bytes, reply-changes, stored-over}
 use Rattle.lock_engine_c.specs.Run.{run-count, run-events, handle-answer, handle-bytes, run-answers, run-bytes}
 use Rattle.lock_engine_c.proofs.RefusedBytes.{read-well-typed, unchanged-same}
 
@@ -54,18 +54,6 @@ answer-stored done answer rest answers room =
     let one : set answers done answer ≡ overwritten done (answer ∷ []) answers =
     set-split answers done answer room ∙ rw (add-one done) (sym (append-assoc (take done answers) (answer ∷ []) (drop (suc done) answers))) in
     sym (ap (overwritten (done + 1) rest) one ∙ overwritten-next done (answer ∷ []) rest answers (omega (arith, room)))
-
--- what the loop makes of its table in place, both records stored or the work done
-pub came-so : {t : Table} {event : Event} {issound : Bool} {thread place number home : ℕ} {turn : Turn}
-    → Taken t event issound thread place number home turn → {stay : Bool} → stay ≡ work-stays (turn .work) → {after : Table}
-    → {unparked : ℕ}
-    → ((stay ≡ true) × (after ≡ stored t place home (turn .own) (turn .object)) × (unparked ≡ 0))
-    ⊎ ((stay ≡ false) × (done : WorkDone) × (done ≡ work-done-of t thread number turn) × (after ≡ done .table) × (unparked ≡ done .unparked))
-    → record { table = after; reply = turn .reply; commits = turn .commits; unparked = unparked } ≡ handle-trusting t event issound
-came-so {turn = turn} taken told (inl (stay, is, none)) =
-    (λ j. record { table = is j; reply = turn .reply; commits = turn .commits; unparked = none j }) ∙ stored-so taken (sym told ∙ stay)
-came-so {turn = turn} taken told (inr (work, done, worked, is, whom)) =
-    (λ j. record { table = is j; reply = turn .reply; commits = turn .commits; unparked = whom j }) ∙ worked-so taken (sym told ∙ work) worked
 
 -- a table that is not sound refuses every event
 refuses : (table : Table) (event : Event) → handle-trusting table event false ≡ refusing table NotSound

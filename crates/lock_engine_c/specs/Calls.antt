@@ -1,5 +1,5 @@
 -- What each exported call that changes a table answers and makes of the bytes: the engine's begin, step, tick and fresh table on the table that the bytes say.
-use Prim.Native.Nat.{ℕ, _+_, _*_, _%_, _≤_, _<_}
+use Prim.Native.Nat.{ℕ, _≤_, _<_}
 use mathlib.Core.Path.{_≡_}
 use mathlib.Core.Bool.{Bool, true, false, not}
 use mathlib.Core.List.{List}
@@ -19,6 +19,7 @@ use Rattle.lock_table.specs.declared.fresh_table.FreshAnswer.the-variants.{Made
 use Rattle.lock_table.specs.declared.fresh_table.FreshTable.{FreshTable}
 use Rattle.lock_table.specs.declared.record.Table.{Table}
 use Rattle.lock_soundness.specs.Sound.{sound-of}
+use Rattle.event_bytes.specs.Answer.{set-unit, packed-of, returned-in}
 use Rattle.lock_engine.specs.Outcome.{reply-returned, reply-woken}
 use Rattle.lock_work.specs.Work.{work-stays}
 use Rattle.lock_engine.specs.Handle.{turn-with, work-done-of, begin, step, tick-event}
@@ -37,19 +38,6 @@ version = 1280
 -- bytes that are no table are refused as the engine refuses a table that is not sound
 abbrev pub not-sound : ℕ
 not-sound = refusal-number NotSound
-
--- the set of an answer begins at bit 32
-abbrev pub set-unit : ℕ
-set-unit = 4294967296
-
--- the returned number, the woken number, whether the event is a committing step, and the set of threads that it unparked, packed: bits 0 to 7, bits 8 to
--- 15, bit 16, bits 32 to 63
-unfoldable pub packed-of : ℕ → ℕ → Bool → ℕ → ℕ
-packed-of returned woken commits unparked = pick commits (returned + woken * 256 + 65536) (returned + woken * 256) + unparked * set-unit
-
--- the returned number of a packed answer
-abbrev pub returned-in : ℕ → ℕ
-returned-in answer = answer % 256
 
 abbrev pub outcome-answer : Outcome → ℕ
 outcome-answer outcome = packed-of (reply-returned (outcome .reply)) (reply-woken (outcome .reply)) (outcome .commits) (outcome .unparked)

@@ -1,4 +1,5 @@
 // The calls that change a table: a fresh one, a begin, a timed wait, a step, a tick. Each reads the bytes, asks the engine and writes what it gave back.
+use event_bytes::packed;
 use lock_engine::Reply;
 use lock_engine::refusal_number;
 use lock_engine::returned;
@@ -34,27 +35,11 @@ ghost use Rattle.lock_engine.specs.Handle.{handle};
 ghost use Rattle.lock_table.specs.Fresh.{fresh-of};
 ghost use Rattle.table_bytes.specs.Layout.{table-size};
 ghost use Rattle.table_bytes.specs.Reading.{is-table, table-of};
-ghost use Rattle.lock_engine_c.specs.Calls.{packed-of, event-answer, event-bytes, RefusedTo, RefusedLeaves};
+ghost use Rattle.lock_engine_c.specs.Calls.{event-answer, event-bytes, RefusedTo, RefusedLeaves};
 ghost use Rattle.lock_engine_c.specs.Calls.{answer-changes, reply-changes, stored-over, store-turn, event-over};
 ghost use Rattle.lock_engine_c.specs.Calls.{begun-on, stepped-on, ticked-on, fresh-on, has-size, fresh-answer, fresh-bytes, fresh-if-sized};
 
-const WOKEN_UNIT: u64 = 256;
-
-const COMMITS_UNIT: u64 = 65536;
-
-const SET_UNIT: u64 = 4294967296;
-
 const NO_LIMIT: u32 = 0;
-
-pub(crate) fn packed(returned: u8, woken: u8, commits: bool, unparked: u32) -> u64
-    ensures { λ r. ⌜ r ≡ packed-of returned woken commits unparked ⌝ }
-{
-    let set = (unparked as u64) * SET_UNIT;
-    if commits {
-        return (returned as u64) + (woken as u64) * WOKEN_UNIT + COMMITS_UNIT + set;
-    }
-    (returned as u64) + (woken as u64) * WOKEN_UNIT + set
-}
 
 fn answer_changes(answer: Answer) -> bool
     ensures { λ r. ⌜ r ≡ answer-changes answer ⌝ }

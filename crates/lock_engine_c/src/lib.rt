@@ -1,6 +1,7 @@
-// The lock engine over a table that the caller lends as bytes, for C and Rust to link. Only numbers and byte slices cross the boundary, and no
-// call asks anything of them: bytes that are no table are answered 11 and left as they are.
+// The lock engine over a table that the caller lends as bytes, for C and Rust to link. Only numbers and slices, of numbers or of scripts' cursors, cross the
+// boundary, and no call asks anything of them: bytes that are no table are answered 11 and left as they are.
 mod calls;
+mod dispatching;
 mod questions;
 mod running;
 
@@ -10,6 +11,7 @@ pub use calls::duskclamp_step;
 pub use calls::duskclamp_table_size;
 pub use calls::duskclamp_tick;
 pub use calls::duskclamp_timed_wait;
+pub use dispatching::duskclamp_dispatch;
 pub use questions::duskclamp_blocker;
 pub use questions::duskclamp_contention_first;
 pub use questions::duskclamp_depth;

@@ -1,10 +1,10 @@
 // A run: many events in one call. The bytes are read once, soundness is tested once, and the bytes are written once.
-use crate::calls::packed;
 use crate::calls::reply_changes;
 use crate::calls::store;
 use event_bytes::EVENT_SIZE;
 use event_bytes::event_from;
 use event_bytes::limit_from;
+use event_bytes::packed;
 use lock_engine::returned;
 use lock_engine::turn_with;
 use lock_engine::woken;

@@ -83,7 +83,7 @@ status-written n o =
 
 module _ (t : Table) where
   -- a begin: the object is written as it stands
-  begin-settles : (n o : ℕ) (operation : Operation) (limit : ℕ)
+  pub begin-settles : (n o : ℕ) (operation : Operation) (limit : ℕ)
       → outcome-of t n o (begin-turn (thread-at t n) (object-at t o) operation o limit) .table ≡ set-thread t n (begun (thread-at t n) operation o limit)
   unfolding work-stays stays
   begin-settles n o operation limit =

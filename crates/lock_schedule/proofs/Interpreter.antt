@@ -45,7 +45,7 @@ use Rattle.lock_schedule.proofs.EngineKind.{turn-of, event-is-turn}
 use Rattle.lock_schedule.proofs.Theorem.{ended-so, event-same, from-fresh}
 
 -- the number that a reply has, as the plain monitors are shown it
-returned-shown : (reply : Reply) (commits : Bool) → returned (reply-shown reply commits) ≡ reply-returned reply
+pub returned-shown : (reply : Reply) (commits : Bool) → returned (reply-shown reply commits) ≡ reply-returned reply
 unfolding reply-returned
 returned-shown Accepted commits = refl
 returned-shown (Refused refusal) commits = refl

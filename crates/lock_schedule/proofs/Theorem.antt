@@ -123,7 +123,7 @@ pub exits-wait-for-holder : ExitsWaitForHolder
 exits-wait-for-holder request in-range events n parked = exits-wait-for-busy-holder request in-range events n parked .0
 
 -- what an event makes of a sound table represents sound lists again
-event-represents : (t : Table) → WellTyped t → sound-of t ≡ true → (event : Event)
+pub event-represents : (t : Table) → WellTyped t → sound-of t ≡ true → (event : Event)
     → (lists : ListTable) × Represents (t .threadcount) (t .objectcount) (handle t event .table) lists × SoundTable (t .threadcount) (t .objectcount) lists
 event-represents t typed sound event =
     let (lists, represents, fine) = sound-represents t (typed .threads) (typed .objects) (λ o real inside. typed .depths o) sound in

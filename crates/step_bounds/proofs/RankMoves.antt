@@ -98,7 +98,7 @@ module _ (word : WordSeen) where
 chain-word : (chain : Chain) (o : ListObject) (list : List ℕ) → with-chain chain o list .word ≡ o .word
 chain-word = each-chain _ (search)
 
-work-word : (work : ChainWork) (thread : ℕ) (states : ℕ → ThreadState) (o : ListObject) → object-after work thread states o .word ≡ o .word
+pub work-word : (work : ChainWork) (thread : ℕ) (states : ℕ → ThreadState) (o : ListObject) → object-after work thread states o .word ≡ o .word
 work-word Stay thread states o = refl
 work-word (Join chain) thread states o = chain-word chain o _
 work-word (JoinAndHand chain) thread states o = chain-word chain (handed-object o) _

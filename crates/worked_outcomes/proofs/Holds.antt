@@ -2,17 +2,21 @@
 use mathlib.Core.Path.{refl}
 use Rattle.lock_rules.specs.Numbers.{refusal-number}
 use Rattle.lock_engine.specs.Outcome.{reply-returned}
-use Rattle.lock_engine_c.specs.Calls.{packed-of, reply-changes}
+use Rattle.event_bytes.specs.Answer.{packed-of}
+use Rattle.dispatch_rules.specs.Dispatch.{dispatch-returned}
+use Rattle.lock_engine_c.specs.Calls.{reply-changes}
 use Rattle.replay_session.specs.Session.{answer-from}
 use Rattle.worked_outcomes.specs.Outcomes.{OutcomeExamples}
 
 pub outcome-examples : OutcomeExamples
-unfolding refusal-number reply-returned packed-of reply-changes answer-from
+unfolding refusal-number reply-returned packed-of reply-changes dispatch-returned answer-from
 outcome-examples =
     record {
       stored = refl;
       kept = λ refusal. refl;
       answered = refl;
+      ran = λ table. refl;
+      run-refused = λ table. refl;
       printed = λ outcome thread object. refl;
       ticked = λ outcome. refl;
       tick-refused = λ outcome. refl;

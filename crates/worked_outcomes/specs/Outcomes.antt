@@ -8,7 +8,11 @@ use Rattle.lock_engine.specs.Outcome.{reply-returned, reply-woken}
 use Rattle.lock_engine.specs.declared.outcome.Outcome.{Outcome}
 use Rattle.lock_engine.specs.declared.outcome.Reply.{Reply}
 use Rattle.lock_engine.specs.declared.outcome.Reply.the-variants.{Accepted, Refused}
-use Rattle.lock_engine_c.specs.Calls.{packed-of, reply-changes}
+use Rattle.event_bytes.specs.Answer.{packed-of}
+use Rattle.dispatch_rules.specs.declared.DispatchAnswer.the-variants.{Ended, QuantumOutOfRange}
+use Rattle.lock_table.specs.declared.record.Table.{Table}
+use Rattle.lock_engine_c.specs.Calls.{reply-changes}
+use Rattle.lock_engine_c.specs.Dispatch.{run-answer}
 use Rattle.replay_text.specs.declared.answer.Answer.the-variants.{Alone, Ticked}
 use Rattle.replay_session.specs.Session.{phase-of, word-of, answer-with, after-event, after-tick}
 
@@ -22,6 +26,9 @@ pub record OutcomeExamples : Type 0 where
   pub kept : (refusal : Refusal) → reply-changes (Refused refusal) ≡ false
   -- an answer for C has the set from bit 32 on: here thread 1 and thread 32
   pub answered : packed-of 2 0 true 0x80000001 ≡ 0x8000000100010002
+  -- a run's answer for C has its steps from bit 8 on: here three steps, and a refused run
+  pub ran : (table : Table) → run-answer (record { table = table; answer = Ended; steps = 3 }) ≡ 0x300
+  pub run-refused : (table : Table) → run-answer (record { table = table; answer = QuantumOutOfRange; steps = 0 }) ≡ 25
   -- the phase is that of the thread, the word that of the object, the set that of the outcome
   pub printed : (outcome : Outcome) (thread object : ℕ)
       → after-event outcome thread object .answer

@@ -115,11 +115,15 @@ pub enum Refusal {
     SizeOutOfRange = 22,
     /// A begin of a timed wait whose limit is not 1 to 65,535.
     LimitOutOfRange = 23,
+    /// A dispatcher whose turns are not of 1 to 100 steps.
+    QuantumOutOfRange = 25,
+    /// A dispatcher that has not a record for each thread, or one whose script is not as [`Table::dispatch`](crate::Table::dispatch) has it.
+    ScriptUnknown = 26,
 }
 
 impl Refusal {
     /// All refusals, in the order of their numbers.
-    pub const ALL: [Refusal; 12] = [
+    pub const ALL: [Refusal; 14] = [
         Refusal::NotSound,
         Refusal::NoSuchThread,
         Refusal::NoSuchObject,
@@ -132,6 +136,8 @@ impl Refusal {
         Refusal::NoRule,
         Refusal::SizeOutOfRange,
         Refusal::LimitOutOfRange,
+        Refusal::QuantumOutOfRange,
+        Refusal::ScriptUnknown,
     ];
 
     /// The number that the library returned.
@@ -154,6 +160,8 @@ impl Refusal {
             Refusal::NoRule => "no rule for the step",
             Refusal::SizeOutOfRange => "size out of range",
             Refusal::LimitOutOfRange => "limit out of range",
+            Refusal::QuantumOutOfRange => "quantum out of range",
+            Refusal::ScriptUnknown => "script unknown",
         }
     }
 
@@ -181,6 +189,11 @@ pub struct Outcome {
     pub commits: bool,
     /// The threads that were parked before the event and are not after it: run them again. Nobody where it was refused.
     pub unparked: ThreadSet,
+}
+
+/// A number in one byte; what does not fit is none of a thread, an operation or an object, as 255 is.
+pub(crate) fn narrow(number: u32) -> u8 {
+    u8::try_from(number).unwrap_or(u8::MAX)
 }
 
 /// A returned number, where it is none of an answer.

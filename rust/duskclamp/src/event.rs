@@ -59,8 +59,7 @@ impl Event {
     }
 
     fn of(kind: u8, thread: u32, operation: u32, object: u32, limit: u32) -> Event {
-        let narrow = |number: u32| u8::try_from(number).unwrap_or(u8::MAX);
-        let [thread, operation, object] = [thread, operation, object].map(narrow);
+        let [thread, operation, object] = [thread, operation, object].map(answer::narrow);
         let [low, second, third, high] = limit.to_le_bytes();
         Event {
             bytes: [kind, thread, operation, object, low, second, third, high],

@@ -55,8 +55,10 @@
 //! # Ok::<(), Refusal>(())
 //! ```
 //!
+//! Whoever has no interpreter, and a script of operations for each thread, has [`Table::dispatch`] run them in turns.
+//!
 //! What the calls answer is proved of the library that this crate links; the declarations in [`raw`] are not checked against its source. The crate needs
-//! `core` alone. A call takes up to 7.1 KB of stack.
+//! `core` alone. A call takes up to 7.1 KB of stack, [`Table::dispatch`] 9.6 KB.
 
 #![no_std]
 #![deny(missing_docs)]
@@ -69,12 +71,14 @@ mod event;
 mod phase;
 pub mod raw;
 mod record;
+mod script;
 mod thread_set;
 
 pub use answer::{Answer, Operation, Outcome, Refusal};
 pub use event::{Event, Packed};
 pub use phase::{Onward, Phase};
 pub use record::{Blocker, Chain, Object, Thread};
+pub use script::{Command, ScriptCursor, TraceEntry};
 pub use thread_set::{ThreadSet, ThreadSetIter};
 
 use core::fmt;
@@ -94,6 +98,9 @@ pub const MAX_TICKS: u32 = 65_535;
 /// The most steps that a thread takes of its own from beginning an operation, or from being unparked, until it finishes, is refused or parks, in
 /// whatever order the events of the others come; [`Table::step`] has more.
 pub const MAX_STEPS: u32 = 6;
+
+/// The most steps of a turn of a dispatcher; the fewest is 1.
+pub const MAX_QUANTUM: u32 = 100;
 
 /// The version of a table's bytes, which rises whenever they change.
 pub const LAYOUT_VERSION: u32 = 2;
@@ -344,6 +351,72 @@ impl Table {
             event::numbers(answers),
         )
     }
+
+    /// Runs the threads by their scripts, for whoever has no interpreter, and gives back how many steps that took: thread 1 first, then the others in
+    /// rising number, then thread 1 again, each for a turn of at most `quantum` steps, 1 to [`MAX_QUANTUM`]. An idle thread first begins the next command of
+    /// its script, which is no step and moves its cursor on. A turn ends early with a step that parks the thread, at the script's end, and where the
+    /// thread is parked or its step has no rule. A step refused with `NotOwner` or `TooDeep` is one: the script goes on. After a round without a
+    /// step the run ends; then nobody can go on, though threads may be parked for good. On a table that came from [`Table::fresh`] by events alone an
+    /// unparked thread with work left gets its step before the others have taken more than the number of threads less one, times `quantum`.
+    ///
+    /// The record of thread n is `cursors[n - 1]`. Scripts may overlap or be the same. A thread that is at an operation finishes it first; timed waits
+    /// get no ticks. Steps for which `trace` has no room are taken all the same.
+    ///
+    /// Thread 1 lends on an account, and enters the catalogue for that; thread 2 wants the account too, parks, and is unparked when thread 1 leaves it:
+    ///
+    /// ```
+    /// use duskclamp::Operation::{Enter, Exit};
+    /// use duskclamp::{Answer, Command, ScriptCursor, Table, TraceEntry, Words};
+    /// let (account, catalogue) = (1, 2);
+    /// let mut table = Table::fresh(2, 2, Words::Free)?;
+    /// let lend = [(Enter, account), (Enter, catalogue), (Exit, catalogue), (Exit, account)];
+    /// let look = [(Enter, account), (Exit, account)];
+    /// let scripts: Vec<Command> = lend
+    ///     .into_iter()
+    ///     .chain(look)
+    ///     .map(|(operation, object)| Command::new(operation, object))
+    ///     .collect();
+    /// let mut cursors = [ScriptCursor::new(0, 4), ScriptCursor::new(4, 2)];
+    /// let mut trace = [TraceEntry::default(); 32];
+    /// let steps = table.dispatch(1, &scripts, &mut cursors, &mut trace)?;
+    /// assert!(cursors.iter().all(|script| script.left() == 0));
+    ///
+    /// let trace = &trace[..steps as usize];
+    /// assert!(trace[0].began() && trace[0].thread() == 1);
+    /// let parks = |entry: &&TraceEntry| entry.outcome().result == Ok(Answer::Parked);
+    /// assert_eq!(trace.iter().find(parks).map(|entry| entry.thread()), Some(2));
+    /// assert!(trace.iter().any(|entry| entry.outcome().unparked.contains(2)));
+    /// # Ok::<(), duskclamp::Refusal>(())
+    /// ```
+    ///
+    /// Refused are, in this order and with nothing changed, a table with `NotSound`, a number of steps with `QuantumOutOfRange`, and with `ScriptUnknown`
+    /// as many records as there are not threads, a script that goes beyond `scripts`, a cursor beyond its script, and a script with a command,
+    /// before the cursor too, that is not one of the five untimed operations on an object of the table.
+    ///
+    /// ```
+    /// use duskclamp::{Command, Operation, Refusal, ScriptCursor, Table, Words};
+    /// let mut table = Table::fresh(1, 1, Words::Free)?;
+    /// let scripts = [Command::new(Operation::TimedWait, 1)];
+    /// let mut cursors = [ScriptCursor::new(0, 1)];
+    /// let mut refused = |quantum| table.dispatch(quantum, &scripts, &mut cursors, &mut []);
+    /// assert_eq!(refused(101), Err(Refusal::QuantumOutOfRange));
+    /// assert_eq!(refused(100), Err(Refusal::ScriptUnknown));
+    /// # Ok::<(), Refusal>(())
+    /// ```
+    pub fn dispatch(
+        &mut self,
+        quantum: u32,
+        scripts: &[Command],
+        cursors: &mut [ScriptCursor],
+        trace: &mut [TraceEntry],
+    ) -> Result<u64, Refusal> {
+        let (scripts, trace) = (script::bytes(scripts), script::numbers(trace));
+        let answer = raw::dispatch(&mut self.bytes, quantum, scripts, cursors, trace);
+        match answer as u8 {
+            0 => Ok(answer >> 8),
+            number => Err(answer::refusal(number)),
+        }
+    }
 }
 
 /// Questions. `NotSound` where the bytes are no table, then `NoSuchThread` or `NoSuchObject`; a table that is not sound is answered by what its records
@@ -588,6 +661,7 @@ mod tests {
             assert_eq!(raw::timed_wait(&mut bytes, 1, 1, 1), 11);
             assert_eq!(raw::step(&mut bytes, 1), 11);
             assert_eq!(raw::tick(&mut bytes), 11);
+            assert_eq!(raw::dispatch(&mut bytes, 1, &[], &mut [], &mut []), 11);
             assert_eq!(raw::ticks(&bytes, 1), 11);
             assert_eq!(raw::phase(&bytes, 1), 11);
             assert_eq!(raw::thread_count(&bytes), 11);
@@ -674,6 +748,52 @@ mod tests {
         let unparked = table.tick().unwrap();
         assert!(unparked.iter().eq([1, MAX_THREADS]));
         assert!(table.tick().unwrap().is_empty());
+    }
+
+    #[test]
+    fn a_refused_dispatch_leaves_everything() {
+        let fresh = Table::fresh(2, 1, Words::Free).unwrap();
+        let no_table = Table::from_bytes([0xff; TABLE_SIZE]);
+        let scripts = [Command::new(Operation::Enter, 1)];
+        let (script, beyond) = (ScriptCursor::new(0, 1), ScriptCursor::new(1, 1));
+        for (table, quantum, cursors, expected) in [
+            (&no_table, 0, [script, beyond], Refusal::NotSound),
+            (&fresh, 0, [script, beyond], Refusal::QuantumOutOfRange),
+            (
+                &fresh,
+                MAX_QUANTUM + 1,
+                [script; 2],
+                Refusal::QuantumOutOfRange,
+            ),
+            (
+                &fresh,
+                MAX_QUANTUM,
+                [script, beyond],
+                Refusal::ScriptUnknown,
+            ),
+        ] {
+            let (mut table_after, mut cursors_after) = (table.clone(), cursors);
+            let mut trace = [TraceEntry::default(); 2];
+            let refused = table_after.dispatch(quantum, &scripts, &mut cursors_after, &mut trace);
+            assert_eq!(refused, Err(expected));
+            assert_eq!((&table_after, cursors_after), (table, cursors));
+            assert_eq!(trace, [TraceEntry::default(); 2]);
+        }
+    }
+
+    #[test]
+    fn a_dispatch_writes_as_many_steps_as_there_is_room_for() {
+        let scripts = [Command::new(Operation::Enter, 1); 3];
+        for room in [0, 2, 3, 5] {
+            let mut table = Table::fresh(1, 1, Words::Free).unwrap();
+            let mut cursors = [ScriptCursor::new(0, 3)];
+            let mut trace = vec![TraceEntry::default(); room];
+            let steps = table.dispatch(2, &scripts, &mut cursors, &mut trace);
+            assert_eq!(steps, Ok(3));
+            assert_eq!(table.depth(1), Ok(3));
+            let written = trace.iter().filter(|entry| entry.thread() == 1);
+            assert_eq!(written.count(), room.min(3));
+        }
     }
 
     #[test]

@@ -4,7 +4,11 @@
 //! out, else 0; in bit 16 whether the step commits; and in bits 32 to 63 the set of threads that the event unparked, bit 32 for thread 1. A question's
 //! answer has the returned number in bits 0 to 7 and, where that is 0, the value above.
 
+use crate::script::ScriptCursor;
+
 mod declared {
+    use super::ScriptCursor;
+
     extern "C" {
         pub fn duskclamp_version() -> u32;
         pub fn duskclamp_layout_version() -> u32;
@@ -40,6 +44,17 @@ mod declared {
             answers: *mut u64,
             answers_length: usize,
         ) -> usize;
+        pub fn duskclamp_dispatch(
+            bytes: *mut u8,
+            length: usize,
+            quantum: u32,
+            scripts: *const u8,
+            scripts_length: usize,
+            cursors: *mut ScriptCursor,
+            cursors_length: usize,
+            trace: *mut u64,
+            trace_length: usize,
+        ) -> u64;
         pub fn duskclamp_thread_count(bytes: *const u8, length: usize) -> u64;
         pub fn duskclamp_object_count(bytes: *const u8, length: usize) -> u64;
         pub fn duskclamp_operation(bytes: *const u8, length: usize, thread: u32) -> u64;
@@ -63,8 +78,8 @@ mod declared {
     }
 }
 
-// SAFETY, of every call below: the library reads and writes only the bytes, and the answers, of the lengths beside the pointers, which the borrows lend
-// for the call, and keeps no pointer. Its functions have no precondition.
+// SAFETY, of every call below: the library reads and writes only the bytes, answers, records and entries of the lengths beside the pointers, which the
+// borrows lend for the call, and keeps no pointer. Its functions have no precondition.
 
 /// The library's version: major, minor and patch number in a byte each, the patch number lowest.
 pub fn version() -> u32 {
@@ -124,6 +139,34 @@ pub fn run(bytes: &mut [u8], events: &[u8], answers: &mut [u64]) -> usize {
             events.len(),
             answers.as_mut_ptr(),
             answers.len(),
+        )
+    }
+}
+
+/// How many bytes an operation of a script has: its number and its object.
+pub const OPERATION_SIZE: usize = 2;
+
+/// Runs the threads by their scripts, in turns of at most so many steps: in bits 0 to 7 the returned number, 0 or 11, 25 or 26, and above it the number of
+/// steps. An entry of the trace, for which as many are written as there is room for, is the step's answer with the thread in bits 24 to 31, and with bit
+/// 17 set where the thread began its operation just before.
+pub fn dispatch(
+    bytes: &mut [u8],
+    quantum: u32,
+    scripts: &[u8],
+    cursors: &mut [ScriptCursor],
+    trace: &mut [u64],
+) -> u64 {
+    unsafe {
+        declared::duskclamp_dispatch(
+            bytes.as_mut_ptr(),
+            bytes.len(),
+            quantum,
+            scripts.as_ptr(),
+            scripts.len(),
+            cursors.as_mut_ptr(),
+            cursors.len(),
+            trace.as_mut_ptr(),
+            trace.len(),
         )
     }
 }

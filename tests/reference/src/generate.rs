@@ -113,7 +113,7 @@ impl Plan {
 }
 
 /// A size that is mostly small, at times anything and at times the largest.
-fn size(random: &mut Random, few: u64, largest: usize) -> u8 {
+pub(crate) fn size(random: &mut Random, few: u64, largest: usize) -> u8 {
     let largest = largest as u64;
     match random.between(1, 10) {
         1 => largest as u8,
@@ -123,7 +123,7 @@ fn size(random: &mut Random, few: u64, largest: usize) -> u8 {
 }
 
 /// Some neighbours among the numbers from 1 to the last, half of the time with the last.
-fn some_of(random: &mut Random, last: u8, least: u8, most: u8) -> Vec<u8> {
+pub(crate) fn some_of(random: &mut Random, last: u8, least: u8, most: u8) -> Vec<u8> {
     let number = random.between(least.into(), most.min(last).into()) as u8;
     let highest = last - number + 1;
     let any = random.between(1, highest.into()) as u8;
@@ -436,7 +436,8 @@ impl Generator {
     }
 }
 
-const UNTIMED: [Operation; 5] = [
+/// The operations that have no limit.
+pub const UNTIMED: [Operation; 5] = [
     Operation::Enter,
     Operation::Exit,
     Operation::Wait,
@@ -513,7 +514,7 @@ const NOISE_LINES: [&str; 34] = [
 ];
 
 /// Appends an event as a line of the replay's input.
-fn write_event_line(event: Event, text: &mut Vec<u8>) {
+pub fn write_event_line(event: Event, text: &mut Vec<u8>) {
     let written = match event {
         Event::Step { thread } => writeln!(text, "S {thread}"),
         Event::Begin {

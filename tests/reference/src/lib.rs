@@ -1,8 +1,8 @@
 //! A second implementation of the lock engine, its replay, its report and the checks made with them.
 //! Written from the specification alone, so that agreement with the proved one says something. In comments "document 01" is the specification, and
 //! "request L1", "request L2" and "request L3" the customer's requests for timed waits, on exits that waited for a stranger, and to be told which
-//! threads an event unparked, which amend it; "request L4" is that for a report on many schedules, and "request L5" the one that bounds a thread's
-//! own steps by six.
+//! threads an event unparked, which amend it; "request L4" is that for a report on many schedules, "request L5" the one that bounds a thread's
+//! own steps by six, and "request L6" that for a dispatcher, which runs scripts of operations.
 
 pub mod aim;
 pub mod aimed_exits;
@@ -10,11 +10,14 @@ pub mod aimed_steps;
 pub mod aimed_ticks;
 pub mod arguments;
 pub mod checked;
+pub mod dispatch;
+pub mod dispatch_check;
 pub mod engine;
 pub mod enters;
 pub mod enters_check;
 pub mod exits;
 pub mod generate;
+pub mod happened;
 pub mod long_cases;
 pub mod met;
 pub mod outcome;
@@ -28,6 +31,7 @@ pub mod report;
 pub mod report_inputs;
 pub mod report_long_cases;
 pub mod run_queue;
+pub mod script_inputs;
 pub mod seen;
 pub mod shrink;
 pub mod sound;

@@ -23,6 +23,8 @@ pub enum Returned {
     SizesOutOfRange = 22,
     LimitOutOfRange = 23,
     TooManyLines = 24,
+    QuantumOutOfRange = 25,
+    ScriptUnknown = 26,
 }
 
 impl Returned {

@@ -134,7 +134,7 @@ impl OwnSteps {
 }
 
 /// Whether a step that returned this was one: the thread went on, finished, parked, or was refused and is idle. All other refusals leave it where it is.
-fn is_own_step(returned: Returned) -> bool {
+pub fn is_own_step(returned: Returned) -> bool {
     matches!(
         returned,
         Returned::GoneOn

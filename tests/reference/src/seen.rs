@@ -1,6 +1,6 @@
 //! What a run of report inputs is to meet often enough: each way to finish an enter, and each kind of input.
 
-use crate::tally::Kind;
+use crate::tally::{kinds, Listed, Named};
 
 #[derive(Clone, Copy, Debug, PartialEq, Eq)]
 pub enum Seen {
@@ -40,7 +40,7 @@ pub enum Seen {
 const KINDS: usize = 26;
 
 /// Each with its name, and how many of it a whole run has at least.
-const NAMED: [(Seen, &str, u64); KINDS] = [
+const NAMED: [Named<Seen>; KINDS] = [
     (
         Seen::AnonymousReservation,
         "enters by anonymous reservation",
@@ -138,27 +138,13 @@ const NAMED: [(Seen, &str, u64); KINDS] = [
 ];
 
 impl Seen {
-    pub const ALL: [Seen; KINDS] = {
-        let mut all = [Seen::FreeWord; KINDS];
-        let mut place = 0;
-        while place < KINDS {
-            all[place] = NAMED[place].0;
-            place += 1;
-        }
-        all
-    };
+    pub const ALL: [Seen; KINDS] = kinds(&NAMED);
 }
 
-impl Kind for Seen {
-    fn place(self) -> usize {
+impl Listed for Seen {
+    const LIST: &'static [Named<Seen>] = &NAMED;
+
+    fn index(self) -> usize {
         self as usize
-    }
-
-    fn name(self) -> &'static str {
-        NAMED[self.place()].1
-    }
-
-    fn least(self) -> u64 {
-        NAMED[self.place()].2
     }
 }

@@ -1,6 +1,6 @@
 //! What the reference is held to, by itself or beside another program: cases with a known output, then generated inputs.
 
-use crate::arguments::number;
+use crate::arguments::{number, DEFAULT_SEED};
 use crate::report::{compare_outputs, Report};
 use crate::stored::{read_folder, Case};
 use crate::tally::{Kind, Tally};
@@ -8,8 +8,6 @@ use crate::{checked, generate, long_cases, met, program, replay};
 use crate::{enters, enters_check, report_inputs, report_long_cases, seen};
 use std::path::Path;
 use std::process::ExitCode;
-
-const DEFAULT_SEED: u64 = 1;
 
 /// One of the reference's programs, with all that it is checked by.
 pub struct Suite<K: 'static> {

@@ -18,6 +18,42 @@ pub trait Kind: Copy {
     fn least(self) -> u64;
 }
 
+/// A kind with its name, and how many of it a whole run has at least.
+pub type Named<K> = (K, &'static str, u64);
+
+/// One of an enumeration that has its kinds in a list, each at its place.
+pub trait Listed: Copy + 'static {
+    const LIST: &'static [Named<Self>];
+
+    /// Its place in the list.
+    fn index(self) -> usize;
+}
+
+impl<K: Listed> Kind for K {
+    fn place(self) -> usize {
+        self.index()
+    }
+
+    fn name(self) -> &'static str {
+        K::LIST[self.index()].1
+    }
+
+    fn least(self) -> u64 {
+        K::LIST[self.index()].2
+    }
+}
+
+/// The kinds of a list.
+pub const fn kinds<K: Copy, const NUMBER: usize>(named: &[Named<K>; NUMBER]) -> [K; NUMBER] {
+    let mut kinds = [named[0].0; NUMBER];
+    let mut place = 0;
+    while place < NUMBER {
+        kinds[place] = named[place].0;
+        place += 1;
+    }
+    kinds
+}
+
 /// How often each came up.
 #[derive(Clone, Copy, Debug, PartialEq, Eq)]
 pub struct Tally<K> {

@@ -1,9 +1,9 @@
 //! The library beside the second engine: bytes and answers of events and of fresh tables, and answers to questions; and runs beside single calls.
 
 use crate::cases::{asked_about, cases};
-use crate::construct::sound_table;
-use crate::damage::{damage, fields, Field};
+use crate::damage::{fields, Field};
 use crate::layout::{decode, encode, TABLE_SIZE};
+use crate::made::{any_bytes, random_bytes, KINDS};
 use crate::questions::QUESTIONS;
 use duskclamp::raw;
 use reference::engine::{apply, Event};
@@ -13,14 +13,12 @@ use reference::random::Random;
 use reference::report::{compare_outputs, Report};
 use reference::table::Table;
 use reference::unparked::unparked;
-use reference::{generate, program, replay, sound};
+use reference::{generate, program, replay};
 use std::process::ExitCode;
 
-const NOT_SOUND: u8 = 11;
+pub const NOT_SOUND: u8 = 11;
 /// The number of the operation that has a call of its own.
 pub const TIMED_WAIT: u8 = 6;
-/// Kinds of tables, by turns.
-const KINDS: u64 = 8;
 /// Questions put to each table; the next table of its kind gets the next ones.
 const ASKED: u64 = 5;
 
@@ -70,7 +68,7 @@ impl Run {
     }
 
     pub fn check_table(&mut self, place: u64) {
-        let bytes = self.any_bytes(place);
+        let bytes = any_bytes(&mut self.random, &self.fields, place);
         let table = decode(&bytes);
         let numbers = table.as_ref().map(|table| (table.threads, table.objects));
         for event in self.events(numbers.unwrap_or((3, 3))) {
@@ -95,54 +93,6 @@ impl Run {
             String::new()
         };
         self.report.check(&name, result);
-    }
-
-    /// Kinds of tables by turns: sound, one field damaged, two fields, random bytes.
-    fn any_bytes(&mut self, place: u64) -> Vec<u8> {
-        match place % KINDS {
-            0..=2 => self.sound_bytes(),
-            3..=4 => self.damaged_bytes(place, 1),
-            5..=6 => self.damaged_bytes(place, 2),
-            _ => self.random_bytes(),
-        }
-    }
-
-    fn sound_bytes(&mut self) -> Vec<u8> {
-        let table = sound_table(&mut self.random);
-        if !sound::is_sound(&table) {
-            let wrong = Err("the construction is wrong".to_string());
-            self.report.check("a table made to be sound", wrong);
-        }
-        encode(&table)
-    }
-
-    /// The first field damaged goes through all of them in turn.
-    fn damaged_bytes(&mut self, place: u64, number: usize) -> Vec<u8> {
-        let mut bytes = self.sound_bytes();
-        let first = (place / KINDS) as usize % self.fields.len();
-        damage(&mut self.random, &mut bytes, self.fields[first]);
-        for _ in 1..number {
-            // Fields of the first records are the ones that matter most.
-            let last = self.random.pick(&[self.fields.len(), 34]);
-            let other = self.random.between(0, last as u64 - 1) as usize;
-            damage(&mut self.random, &mut bytes, self.fields[other]);
-        }
-        bytes
-    }
-
-    fn random_bytes(&mut self) -> Vec<u8> {
-        let any = self.random.between(0, 2 * TABLE_SIZE as u64) as usize;
-        let near = TABLE_SIZE - 1 + self.random.between(0, 2) as usize;
-        let length = self.random.pick(&[TABLE_SIZE, TABLE_SIZE, near, any]);
-        let largest = self.random.pick(&[1, 2, 6, 15, 255]);
-        let chance = self.random.pick(&[1, 10, 100]);
-        let mut bytes = vec![0; length];
-        for byte in &mut bytes {
-            if self.random.percent(chance) {
-                *byte = self.random.between(0, largest) as u8;
-            }
-        }
-        bytes
     }
 
     /// A step, a begin and a tick.
@@ -217,7 +167,7 @@ impl Run {
     /// Events by one call beside the same events by calls of their own, on a table of any kind: answers, bytes, and what is left alone where there are
     /// more events than room for answers, or the other way round.
     pub fn check_run(&mut self, place: u64) {
-        let before = self.any_bytes(place);
+        let before = any_bytes(&mut self.random, &self.fields, place);
         let (threads, objects) =
             decode(&before).map_or((3, 3), |table| (table.threads, table.objects));
         let events: Vec<[u8; raw::EVENT_SIZE]> = (0..self.random.between(0, 40))
@@ -267,7 +217,7 @@ impl Run {
             .random
             .pick(&[0, 1, 2, 63, 64, 65, 255, 256, 257, 65_535]);
         let reserved = self.random.percent(50);
-        let before = self.random_bytes();
+        let before = random_bytes(&mut self.random);
         self.check_fresh(before, threads, objects, reserved);
     }
 
@@ -324,7 +274,7 @@ impl Run {
 }
 
 /// The answer as the library gives it.
-fn packed(outcome: Outcome) -> u64 {
+pub fn packed(outcome: Outcome) -> u64 {
     let returned = u64::from(outcome.returned.number());
     let woken = u64::from(outcome.woken) << 8;
     let commits = u64::from(outcome.committed) << 16;
@@ -380,7 +330,7 @@ fn single_call(bytes: &mut [u8], event: &[u8; raw::EVENT_SIZE]) -> u64 {
     }
 }
 
-fn compare_bytes(given: &[u8], expected: &[u8]) -> Result<(), String> {
+pub fn compare_bytes(given: &[u8], expected: &[u8]) -> Result<(), String> {
     let differs = given.iter().zip(expected).position(|(a, b)| a != b);
     match differs {
         None if given.len() == expected.len() => Ok(()),

@@ -1,5 +1,6 @@
-//! The layout of a table's bytes, read and written for the second engine. Written from the header of the library alone.
+//! The layout of a table's bytes, read and written for the second engine, and of an event's. Written from the header of the library alone.
 
+use reference::engine::Event;
 use reference::table::{
     Monitor, ObjectRecord, Onward, Operation, Phase, Table, ThreadRecord, MAX_OBJECTS, MAX_THREADS,
 };
@@ -126,4 +127,26 @@ pub fn encode(table: &Table) -> Vec<u8> {
         bytes.extend([monitor.entry, monitor.contention, monitor.waiting]);
     }
     bytes
+}
+
+/// How many bytes an event of a run has.
+pub const EVENT_SIZE: usize = 8;
+
+/// The event as one of a run; numbers that do not fit are those of none.
+pub fn encode_event(event: Event) -> [u8; EVENT_SIZE] {
+    let narrow = |number: u16| number.min(255) as u8;
+    match event {
+        Event::Begin {
+            thread,
+            operation,
+            object,
+            limit,
+        } => {
+            let [low, second, third, high] = limit.to_le_bytes();
+            let (thread, object) = (narrow(thread), narrow(object));
+            [0, thread, operation, object, low, second, third, high]
+        }
+        Event::Step { thread } => [1, narrow(thread), 0, 0, 0, 0, 0, 0],
+        Event::Tick => [2, 0, 0, 0, 0, 0, 0, 0],
+    }
 }

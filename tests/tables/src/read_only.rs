@@ -1,5 +1,6 @@
 //! A table in memory that may only be read, and the library's events on it: a store there ends the process.
 
+use duskclamp::ScriptCursor;
 use std::ffi::{c_int, c_void};
 use std::ptr;
 
@@ -55,6 +56,17 @@ extern "C" {
         answers: *mut u64,
         answers_length: usize,
     ) -> usize;
+    fn duskclamp_dispatch(
+        bytes: *mut u8,
+        length: usize,
+        quantum: u32,
+        scripts: *const u8,
+        scripts_length: usize,
+        cursors: *mut ScriptCursor,
+        cursors_length: usize,
+        trace: *mut u64,
+        trace_length: usize,
+    ) -> u64;
 }
 
 pub struct ReadOnly {
@@ -91,7 +103,7 @@ impl ReadOnly {
         unsafe { std::slice::from_raw_parts(self.start, self.length) }
     }
 
-    // SAFETY, of the six calls: the bytes may be read, and the library is expected to store nothing; if it does, the process ends.
+    // SAFETY, of the seven calls: the bytes may be read, and the library is expected to store nothing; if it does, the process ends.
 
     pub fn fresh(&self, threads: u32, objects: u32) -> u32 {
         unsafe { duskclamp_fresh(self.start, self.length, threads, objects, 0) }
@@ -122,6 +134,29 @@ impl ReadOnly {
                 events.len(),
                 answers.as_mut_ptr(),
                 answers.len(),
+            )
+        }
+    }
+
+    /// With the records and the trace in such memory too.
+    pub fn dispatch(
+        &self,
+        quantum: u32,
+        scripts: &[u8],
+        cursors: &ReadOnly,
+        trace: &ReadOnly,
+    ) -> u64 {
+        unsafe {
+            duskclamp_dispatch(
+                self.start,
+                self.length,
+                quantum,
+                scripts.as_ptr(),
+                scripts.len(),
+                cursors.start.cast(),
+                cursors.length / size_of::<ScriptCursor>(),
+                trace.start.cast(),
+                trace.length / size_of::<u64>(),
             )
         }
     }

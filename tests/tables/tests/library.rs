@@ -5,7 +5,7 @@ use std::os::unix::process::ExitStatusExt;
 use std::process::{Command, ExitCode};
 use tables::cases::cases;
 use tables::compare::{Run, TIMED_WAIT};
-use tables::layout::{encode, TABLE_SIZE};
+use tables::layout::{encode, encode_event, TABLE_SIZE};
 use tables::read_only::ReadOnly;
 
 const SIGSEGV: i32 = 11;
@@ -84,25 +84,6 @@ fn bytes_that_are_no_table_are_not_stored_to() {
     }
 }
 
-/// The event as one of a run.
-fn event_bytes(event: Event) -> [u8; 8] {
-    let narrow = |number: u16| number.min(255) as u8;
-    match event {
-        Event::Begin {
-            thread,
-            operation,
-            object,
-            limit,
-        } => {
-            let [low, second, third, high] = limit.to_le_bytes();
-            let (thread, object) = (narrow(thread), narrow(object));
-            [0, thread, operation, object, low, second, third, high]
-        }
-        Event::Step { thread } => [1, narrow(thread), 0, 0, 0, 0, 0, 0],
-        Event::Tick => [2, 0, 0, 0, 0, 0, 0, 0],
-    }
-}
-
 /// A run of refused events stores nothing either, in the table; its answers are written.
 #[test]
 fn refused_runs_store_nothing() {
@@ -112,7 +93,7 @@ fn refused_runs_store_nothing() {
     {
         let bytes = encode(&case.table);
         let table = ReadOnly::new(&bytes);
-        let event = event_bytes(case.event);
+        let event = encode_event(case.event);
         let mut answers = [0; 3];
         assert_eq!(table.run(&[event, event].concat(), &mut answers), 2);
         assert_eq!(answers, [case.number.into(), case.number.into(), 0]);

@@ -4,7 +4,7 @@
 //! Usage: stress [STEPS] [SEED]
 
 use duskclamp::{Answer, Operation, Phase, Refusal, Table, Words};
-use reference::arguments::number;
+use reference::arguments::count_and_seed;
 use reference::checked::check_table;
 use reference::engine::Event;
 use reference::met::{Met, Rare};
@@ -22,7 +22,6 @@ use std::process::ExitCode;
 use tables::layout::{decode, phase_byte};
 
 const DEFAULT_STEPS: u64 = 10_000_000;
-const DEFAULT_SEED: u64 = 1;
 const THREADS: u32 = 32;
 /// A table is left for a fresh one after so many events, or when all its threads are parked and no tick lets one go on soon.
 const ROUND: u64 = 100_000;
@@ -47,17 +46,9 @@ const LONG_LIMIT: u64 = 65_535;
 const SOON: u32 = 1_000;
 
 fn main() -> ExitCode {
-    let arguments: Vec<String> = std::env::args().skip(1).collect();
-    let numbers = number(&arguments, 0, DEFAULT_STEPS)
-        .and_then(|steps| Ok((steps, number(&arguments, 1, DEFAULT_SEED)?)));
-    let (steps, seed) = match numbers {
-        Ok(numbers) => numbers,
-        Err(wrong) => {
-            eprintln!("{wrong}\nusage: stress [STEPS] [SEED]");
-            return ExitCode::FAILURE;
-        }
+    let Some((_, steps, seed)) = count_and_seed(DEFAULT_STEPS, "stress [STEPS] [SEED]") else {
+        return ExitCode::FAILURE;
     };
-    println!("seed {seed}");
     let mut report = Report::default();
     let total = run_tables(steps, seed, &mut report);
     total.print();

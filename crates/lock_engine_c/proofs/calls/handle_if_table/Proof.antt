@@ -69,7 +69,7 @@ returns c =
     let stores =
     turn-stores (args .event) (read .read-table .ensures) (thread .event-thread .ensures) (own .read-thread .ensures) (number .event-object .ensures)
     (object .read-object .ensures) (sound .sound .ensures) (turned .turn-with .ensures) (args .bytes .now) in (
-      simp (c .packed .ensures, c .before .woken .ensures, c .before .before .returned .ensures, known, unparks joined) answers,
+      simp (c .packed .ensures .0, c .before .woken .ensures, c .before .before .returned .ensures, known, unparks joined) answers,
       simp (known) (stored joined ∙ stores),
     )
 

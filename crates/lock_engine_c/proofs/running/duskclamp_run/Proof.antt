@@ -12,8 +12,9 @@ use Rattle.lock_table.specs.Limits.{thread-limit, object-limit}
 use Rattle.lock_engine.specs.declared.outcome.Outcome.{Outcome}
 use Rattle.lock_table.proofs.Places.{place-inside}
 use Rattle.table_bytes.specs.Reading.{AreBytes}
+use Rattle.lock_engine.proofs.InPlace.{came-so}
 use Rattle.lock_engine_c.specs.Run.{run-count}
-use Rattle.lock_engine_c.proofs.Runs.{count-fits, came-so, Running, run-starts, run-goes-on, run-ends}
+use Rattle.lock_engine_c.proofs.Runs.{count-fits, Running, run-starts, run-goes-on, run-ends}
 use Rattle.lock_engine_c.proofs.running.duskclamp_run.Statement.{statement}
 use Rattle.lock_engine_c.proofs.running.duskclamp_run.Tie as tie
 
@@ -88,7 +89,7 @@ loop-again c =
           (stay .work-stays .ensures)
           (either-way (joined .if1 .came) (λ some. inl (some .0 .taken, some .1, some .2))
           (λ some. inr (some .0 .left, some .1 .result, some .1 .ensures, some .3, some .4))))
-          (simp (c .packed .ensures, c .before .woken .ensures, c .before .before .returned .ensures))
+          (simp (c .packed .ensures .0, c .before .woken .ensures, c .before .before .returned .ensures))
           (λ j. either (loop .loop .changed) (replied .reply-changes .ensures j)),
     )
 

@@ -1,0 +1,2 @@
+-- The records lent.
+pub mod Lent
