@@ -200,18 +200,19 @@ typedef struct duskclamp_script {
  * a fresh table on). 18 and 19 are steps: the operation is over, and the script goes on. After a round without a step the run ends. Then nobody can
  * go on; threads may be parked for good, as in a deadlock or a wait that nobody notifies. Nobody is kept waiting: on a table that came from
  * duskclamp_fresh by events alone an unparked thread with an operation to finish or to begin gets its step before the others have taken more than
- * `quantum` for each of them. The clock does not tick.
+ * `quantum` times their number, all together. The clock does not tick.
  *
  * `scripts` points to `scripts_length` bytes, DUSKCLAMP_OPERATION_SIZE for each operation; a last odd byte is none. `cursors` points to
  * `cursors_length` records, that of thread 1 first. Scripts may overlap or be the same, and threads of the table may be at an operation already: they
  * finish it first. `trace` has room for `trace_length` entries, one for each step: as many are written as there are steps and as there is room for.
  * None of these overlaps the table or another.
  *
- * Returned: 0, or the first of 11, 25, 26 that applies; then table, records and trace stay as they are. 26 if there are not as many records as the
+ * Returned: 0, or the first of 11, 25, 26 that applies; then table, records and trace stay as they are, and in table and trace
+ * nothing is stored. 26 if there are not as many records as the
  * table has threads, or if of one of them `start` + `length` is above the number of operations that are lent, `cursor` is above `length`, or an operation
  * of its script, one before the cursor too, has not a number from 1 to 5 and an object of the table. A timed wait is none of a script's operations.
  * DUSKCLAMP_STEPS_TAKEN of the answer is the number of steps, also of those that the trace had no room for; 0 where the call is refused. On every sound
- * table a run ends, with at most 210 steps for each operation that is not begun and 205 for each thread. */
+ * table a run ends, with at most 205 steps for each operation that is not begun and for each thread. */
 uint64_t duskclamp_dispatch(uint8_t *bytes, size_t length, uint32_t quantum, const uint8_t *scripts, size_t scripts_length, duskclamp_script *cursors,
                             size_t cursors_length, uint64_t *trace, size_t trace_length);
 #define DUSKCLAMP_STEPS_TAKEN(answer) ((uint64_t)(answer) >> 8)

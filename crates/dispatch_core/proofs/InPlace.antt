@@ -6,13 +6,11 @@ use mathlib.Core.Logic.{_⊎_}
 use mathlib.Core.Bool.{Bool, true, false}
 use mathlib.Core.List.{List, [], _∷_, _++_, append-assoc, append-nil}
 use native.Mathlib.Omega.{arith}
-use native.Mathlib.Numerals.{add-one}
 use lib.ListN.{length, getD, set, length-set, length-append}
 use lib.Seq.{set-getD, getD-set-same}
 use borrow.Author.Tests.{lt-ltb}
 use Rattle.laws.specs.Choice.{pick}
 use Rattle.laws.specs.Count.{one-if}
-use Rattle.laws.proofs.Choice.{split, by-test}
 use Rattle.lock_rules.specs.declared.event.Event.the-variants.{Step as StepOf}
 use Rattle.lock_rules.specs.declared.event.ThreadStatus.{ThreadStatus}
 use Rattle.lock_table.specs.Limits.{thread-limit}
@@ -25,7 +23,6 @@ use Rattle.lock_table.specs.declared.record.Table.{Table}
 use Rattle.lock_table.proofs.Records.{thread-in, set-thread-in}
 use Rattle.lock_table.proofs.Places.{place-has, place-inside}
 use Rattle.lock_gate.specs.Status.{thread-status}
-use Rattle.lock_soundness.specs.Sound.{sound-of}
 use Rattle.lock_soundness.proofs.Reading.{sound-reads}
 use Rattle.lock_engine.specs.Outcome.{reply-returned}
 use Rattle.lock_work.specs.Work.{work-stays}
@@ -36,23 +33,22 @@ use Rattle.lock_engine.proofs.InPlace.{stored, came-so}
 use Rattle.lock_engine.specs.declared.outcome.Outcome.{Outcome}
 use Rattle.step_bounds.specs.SixSteps.{is-step}
 use Rattle.round_robin.specs.Dispatch.{Tried, Step, Ran, still, taken, with-step, run}
-use Rattle.dispatch_rules.specs.Script.{no-cursor, cursor-at, moved-on, begins}
+use Rattle.dispatch_rules.specs.Script.{no-cursor, cursor-at, begins}
 use Rattle.dispatch_rules.specs.Attempt.{Shown, goes-on, begins-in, begun-in, begin-next, attempt}
-use Rattle.dispatch_rules.specs.Dispatch.{most-steps, steps-room, scripted, dispatch-answer, run-answered, dispatched, script-run, is-begun, trace-entry, entry-of, traced}
+use Rattle.dispatch_rules.specs.Dispatch.{most-steps, steps-room, scripted, dispatch-answer, run-answered, dispatched, is-begun, trace-entry, entry-of, traced}
 use Rattle.dispatch_rules.specs.declared.ScriptCursor.{ScriptCursor}
-use Rattle.dispatch_rules.specs.declared.Scripted.{Scripted}
-use Rattle.dispatch_rules.specs.declared.ScriptRun.{ScriptRun}
+use Rattle.dispatch_rules.specs.Script.{Scripted}
 use Rattle.dispatch_rules.specs.declared.DispatchAnswer.{DispatchAnswer}
 use Rattle.dispatch_rules.specs.declared.DispatchAnswer.the-variants.{Ended, NotSound, QuantumOutOfRange, ScriptUnknown}
-use Rattle.dispatch_rules.specs.Claims.{Given}
+use Rattle.dispatch_rules.specs.Claims.{RunInput}
 use Rattle.dispatch_rules.proofs.Cursors.{begins-says}
 use Rattle.dispatch_rules.proofs.Ends.{runs-end}
 use Rattle.dispatch_rules.proofs.Good.{Good, good-first, few-threads, begin-accepted, good-begin, good-attempt}
 use Rattle.dispatch_core.specs.Records.{record-ready, cursor-after}
-use Rattle.dispatch_core.specs.Position.{round-room, over, first-position, next-position}
+use Rattle.dispatch_core.specs.Position.{round-room, first-position, next-position}
 use Rattle.dispatch_core.specs.declared.position.Position.{Position}
 use Rattle.dispatch_core.proofs.Positions.{left-at, left-over, left-first, left-next, next-inside}
-use Rattle.dispatch_core.proofs.Measure.{togo-room, togo, togo-more, next-less, first-few}
+use Rattle.dispatch_core.proofs.Measure.{loop-room, ahead, some-ahead, next-less, first-few}
 
 -- steps that were taken, and what is left
 abbrev behind : List (Step Scripted Shown) → Ran Scripted Shown → Ran Scripted Shown
@@ -179,7 +175,7 @@ pub record Going (scripts : List ℕ) (q threads objects : ℕ) (whole : Ran Scr
   pub whole-is : whole ≡ behind done (left-at (attempt scripts) q threads position w)
   pub steps-are : steps ≡ length done
   pub trace-is : trace ≡ traced 0 trace₀ done
-  pub room : steps + togo threads q position ≤ togo-room
+  pub room : steps + ahead threads q position ≤ loop-room
   pub alive : 0 < position .left → (1 ≤ q) × Alive scripts q threads objects w position
 
 module _ {scripts : List ℕ} {q threads objects : ℕ} {whole : Ran Scripted Shown} {trace₀ trace : List ℕ} {w : Scripted} {steps : ℕ} {position : Position}
@@ -248,7 +244,7 @@ module _ {scripts : List ℕ} {q threads objects : ℕ} {whole : Ran Scripted Sh
             let (low, high) = next-inside threads q some-threads position took (tried .on) (here .low) (here .high) in
             (some-steps, record { good = good-attempt scripts threads objects w (here .good) thread (here .low) (here .high); low = low; high = high })
 
-        less : (took : Bool) → togo threads q (next-position threads q position took (tried .on)) < togo threads q position
+        less : (took : Bool) → ahead threads q (next-position threads q position took (tried .on)) < ahead threads q position
         less took = next-less threads q some-threads position took (tried .on) more (here .high)
 
         at-end : steps ≡ 0 + length (going .done)
@@ -280,7 +276,7 @@ module _ {scripts : List ℕ} {q threads objects : ℕ} {whole : Ran Scripted Sh
             }
 
     -- the loop comes nearer its end
-    pub goes-less : {next : Position} (took on : Bool) → next ≡ next-position threads q position took on → togo threads q next < togo threads q position
+    pub goes-less : {next : Position} (took on : Bool) → next ≡ next-position threads q position took on → ahead threads q next < ahead threads q position
     goes-less took on goes = rw goes (next-less threads q some-threads position took on more (here .high))
 
   -- the run is over
@@ -294,8 +290,8 @@ module _ {scripts : List ℕ} {q threads objects : ℕ} {whole : Ran Scripted Sh
       )
 
   -- there is room to count one more
-  pub counts-fit : 0 < position .left → (took : Bool) → steps + one-if took ≤ togo-room
-  counts-fit more true = omega (arith, going .room, togo-more threads q position more)
+  pub counts-fit : 0 < position .left → (took : Bool) → steps + one-if took ≤ loop-room
+  counts-fit more true = omega (arith, going .room, some-ahead threads q position more)
   counts-fit more false = omega (arith, going .room)
 
 -- a trace keeps its length
@@ -334,7 +330,7 @@ run-begins scripts q lent w trace answer rounds typed long is rounds-are few =
     whole QuantumOutOfRange is = refl
     whole ScriptUnknown is = refl
 
-    first-room : (a : DispatchAnswer) → a ≡ dispatch-answer scripts q lent w → 0 + togo threads q (first-position a q rounds) ≤ togo-room
+    first-room : (a : DispatchAnswer) → a ≡ dispatch-answer scripts q lent w → 0 + ahead threads q (first-position a q rounds) ≤ loop-room
     first-room Ended is =
         let (good, (some, small), all) = good-first scripts q lent w typed long (sym is) in
         let fits = first-few threads q rounds (few-threads scripts threads (w .table .objectcount) w good) small few in omega (arith, fits)
@@ -359,7 +355,7 @@ unfolding run-answered
 run-few scripts q lent w Ended rounds typed long is rounds-are few =
     let (good, small, all) = good-first scripts q lent w typed long (sym is) in
     let threads = few-threads scripts (w .table .threadcount) (w .table .objectcount) w good in
-    let given : Given = record { scripts = scripts; quantum = q; lent = lent; cursors = w .cursors; long = long } in
+    let given : RunInput = record { scripts = scripts; quantum = q; lent = lent; cursors = w .cursors; long = long } in
     let most : length (run-answered Ended scripts q w .steps) ≤ most-steps (w .table .threadcount) (w .cursors) =
     subst (λ (a : DispatchAnswer). length (run-answered a scripts q w .steps) ≤ most-steps (w .table .threadcount) (w .cursors)) (sym is)
     (runs-end given (w .table) typed (sym is) .1) in

@@ -1,59 +1,58 @@
 -- How often the loop goes round at most from a position, which no step or turn makes more.
 use Prim.Native.Nat.{ℕ, zero, suc, _+_, _-_, _*_, _≤_, _<_}
-use mathlib.Core.Path.{_≡_, sym, ap, subst}
-use mathlib.Core.Bool.{Bool, true, false}
+use mathlib.Core.Path.{_≡_, ap}
+use mathlib.Core.Bool.{Bool, false}
 use native.Mathlib.Omega.{arith}
-use native.Mathlib.Nat.{mul-le-mul, suc-mul, add-mul}
-use lib.Dec.{ltb}
-use Rattle.laws.specs.Choice.{pick, both, either}
+use native.Mathlib.Nat.{mul-le-mul, suc-mul}
+use Rattle.laws.specs.Choice.{both, either}
 use Rattle.laws.proofs.Choice.{by-below, by-test}
-use Rattle.dispatch_core.specs.Position.{round-room, over, turn-of, after-turn, next-position}
+use Rattle.dispatch_core.specs.Position.{round-room, turn-of, after-turn, next-position}
 use Rattle.dispatch_core.specs.declared.position.Position.{Position}
 
 -- so often at most, in any run
-abbrev pub togo-room : ℕ
-togo-room = 1152921504606846976
+abbrev pub loop-room : ℕ
+loop-room = 1152921504606846976
 
 module _ (threads q : ℕ) where
   -- the turns behind this one, in this round and in the rounds that may follow, have q steps each
   abbrev turns-behind : ℕ → ℕ → ℕ
   turns-behind thread rounds = rounds * threads + (threads - thread)
 
-  abbrev togo-from : ℕ → ℕ → ℕ → ℕ
-  togo-from zero thread rounds = 0
-  togo-from (suc left) thread rounds = suc left + turns-behind thread rounds * q
+  abbrev ahead-from : ℕ → ℕ → ℕ → ℕ
+  ahead-from zero thread rounds = 0
+  ahead-from (suc left) thread rounds = suc left + turns-behind thread rounds * q
 
-  abbrev pub togo : Position → ℕ
-  togo position = togo-from (position .left) (position .thread) (position .rounds)
+  abbrev pub ahead : Position → ℕ
+  ahead position = ahead-from (position .left) (position .thread) (position .rounds)
 
   -- no more than the steps left and all turns behind
-  togo-most : (left thread rounds : ℕ) → togo-from left thread rounds ≤ left + turns-behind thread rounds * q
-  togo-most zero thread rounds = omega arith
-  togo-most (suc left) thread rounds = omega arith
+  ahead-most : (left thread rounds : ℕ) → ahead-from left thread rounds ≤ left + turns-behind thread rounds * q
+  ahead-most zero thread rounds = omega arith
+  ahead-most (suc left) thread rounds = omega arith
 
-  togo-some : (left thread rounds : ℕ) → 0 < left → left + turns-behind thread rounds * q ≤ togo-from left thread rounds
-  togo-some zero thread rounds some = absurd (omega (arith, some))
-  togo-some (suc left) thread rounds some = omega arith
+  ahead-some : (left thread rounds : ℕ) → 0 < left → left + turns-behind thread rounds * q ≤ ahead-from left thread rounds
+  ahead-some zero thread rounds some = absurd (omega (arith, some))
+  ahead-some (suc left) thread rounds some = omega arith
 
-  pub togo-more : (position : Position) → 0 < position .left → 0 < togo position
-  togo-more position some = let least = togo-some (position .left) (position .thread) (position .rounds) some in omega (arith, least, some)
+  pub some-ahead : (position : Position) → 0 < position .left → 0 < ahead position
+  some-ahead position some = let least = ahead-some (position .left) (position .thread) (position .rounds) some in omega (arith, least, some)
 
   -- a turn whose q steps are among those behind another
   turn-behind : (thread rounds other more : ℕ) → suc (turns-behind other more) ≤ turns-behind thread rounds
-      → togo-from q other more ≤ turns-behind thread rounds * q
+      → ahead-from q other more ≤ turns-behind thread rounds * q
   turn-behind thread rounds other more less =
-      let most = togo-most q other more in
+      let most = ahead-most q other more in
       let one : suc (turns-behind other more) * q ≡ turns-behind other more * q + q = suc-mul (turns-behind other more) q in
       let many : suc (turns-behind other more) * q ≤ turns-behind thread rounds * q = mul-le-mul less (let same : q ≤ q = omega arith in same) in
       omega (arith, most, one, many)
 
-  after-turn-less : 1 ≤ threads → (thread : ℕ) (stepped : Bool) (rounds : ℕ) → thread ≤ threads → togo (after-turn threads q thread stepped rounds) ≤ turns-behind thread rounds * q
+  after-turn-less : 1 ≤ threads → (thread : ℕ) (stepped : Bool) (rounds : ℕ) → thread ≤ threads → ahead (after-turn threads q thread stepped rounds) ≤ turns-behind thread rounds * q
   unfolding after-turn
   after-turn-less some-threads thread stepped rounds high =
-      by-below (λ (position : Position). togo position ≤ turns-behind thread rounds * q) thread threads
+      by-below (λ (position : Position). ahead position ≤ turns-behind thread rounds * q) thread threads
       (λ more. turn-behind thread rounds (thread + 1) rounds (omega (arith, more)))
-      (λ last. by-test (λ (position : Position). togo position ≤ turns-behind thread rounds * q) stepped
-      (λ some. by-below (λ (position : Position). togo position ≤ turns-behind thread rounds * q) 0 rounds
+      (λ last. by-test (λ (position : Position). ahead position ≤ turns-behind thread rounds * q) stepped
+      (λ some. by-below (λ (position : Position). ahead position ≤ turns-behind thread rounds * q) 0 rounds
       (λ more. turn-behind thread rounds 1 (rounds - 1) (fewer more)) (λ none. omega arith))
       (λ none. omega arith))
     where
@@ -63,21 +62,21 @@ module _ (threads q : ℕ) where
           let same : rounds * threads ≡ suc (rounds - 1) * threads = ap (λ (r : ℕ). r * threads) (let is : rounds ≡ suc (rounds - 1) = omega (arith, more) in is) in
           omega (arith, one, same, some-threads)
 
-  pub next-less : 1 ≤ threads → (position : Position) (took on : Bool) → 0 < position .left → position .thread ≤ threads → togo (next-position threads q position took on) < togo position
+  pub next-less : 1 ≤ threads → (position : Position) (took on : Bool) → 0 < position .left → position .thread ≤ threads → ahead (next-position threads q position took on) < ahead position
   unfolding next-position
   next-less some-threads position took on some high =
-      let here = togo-some (position .left) (position .thread) (position .rounds) some in
+      let here = ahead-some (position .left) (position .thread) (position .rounds) some in
       let turned = after-turn-less some-threads (position .thread) (either (position .stepped) took) (position .rounds) high in
-      by-test (λ (next : Position). togo next < togo position) (both took on)
-      (λ goes. by-below (λ (next : Position). togo next < togo position) 1 (position .left)
-      (λ more. let less = togo-most (position .left - 1) (position .thread) (position .rounds) in omega (arith, less, here, some))
+      by-test (λ (next : Position). ahead next < ahead position) (both took on)
+      (λ goes. by-below (λ (next : Position). ahead next < ahead position) 1 (position .left)
+      (λ more. let less = ahead-most (position .left - 1) (position .thread) (position .rounds) in omega (arith, less, here, some))
       (λ last. omega (arith, turned, here, some)))
       (λ ended. omega (arith, turned, here, some))
 
   -- the whole fits, and so does the number of its steps
-  pub first-few : (rounds : ℕ) → threads ≤ 32 → q ≤ 100 → rounds ≤ threads * round-room → togo (turn-of 1 q false rounds) ≤ togo-room
+  pub first-few : (rounds : ℕ) → threads ≤ 32 → q ≤ 100 → rounds ≤ threads * round-room → ahead (turn-of 1 q false rounds) ≤ loop-room
   first-few rounds few-threads few-steps few-rounds =
-      let most = togo-most q 1 rounds in
+      let most = ahead-most q 1 rounds in
       let enough : rounds ≤ 32 * round-room = omega (arith, few-rounds, few-threads) in
       let product : rounds * threads ≤ (32 * round-room) * 32 = mul-le-mul enough few-threads in
       let behind : turns-behind 1 rounds ≤ (32 * round-room) * 32 + 32 = omega (arith, product, few-threads) in

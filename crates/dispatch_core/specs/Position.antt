@@ -1,6 +1,6 @@
 -- Where a run is, and where it goes on: the turns and rounds of a run as one loop takes them.
 use Prim.Native.Nat.{ℕ, _+_, _-_}
-use mathlib.Core.Bool.{Bool, true, false}
+use mathlib.Core.Bool.{Bool, false}
 use lib.Dec.{ltb}
 use Rattle.laws.specs.Choice.{pick, both, either}
 use Rattle.dispatch_rules.specs.declared.DispatchAnswer.{DispatchAnswer}

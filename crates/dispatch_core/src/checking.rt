@@ -4,6 +4,8 @@ use crate::script::object_of;
 use crate::script::operation_at;
 use dispatch_rules::DispatchAnswer;
 use dispatch_rules::ScriptCursor;
+use lock_engine::refusal_number;
+use lock_rules::Refusal;
 use lock_table::Table;
 use lock_table::thread_place;
 ghost use mathlib.Core.Path.{_≡_};
@@ -90,7 +92,7 @@ fn first_answer(issound: bool, isquantum: bool, areknown: bool) -> DispatchAnswe
     DispatchAnswer::NotSound
 }
 
-// The answer of a run, before anything runs.
+// The answer of a run, before anything runs. The scripts are looked at also where 11 or 25 is answered: a run that goes on needs it in any case.
 pub(crate) fn dispatch_answer(
     table: Table,
     quantum: u32,
@@ -113,7 +115,7 @@ pub fn dispatch_returned(answer: DispatchAnswer) -> u8
 {
     match answer {
         DispatchAnswer::Ended => 0,
-        DispatchAnswer::NotSound => 11,
+        DispatchAnswer::NotSound => refusal_number(Refusal::NotSound),
         DispatchAnswer::QuantumOutOfRange => 25,
         DispatchAnswer::ScriptUnknown => 26,
     }

@@ -11,9 +11,8 @@ ghost use Rattle.dispatch_rules.specs.Attempt.{goes-on};
 ghost use Rattle.dispatch_rules.specs.Dispatch.{operations-left, most-steps};
 ghost use Rattle.dispatch_core.specs.Position.{cursor-room, round-room, turn-of, over, first-position, after-turn, next-position};
 
-const OPERATION_STEPS: u64 = 210;
-
-const THREAD_STEPS: u64 = 205;
+// The steps of a run are at most so many for each operation that is still to begin, and for each thread.
+const STEP_WEIGHT: u64 = 205;
 
 // What a step that parks its thread returns.
 const PARKED: u8 = 2;
@@ -52,7 +51,7 @@ pub(crate) fn most_steps(threads: u8, cursors: [ScriptCursor; 32]) -> u64
     ensures { λ r. ⌜ r ≡ most-steps threads cursors ⌝ }
     ensures small { λ r. ⌜ r ≤ threads * round-room ⌝ }
 {
-    OPERATION_STEPS * operations_left(threads, cursors) + THREAD_STEPS * (threads as u64)
+    STEP_WEIGHT * (operations_left(threads, cursors) + (threads as u64))
 }
 
 fn turn_of(thread: u8, left: u32, stepped: bool, rounds: u64) -> Position

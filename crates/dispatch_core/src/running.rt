@@ -25,10 +25,11 @@ use lock_work::work_done;
 use lock_work::work_stays;
 ghost use mathlib.Core.Path.{_≡_};
 ghost use Prim.Native.Nat.{_≤_, _<_};
-ghost use Rattle.dispatch_rules.specs.Dispatch.{most-steps, steps-room, scripted, dispatched, script-run, traced};
+ghost use Rattle.dispatch_rules.specs.Dispatch.{most-steps, steps-room, scripted, dispatched, run-scripts, traced};
 
 // Runs the scripts from the given cursors on, round after round, until a round is without a step. `lent` records were lent; those of the table's threads are
-// the first cursors. Refused, it changes nothing.
+// the first cursors. Refused, it changes nothing. Soundness is tested once, before the loop: every event keeps it. A begin is made on the record that
+// the step is then taken from, since it changes nothing else.
 pub fn run_scripts(
     table: Table,
     quantum: u32,
@@ -37,7 +38,7 @@ pub fn run_scripts(
     lent: usize,
     trace: &mut [u64],
 ) -> ScriptRun
-    ensures { λ r. ⌜ r ≡ script-run (now (scripts .entry)) quantum lent (scripted table cursors) ⌝ }
+    ensures { λ r. ⌜ r ≡ run-scripts (now (scripts .entry)) quantum lent (scripted table cursors) ⌝ }
     ensures { λ _. ⌜ now (trace .exit) ≡ traced 0 (now (trace .entry)) (dispatched (now (scripts .entry)) quantum lent (scripted table cursors) .steps) ⌝ }
     ensures few { λ r. ⌜ (r .dispatched .steps ≤ most-steps (table .threadcount) cursors) × (r .dispatched .steps < steps-room) ⌝ }
 {

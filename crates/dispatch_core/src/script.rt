@@ -1,16 +1,13 @@
 // The operations of a script, and what the next one makes of its thread's record and cursor.
 use dispatch_rules::ScriptCursor;
 use lock_engine::begun;
-use lock_gate::thread_status;
 use lock_rules::ThreadStatus;
 use lock_table::ThreadRecord;
 use lock_table::operation_from;
 ghost use mathlib.Core.Path.{_≡_};
 ghost use Prim.Native.Nat.{_+_};
 ghost use lib.ListN.{getD};
-ghost use Rattle.laws.specs.Choice.{pick};
-ghost use Rattle.lock_gate.specs.Status.{thread-status};
-ghost use Rattle.dispatch_rules.specs.Script.{operation-at, object-of, moved-on, begins};
+ghost use Rattle.dispatch_rules.specs.Script.{operation-at, object-of, begins};
 ghost use Rattle.dispatch_core.specs.Records.{record-ready, cursor-after};
 
 // An operation of a script is two bytes, its number and its object.
@@ -74,7 +71,7 @@ pub(crate) fn record_ready(
     own
 }
 
-// Beginning moves the cursor on.
+// Beginning moves the cursor on. Who begins has an operation left; the test is there so that one more fits.
 pub(crate) fn cursor_after(begins: bool, cursor: ScriptCursor) -> ScriptCursor
     ensures { λ r. ⌜ r ≡ cursor-after begins cursor ⌝ }
 {

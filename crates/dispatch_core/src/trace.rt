@@ -8,8 +8,10 @@ ghost use lib.ListN.{set};
 ghost use Rattle.laws.specs.Choice.{pick};
 ghost use Rattle.dispatch_rules.specs.Dispatch.{trace-entry};
 
+// Bit 17, which an answer does not use.
 const BEGUN_UNIT: u64 = 131072;
 
+// From bit 24 on, nor these.
 const THREAD_UNIT: u64 = 16777216;
 
 // The step's answer, with its thread and whether the thread began its operation just before.

@@ -15,16 +15,16 @@ use Rattle.round_robin.proofs.Machine.{Ending}
 use Rattle.round_robin.proofs.Fairness.{run-spent, run-ends}
 use Rattle.dispatch_rules.specs.Script.{operation-at, object-of, cursor-at, next-place}
 use Rattle.dispatch_rules.specs.Attempt.{begins-in, begin-next, attempt}
-use Rattle.dispatch_rules.specs.Dispatch.{operation-steps, quantum-limit, operations-left, most-steps, run-scripts, run-answered}
-use Rattle.dispatch_rules.specs.Claims.{Given, given-world, given-run, Accepted, RunsEnd}
-use Rattle.dispatch_rules.specs.declared.Scripted.{Scripted}
+use Rattle.dispatch_rules.specs.Dispatch.{step-weight, quantum-limit, operations-left, most-steps, rounds-of, run-answered}
+use Rattle.dispatch_rules.specs.Claims.{RunInput, given-world, given-run, Accepted, RunsEnd}
+use Rattle.dispatch_rules.specs.Script.{Scripted}
 use Rattle.dispatch_rules.specs.declared.DispatchAnswer.{DispatchAnswer}
 use Rattle.dispatch_rules.proofs.Cursors.{begins-says, moved-less}
 use Rattle.dispatch_rules.proofs.Good.{Good, good-first, few-threads, begin-accepted, good-begin, good-attempt, attempt-same}
 
 -- the work left on the table, and for each operation that is still to begin more than its begin adds
 abbrev pub size : ℕ → Scripted → ℕ
-size threads w = work-left (w .table) + operation-steps * operations-left threads (w .cursors)
+size threads w = work-left (w .table) + step-weight * operations-left threads (w .cursors)
 
 module _ (scripts : List ℕ) (threads objects : ℕ) where
   -- a begin does not raise it
@@ -54,7 +54,7 @@ module _ (scripts : List ℕ) (threads objects : ℕ) where
       }
 
 -- a run that nothing refuses
-module _ (given : Given) (table : Table) (typed : WellTyped table) (accepted : Accepted given table) where
+module _ (given : RunInput) (table : Table) (typed : WellTyped table) (accepted : Accepted given table) where
   abbrev start : Scripted
   start = given-world given table
 
@@ -81,7 +81,7 @@ module _ (given : Given) (table : Table) (typed : WellTyped table) (accepted : A
   enough-rounds = omega (arith, few-steps)
 
   -- it is a run of the scripts
-  pub runs : given-run given table ≡ run-scripts (given .scripts) quantum start
+  pub runs : given-run given table ≡ rounds-of (given .scripts) quantum start
   unfolding run-answered
   runs = ap (λ (answer : DispatchAnswer). run-answered answer (given .scripts) quantum start) accepted
 

@@ -28,9 +28,9 @@ use Rattle.round_robin.proofs.Fairness.{run-spent, run-ends, turns-still, run-f
 use Rattle.dispatch_rules.specs.Script.{cursor-at, next-begin, moved-on, begins, has-work}
 use Rattle.dispatch_rules.specs.Attempt.{begins-in, begin-next, attempt, ready-in}
 use Rattle.dispatch_rules.specs.Dispatch.{most-steps}
-use Rattle.dispatch_rules.specs.Claims.{Given, given-world, given-run, Accepted, RunsFair, NobodyLeft}
+use Rattle.dispatch_rules.specs.Claims.{RunInput, given-world, given-run, Accepted, RunsFair, NobodyLeft}
 use Rattle.dispatch_rules.specs.declared.ScriptCursor.{ScriptCursor}
-use Rattle.dispatch_rules.specs.declared.Scripted.{Scripted}
+use Rattle.dispatch_rules.specs.Script.{Scripted}
 use Rattle.dispatch_rules.proofs.Cursors.{cursor-set-other}
 use Rattle.dispatch_rules.proofs.Good.{Good, few-threads, begun-attempt, good-begin}
 use Rattle.dispatch_rules.proofs.Ends.{size, ending, first-good, some-steps, enough-rounds, runs}
@@ -118,7 +118,7 @@ module _ (scripts : List ℕ) (request : FreshRequest) (in-range : InRange reque
       }
 
 -- a run from a table that a schedule makes from a fresh one
-module _ (request : FreshRequest) (in-range : InRange request) (before : List Event) (given : Given) where
+module _ (request : FreshRequest) (in-range : InRange request) (before : List Event) (given : RunInput) where
   abbrev table : Table
   table = final-of (fresh-of request .table) before
 

@@ -32,7 +32,7 @@ use Rattle.dispatch_rules.specs.Script.{script-operations, operation-at,
 use Rattle.dispatch_rules.specs.Attempt.{begins-in, begin-next, attempt}
 use Rattle.dispatch_rules.specs.Dispatch.{quantum-limit, scripted, scripts-known, first-answer, dispatch-answer}
 use Rattle.dispatch_rules.specs.declared.ScriptCursor.{ScriptCursor}
-use Rattle.dispatch_rules.specs.declared.Scripted.{Scripted}
+use Rattle.dispatch_rules.specs.Script.{Scripted}
 use Rattle.dispatch_rules.specs.declared.DispatchAnswer.the-variants.{Ended}
 use Rattle.dispatch_rules.proofs.Cursors.{begins-says, next-known, moved-known, cursor-set-same, cursor-set-other}
 use Rattle.dispatch_rules.proofs.Events.{no-step-leaves, sizes-kept, MayBegin, begin-taken, begun-steps}

@@ -18,8 +18,8 @@ use Rattle.round_robin.proofs.Machine.{Along}
 use Rattle.round_robin.proofs.Runs.{run-along}
 use Rattle.dispatch_rules.specs.Attempt.{Shown, begins-in, begun-in, attempt}
 use Rattle.dispatch_rules.specs.Dispatch.{most-steps, dispatch-answer, run-answered}
-use Rattle.dispatch_rules.specs.Claims.{Given, given-world, given-run, events-of, RunsAreSchedules, RunsClaim}
-use Rattle.dispatch_rules.specs.declared.Scripted.{Scripted}
+use Rattle.dispatch_rules.specs.Claims.{RunInput, given-world, given-run, events-of, RunsAreSchedules, RunsClaim}
+use Rattle.dispatch_rules.specs.Script.{Scripted}
 use Rattle.dispatch_rules.specs.declared.DispatchAnswer.{DispatchAnswer}
 use Rattle.dispatch_rules.specs.declared.DispatchAnswer.the-variants.{Ended, NotSound, QuantumOutOfRange, ScriptUnknown}
 use Rattle.dispatch_rules.proofs.Good.{Good, good-attempt, attempt-same}
@@ -80,7 +80,7 @@ no-events : (steps : List (Step Scripted Shown)) → length steps ≡ 0 → even
 no-events [] none = refl
 no-events (step ∷ steps) none = absurd (omega (arith, none))
 
-pub unstepped-same : (given : Given) (table : Table) → WellTyped table → length (given-run given table .steps) ≡ 0 → given-run given table .world .table ≡ table
+pub unstepped-same : (given : RunInput) (table : Table) → WellTyped table → length (given-run given table .steps) ≡ 0 → given-run given table .world .table ≡ table
 unfolding run-answered
 unstepped-same given table typed none = by-answer (dispatch-answer (given .scripts) (given .quantum) (given .lent) (given-world given table)) refl
   where

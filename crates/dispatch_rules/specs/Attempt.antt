@@ -17,7 +17,7 @@ use Rattle.lock_engine.specs.declared.outcome.Outcome.{Outcome}
 use Rattle.step_bounds.specs.SixSteps.{is-step}
 use Rattle.round_robin.specs.Dispatch.{Tried}
 use Rattle.dispatch_rules.specs.Script.{cursor-at, set-cursor, next-begin, moved-on, begins, has-work}
-use Rattle.dispatch_rules.specs.declared.Scripted.{Scripted}
+use Rattle.dispatch_rules.specs.Script.{Scripted}
 
 -- What a step shows: the begin just before it, where there was one, and what the step gave back.
 pub record Shown : Type 0 where

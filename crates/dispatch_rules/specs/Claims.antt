@@ -19,31 +19,31 @@ use Rattle.round_robin.specs.Fair.{Fair}
 use Rattle.dispatch_rules.specs.Attempt.{Shown, attempt, ready-in}
 use Rattle.dispatch_rules.specs.Dispatch.{scripted, most-steps, dispatch-answer, dispatched}
 use Rattle.dispatch_rules.specs.declared.ScriptCursor.{ScriptCursor}
-use Rattle.dispatch_rules.specs.declared.Scripted.{Scripted}
+use Rattle.dispatch_rules.specs.Script.{Scripted}
 use Rattle.dispatch_rules.specs.declared.DispatchAnswer.the-variants.{Ended}
 
 -- What a run is given, beside a table: the scripts, q, how many records were lent, and the cursors, as many as a table can have threads.
-pub record Given : Type 0 where
+pub record RunInput : Type 0 where
   pub scripts : List ℕ
   pub quantum : ℕ
   pub lent : ℕ
   pub cursors : List ScriptCursor
   pub long : length cursors ≡ thread-limit
 
-abbrev pub given-world : Given → Table → Scripted
+abbrev pub given-world : RunInput → Table → Scripted
 given-world given table = scripted table (given .cursors)
 
-abbrev pub given-run : Given → Table → Ran Scripted Shown
+abbrev pub given-run : RunInput → Table → Ran Scripted Shown
 given-run given table = dispatched (given .scripts) (given .quantum) (given .lent) (given-world given table)
 
 -- nothing refuses it
-abbrev pub Accepted : Given → Table → Type 0
+abbrev pub Accepted : RunInput → Table → Type 0
 Accepted given table = dispatch-answer (given .scripts) (given .quantum) (given .lent) (given-world given table) ≡ Ended
 
 -- "The run ends .. after a round without a step": on every sound table another round would take no step, and this many steps are enough.
 abbrev pub RunsEnd : Type 0
 RunsEnd =
-    (given : Given) (table : Table) → WellTyped table → Accepted given table
+    (given : RunInput) (table : Table) → WellTyped table → Accepted given table
     → let ran = given-run given table in
     (none (round (attempt (given .scripts)) (given .quantum) (table .threadcount) (ran .world) .steps) ≡ true)
     × (length (ran .steps) ≤ most-steps (table .threadcount) (given .cursors))
@@ -52,14 +52,14 @@ RunsEnd =
 -- a run from any table that a schedule makes from a fresh one. A begin and the step behind it are one moment: nothing is between them.
 abbrev pub RunsFair : Type 0
 RunsFair =
-    (request : FreshRequest) → InRange request → (before : List Event) (given : Given)
+    (request : FreshRequest) → InRange request → (before : List Event) (given : RunInput)
     → let table = final-of (fresh-of request .table) before in
     Accepted given table → Fair ready-in (given .quantum) (request .threads) (given-world given table) (given-run given table .steps)
 
 -- at the end nobody unparked has work left
 abbrev pub NobodyLeft : Type 0
 NobodyLeft =
-    (request : FreshRequest) → InRange request → (before : List Event) (given : Given)
+    (request : FreshRequest) → InRange request → (before : List Event) (given : RunInput)
     → let table = final-of (fresh-of request .table) before in
     Accepted given table → (n : ℕ) → 1 ≤ n → n ≤ request .threads → ready-in n (given-run given table .world) ≡ false
 
@@ -71,13 +71,13 @@ events-of (step ∷ steps) = step .shows .begun ++ (StepOf (step .thread) ∷ ev
 -- It is the same engine: a run comes to the table that the engine gives for its events, on every sound table.
 abbrev pub RunsAreSchedules : Type 0
 RunsAreSchedules =
-    (given : Given) (table : Table) → WellTyped table → Accepted given table
+    (given : RunInput) (table : Table) → WellTyped table → Accepted given table
     → given-run given table .world .table ≡ final-of table (events-of (given-run given table .steps))
 
 -- So demand 3 and six steps hold of a run from a fresh table.
 abbrev pub RunsClaim : Type 0
 RunsClaim =
-    (request : FreshRequest) → InRange request → (given : Given)
+    (request : FreshRequest) → InRange request → (given : RunInput)
     → let table = fresh-of request .table in
     Accepted given table
     → let events = events-of (given-run given table .steps) in

@@ -7,6 +7,8 @@ use lib.ListN.{length, set}
 use Rattle.laws.specs.Choice.{pick, both, within}
 use Rattle.laws.specs.Every.{all-up-to}
 use Rattle.event_bytes.specs.Answer.{free-unit, packed-of}
+use Rattle.lock_rules.specs.Numbers.{refusal-number}
+use Rattle.lock_rules.specs.declared.event.Refusal.the-variants.{NotSound as UnsoundTable}
 use Rattle.lock_table.specs.declared.record.Table.{Table}
 use Rattle.lock_soundness.specs.Sound.{sound-of}
 use Rattle.lock_engine.specs.Outcome.{reply-returned, reply-woken}
@@ -15,7 +17,7 @@ use Rattle.round_robin.specs.Dispatch.{Ran, Step, still, run}
 use Rattle.dispatch_rules.specs.Script.{cursor-at, script-known}
 use Rattle.dispatch_rules.specs.Attempt.{Shown, attempt}
 use Rattle.dispatch_rules.specs.declared.ScriptCursor.{ScriptCursor}
-use Rattle.dispatch_rules.specs.declared.Scripted.{Scripted}
+use Rattle.dispatch_rules.specs.Script.{Scripted}
 use Rattle.dispatch_rules.specs.declared.DispatchAnswer.{DispatchAnswer}
 use Rattle.dispatch_rules.specs.declared.DispatchAnswer.the-variants.{Ended, NotSound, QuantumOutOfRange, ScriptUnknown}
 use Rattle.dispatch_rules.specs.declared.ScriptRun.{ScriptRun}
@@ -31,25 +33,22 @@ operations-left (suc n) cursors = let cursor = cursor-at cursors (suc n) in oper
 
 -- A run takes no more steps than this: so many for an operation that is still to begin, and for a thread. That they are enough on every sound table is
 -- a theorem, not a definition.
-abbrev pub operation-steps : ℕ
-operation-steps = 210
-
-abbrev pub thread-steps : ℕ
-thread-steps = 205
+abbrev pub step-weight : ℕ
+step-weight = 205
 
 abbrev pub most-steps : ℕ → List ScriptCursor → ℕ
-most-steps threads cursors = operation-steps * operations-left threads cursors + thread-steps * threads
+most-steps threads cursors = step-weight * (operations-left threads cursors + threads)
 
--- so many steps that a run's fit 56 bits, whatever its cursors
+-- every run takes fewer steps than this, 2 to the 56th
 abbrev pub steps-room : ℕ
-steps-room = 72057594037927936
+steps-room = 0x100000000000000
 
 abbrev pub scripted : Table → List ScriptCursor → Scripted
 scripted table cursors = record { table = table; cursors = cursors }
 
 -- the run: rounds until one is without a step
-abbrev pub run-scripts : List ℕ → ℕ → Scripted → Ran Scripted Shown
-run-scripts scripts quantum world =
+abbrev pub rounds-of : List ℕ → ℕ → Scripted → Ran Scripted Shown
+rounds-of scripts quantum world =
     let threads = world .table .threadcount in
     run (attempt scripts) quantum threads (suc (most-steps threads (world .cursors))) world
 
@@ -69,13 +68,13 @@ dispatch-answer scripts quantum lent world =
 -- document 02's number for the answer
 unfoldable pub dispatch-returned : DispatchAnswer → ℕ
 dispatch-returned Ended = 0
-dispatch-returned NotSound = 11
+dispatch-returned NotSound = refusal-number UnsoundTable
 dispatch-returned QuantumOutOfRange = 25
 dispatch-returned ScriptUnknown = 26
 
 -- refused, nothing runs
 unfoldable pub run-answered : DispatchAnswer → List ℕ → ℕ → Scripted → Ran Scripted Shown
-run-answered Ended scripts quantum world = run-scripts scripts quantum world
+run-answered Ended scripts quantum world = rounds-of scripts quantum world
 run-answered NotSound scripts quantum world = still world
 run-answered QuantumOutOfRange scripts quantum world = still world
 run-answered ScriptUnknown scripts quantum world = still world
@@ -84,8 +83,8 @@ run-answered ScriptUnknown scripts quantum world = still world
 abbrev pub dispatched : List ℕ → ℕ → ℕ → Scripted → Ran Scripted Shown
 dispatched scripts quantum lent world = run-answered (dispatch-answer scripts quantum lent world) scripts quantum world
 
-abbrev pub script-run : List ℕ → ℕ → ℕ → Scripted → ScriptRun
-script-run scripts quantum lent world =
+abbrev pub run-scripts : List ℕ → ℕ → ℕ → Scripted → ScriptRun
+run-scripts scripts quantum lent world =
     let ran = dispatched scripts quantum lent world in
     record {
       cursors = ran .world .cursors;
@@ -97,10 +96,12 @@ abbrev pub is-begun : {A : Type 0} → List A → Bool
 is-begun [] = false
 is-begun (event ∷ rest) = true
 
+abbrev pub thread-unit : ℕ
+thread-unit = 0x1000000
+
 unfoldable pub trace-entry : ℕ → Bool → Reply → Bool → ℕ → ℕ
 trace-entry thread begun reply commits unparked =
-    pick begun (packed-of (reply-returned reply) (reply-woken reply) commits unparked + free-unit) (packed-of (reply-returned reply) (reply-woken reply) commits unparked)
-    + thread * 16777216
+    packed-of (reply-returned reply) (reply-woken reply) commits unparked + pick begun free-unit 0 + thread * thread-unit
 
 abbrev pub entry-of : Step Scripted Shown → ℕ
 entry-of step =

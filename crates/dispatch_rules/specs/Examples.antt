@@ -1,13 +1,15 @@
--- Examples of the dispatcher's definitions: what ends a turn, what refuses a run, which scripts are known, and an entry of the trace.
+-- Examples of the dispatcher's definitions: what counts as a step, what ends a turn, what refuses a run, which scripts are known, and an entry of the trace.
 use mathlib.Core.Path.{_≡_}
 use mathlib.Core.Bool.{true, false}
 use mathlib.Core.List.{List, [], _∷_}
 use Prim.Native.Nat.{ℕ}
 use Rattle.laws.specs.Choice.{within}
 use Rattle.lock_rules.specs.declared.Answer.the-variants.{Parked}
+use Rattle.lock_engine.specs.Outcome.{reply-returned}
+use Rattle.step_bounds.specs.SixSteps.{is-step}
 use Rattle.lock_engine.specs.declared.outcome.Reply.the-variants.{Answered}
-use Rattle.dispatch_rules.specs.Script.{script-known}
-use Rattle.dispatch_rules.specs.Attempt.{goes-on}
+use Rattle.dispatch_rules.specs.Script.{Scripted, script-known}
+use Rattle.dispatch_rules.specs.Attempt.{attempt, goes-on}
 use Rattle.dispatch_rules.specs.Dispatch.{quantum-limit, first-answer, dispatch-returned, trace-entry}
 use Rattle.dispatch_rules.specs.declared.ScriptCursor.{ScriptCursor}
 use Rattle.dispatch_rules.specs.declared.DispatchAnswer.the-variants.{Ended, NotSound, QuantumOutOfRange, ScriptUnknown}
@@ -20,6 +22,12 @@ abbrev pub two-operations : List ℕ
 two-operations = 1 ∷ 1 ∷ 2 ∷ 1 ∷ []
 
 pub record Examples : Type 0 where
+  -- a step is what counts as a thread's own: 18 and 19 are, 20 is none
+  pub counts :
+      (scripts : List ℕ) (thread : ℕ) (world : Scripted)
+      → let tried = attempt scripts thread world in
+      tried .stepped ≡ is-step (reply-returned (tried .shows .outcome .reply))
+  pub steps : (is-step 18 ≡ true) × (is-step 19 ≡ true) × (is-step 20 ≡ false)
   -- a park ends the turn, a refusal by a rule does not
   pub park-ends : goes-on 2 ≡ false
   pub refusal-goes-on : goes-on 18 ≡ true

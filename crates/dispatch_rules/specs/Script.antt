@@ -11,7 +11,13 @@ use Rattle.lock_rules.specs.declared.event.Event.the-variants.{Begin}
 use Rattle.lock_rules.specs.declared.event.ThreadStatus.{ThreadStatus}
 use Rattle.lock_rules.specs.declared.event.ThreadStatus.the-variants.{Idle, Ready, Parked}
 use Rattle.lock_table.specs.Place.{thread-place}
+use Rattle.lock_table.specs.declared.record.Table.{Table}
 use Rattle.dispatch_rules.specs.declared.ScriptCursor.{ScriptCursor}
+
+-- what a dispatcher changes: a table, and the cursors of the scripts of its threads
+pub record Scripted : Type 0 where
+  pub table : Table
+  pub cursors : List ScriptCursor
 
 -- an operation's number and its object
 abbrev pub operation-size : ℕ

@@ -12,12 +12,6 @@ pub struct ScriptCursor {
     pub cursor: u32,
 }
 
-// What a dispatcher changes: a table, and the cursors of the scripts of its threads.
-pub struct Scripted {
-    pub table: Table,
-    pub cursors: [ScriptCursor; 32],
-}
-
 pub enum DispatchAnswer {
     // 0
     Ended,

@@ -9,7 +9,7 @@ use Rattle.dispatch_rules.specs.Attempt.{Shown}
 use Rattle.dispatch_rules.specs.Dispatch.{run-answered, dispatch-answer, dispatched, traced}
 use Rattle.dispatch_rules.specs.declared.DispatchAnswer.{DispatchAnswer}
 use Rattle.dispatch_rules.specs.declared.DispatchAnswer.the-variants.{Ended, NotSound, QuantumOutOfRange, ScriptUnknown}
-use Rattle.dispatch_rules.specs.declared.Scripted.{Scripted}
+use Rattle.dispatch_rules.specs.Script.{Scripted}
 use Rattle.lock_dispatch.specs.Lent.{fitting, no-cursors, lent-world, stored, RefusedLeavesSlice}
 use Rattle.lock_dispatch.proofs.Copied.{copied-back, fitting-fits}
 

@@ -9,11 +9,11 @@ use Rattle.laws.specs.Choice.{pick}
 use Rattle.lock_table.specs.Limits.{thread-limit}
 use Rattle.lock_table.specs.declared.record.Table.{Table}
 use Rattle.dispatch_rules.specs.declared.ScriptCursor.{ScriptCursor}
-use Rattle.dispatch_rules.specs.declared.Scripted.{Scripted}
+use Rattle.dispatch_rules.specs.Script.{Scripted}
 use Rattle.dispatch_rules.specs.declared.Dispatched.{Dispatched}
 use Rattle.dispatch_rules.specs.declared.DispatchAnswer.the-variants.{Ended}
 use Rattle.dispatch_rules.specs.Script.{no-cursor}
-use Rattle.dispatch_rules.specs.Dispatch.{scripted, dispatched, script-run, traced}
+use Rattle.dispatch_rules.specs.Dispatch.{scripted, dispatched, run-scripts, traced}
 
 -- `to` with its first places as in `from`
 abbrev pub copied : ℕ → List ScriptCursor → List ScriptCursor → List ScriptCursor
@@ -40,10 +40,10 @@ lent-world lent table = scripted table (loaded lent)
 
 -- what a run of the records lent gives back, and the slices after it
 abbrev pub dispatch : Table → ℕ → List ℕ → List ScriptCursor → Dispatched
-dispatch table quantum scripts lent = script-run scripts quantum (length lent) (lent-world lent table) .dispatched
+dispatch table quantum scripts lent = run-scripts scripts quantum (length lent) (lent-world lent table) .dispatched
 
 abbrev pub cursors-after : Table → ℕ → List ℕ → List ScriptCursor → List ScriptCursor
-cursors-after table quantum scripts lent = stored lent (script-run scripts quantum (length lent) (lent-world lent table) .cursors)
+cursors-after table quantum scripts lent = stored lent (run-scripts scripts quantum (length lent) (lent-world lent table) .cursors)
 
 abbrev pub trace-after : Table → ℕ → List ℕ → List ScriptCursor → List ℕ → List ℕ
 trace-after table quantum scripts lent trace = traced 0 trace (dispatched scripts quantum (length lent) (lent-world lent table) .steps)

@@ -12,7 +12,7 @@ ghost use Rattle.lock_table.specs.Limits.{thread-limit};
 ghost use Rattle.dispatch_rules.specs.Dispatch.{most-steps, steps-room};
 ghost use Rattle.lock_dispatch.specs.Lent.{copied, fitting, no-cursors, loaded, dispatch, cursors-after, trace-after};
 
-// The array with its first records those of the slice, which stays as it is.
+// The array with its first records those of the slice, which stays as it is. It takes the slice as `store` does, so that both are walked alike.
 fn load(cursors: &mut [ScriptCursor], array: [ScriptCursor; 32], count: usize) -> [ScriptCursor; 32]
     requires { ⌜ (count ≤ thread-limit) × (count ≤ length (now cursors)) ⌝ }
     ensures { λ r. ⌜ r ≡ copied count (now (cursors .entry)) array ⌝ }

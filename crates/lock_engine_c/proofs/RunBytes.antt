@@ -18,7 +18,7 @@ use Rattle.table_bytes.specs.Reading.{AreBytes, is-table, table-of}
 use Rattle.table_bytes.specs.Writing.{bytes-of}
 use Rattle.table_bytes.proofs.SameBytes.{bytes-back}
 use Rattle.table_bytes.proofs.Written.{kept-is, table-long}
-use Rattle.dispatch_rules.specs.Claims.{Given}
+use Rattle.dispatch_rules.specs.Claims.{RunInput}
 use Rattle.dispatch_rules.specs.Dispatch.{dispatch-returned}
 use Rattle.dispatch_rules.specs.declared.ScriptCursor.{ScriptCursor}
 use Rattle.dispatch_rules.specs.declared.Dispatched.{Dispatched}
@@ -65,7 +65,7 @@ module _ (bytes : List ℕ) (quantum : ℕ) (scripts : List ℕ) (lent : List Sc
   unfolding stored-over
   table-stored small known =
       let done = run-of (table-of bytes) in
-      let given : Given =
+      let given : RunInput =
       record { scripts = scripts; quantum = quantum; lent = length lent; cursors = loaded lent; long = length-copied (fitting (length lent)) lent no-cursors } in
       by-below (λ (stored : List ℕ). stored ≡ bytes-of (done .table)) 0 (done .steps) (λ some. kept-is bytes (done .table) (table-long bytes known))
       (λ none. sym (ap bytes-of (unstepped-same given (table-of bytes) (read-well-typed bytes small) (omega (arith, none))) ∙ bytes-back bytes small known))
@@ -79,7 +79,7 @@ module _ (bytes : List ℕ) (quantum : ℕ) (scripts : List ℕ) (lent : List Sc
   empty-refused = refl
 
   not-ended : run-of empty .answer ≢ Ended
-  unfolding dispatch-returned
+  unfolding dispatch-returned refusal-number
   not-ended ended = let numbers = ap dispatch-returned (sym empty-refused ∙ ended) in omega (arith, numbers)
 
   empty-gives : is-table bytes ≡ false → RunGives empty

@@ -1,7 +1,6 @@
 -- A run as its loop carries it out: one table, tested for soundness once and changed event by event, in place of the bytes that each event leaves.
 use Prim.Native.Nat.{ℕ, suc, _+_, _-_, _*_, _/_, _≤_, _<_}
 use mathlib.Core.Path.{_≡_, refl, sym, ap, _∙_, subst}
-use mathlib.Core.Logic.{_⊎_, inl, inr}
 use mathlib.Core.Bool.{Bool, true, false}
 use mathlib.Core.List.{List, [], _∷_, append-assoc}
 use native.Mathlib.Omega.{arith}
@@ -19,12 +18,9 @@ use Rattle.event_bytes.proofs.Encoding.{events-next, events-end}
 use Rattle.lock_table.specs.WellTyped.{WellTyped}
 use Rattle.lock_table.specs.declared.record.Table.{Table}
 use Rattle.lock_soundness.specs.Sound.{sound-of}
-use Rattle.lock_work.specs.Work.{work-stays}
-use Rattle.lock_engine.specs.Handle.{work-done-of, handle-trusting, handle}
+use Rattle.lock_engine.specs.Handle.{handle-trusting, handle}
 use Rattle.lock_engine.specs.Outcome.{reply-returned, reply-woken}
 use Rattle.lock_engine.specs.declared.outcome.Outcome.{Outcome}
-use Rattle.lock_engine.specs.declared.turning.Turn.{Turn}
-use Rattle.lock_work.specs.declared.settling.WorkDone.{WorkDone}
 use Rattle.lock_engine.proofs.Refused.{refusing, handle-shut}
 use Rattle.lock_schedule.proofs.Theorem.{sound-kept, well-typed-kept}
 use Rattle.table_bytes.specs.{Rows.overwritten, Writing.bytes-of}

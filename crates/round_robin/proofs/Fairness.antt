@@ -1,14 +1,14 @@
 -- A machine that keeps to the laws has fair runs, and with enough rounds a run ends by a round without a step.
 use Prim.Native.Nat.{ℕ, zero, suc, _+_, _*_, _-_, _≤_, _<_}
 use mathlib.Core.Path.{_≡_, refl, sym, _∙_, ap, subst}
-use mathlib.Core.Logic.{_≢_, _⊎_, inl, inr, ⊎-elim}
+use mathlib.Core.Logic.{_≢_, _⊎_, inr, ⊎-elim}
 use mathlib.Core.Bool.{Bool, true, false}
 use mathlib.Core.List.{List, [], _∷_, _++_, append-assoc}
 use native.Mathlib.Omega.{arith}
 use native.Mathlib.Nat.{suc-mul}
 use lib.ListN.{length, length-append}
 use Rattle.laws.specs.Choice.{pick}
-use Rattle.laws.proofs.Choice.{split, false≢true, equal?}
+use Rattle.laws.proofs.Choice.{false≢true, equal?}
 use Rattle.round_robin.specs.Dispatch.{Tried, Step, Ran, still, taken, with-step, followed, none, turn, turns, round, run}
 use Rattle.round_robin.specs.Fair.{Served, Prompt, Fair}
 use Rattle.round_robin.proofs.Machine.{IsThread, Ending, Fairly, Along}

@@ -1,8 +1,7 @@
 -- A run as one loop takes it, from the middle of a turn on: what is left to run after a thread might take a step.
-use Prim.Native.Nat.{ℕ, zero, suc, _-_, _≤_, _<_}
+use Prim.Native.Nat.{ℕ, suc, _-_, _≤_, _<_}
 use mathlib.Core.Path.{_≡_, refl, ap, _∙_}
 use mathlib.Core.Bool.{Bool, true, false, not}
-use mathlib.Core.List.{List, [], _∷_}
 use native.Mathlib.Omega.{arith}
 use Rattle.laws.specs.Choice.{pick, either}
 use Rattle.laws.proofs.Choice.{either-no}

@@ -390,7 +390,7 @@ impl Table {
     /// ```
     ///
     /// Refused are, in this order and with nothing changed, a table with `NotSound`, a number of steps with `QuantumOutOfRange`, and with `ScriptUnknown`
-    /// as many records as there are not threads, a script that goes beyond `scripts`, a cursor beyond its script, and a script with a command,
+    /// another number of records than of threads, a script that goes beyond `scripts`, a cursor beyond its script, and a script with a command,
     /// before the cursor too, that is not one of the five untimed operations on an object of the table.
     ///
     /// ```

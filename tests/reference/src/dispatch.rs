@@ -11,9 +11,8 @@ use crate::table::{Operation, Phase, Table};
 pub const MAX_QUANTUM: u32 = 100;
 /// How many bytes an operation of a script has: its number and its object.
 pub const OPERATION_SIZE: usize = 2;
-/// A run takes at most so many steps for each operation not yet begun, and so many for each thread, on every sound table.
-const STEPS_OF_OPERATION: u64 = 210;
-const STEPS_OF_THREAD: u64 = 205;
+/// A run takes at most so many steps for each operation not yet begun and for each thread, on every sound table.
+const STEPS_OF_EACH: u64 = 205;
 
 /// A thread's script: so many operations from the operation `start`, from 0, of those that are lent; `cursor` of them have been begun.
 #[derive(Clone, Copy, Debug, Default, PartialEq, Eq)]
@@ -76,7 +75,7 @@ impl Input {
     pub fn most_steps(&self) -> u64 {
         let left = |script: &Script| u64::from(script.left());
         let operations: u64 = self.cursors.iter().map(left).sum();
-        operations * STEPS_OF_OPERATION + u64::from(self.table.threads) * STEPS_OF_THREAD
+        (operations + u64::from(self.table.threads)) * STEPS_OF_EACH
     }
 }
 
@@ -289,7 +288,7 @@ impl Dispatcher<'_> {
         }
         let event = self.input.begin_of(thread, place);
         let outcome = apply(&mut self.run.table, event);
-        debug_assert_eq!(outcome.returned, Returned::GoneOn);
+        assert_eq!(outcome.returned, Returned::GoneOn);
         self.run.events.push(event);
         Some(())
     }

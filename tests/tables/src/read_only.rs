@@ -75,14 +75,15 @@ pub struct ReadOnly {
 }
 
 impl ReadOnly {
-    /// Pages of their own with these bytes, from now on only to be read.
+    /// Pages of their own with these bytes, from now on only to be read. A mapping has at least a byte.
     pub fn new(bytes: &[u8]) -> ReadOnly {
         let length = bytes.len();
-        // SAFETY: the mapping is new and as long as the bytes; it is written before it is protected, and only read from then on.
+        let mapped_length = length.max(1);
+        // SAFETY: the mapping is new and no shorter than the bytes; it is written before it is protected, and only read from then on.
         unsafe {
             let mapped = mmap(
                 ptr::null_mut(),
-                length,
+                mapped_length,
                 PROT_READ | PROT_WRITE,
                 MAP_PRIVATE | MAP_ANONYMOUS,
                 -1,
@@ -90,7 +91,11 @@ impl ReadOnly {
             );
             assert!(mapped as isize != -1, "no memory was mapped");
             ptr::copy_nonoverlapping(bytes.as_ptr(), mapped.cast(), length);
-            assert_eq!(mprotect(mapped, length, PROT_READ), 0, "not protected");
+            assert_eq!(
+                mprotect(mapped, mapped_length, PROT_READ),
+                0,
+                "not protected"
+            );
             ReadOnly {
                 start: mapped.cast(),
                 length,
@@ -138,12 +143,12 @@ impl ReadOnly {
         }
     }
 
-    /// With the records and the trace in such memory too.
+    /// With the trace in such memory too. The records are written back also where nothing changes, so they may be written.
     pub fn dispatch(
         &self,
         quantum: u32,
         scripts: &[u8],
-        cursors: &ReadOnly,
+        cursors: &mut [ScriptCursor],
         trace: &ReadOnly,
     ) -> u64 {
         unsafe {
@@ -153,8 +158,8 @@ impl ReadOnly {
                 quantum,
                 scripts.as_ptr(),
                 scripts.len(),
-                cursors.start.cast(),
-                cursors.length / size_of::<ScriptCursor>(),
+                cursors.as_mut_ptr(),
+                cursors.len(),
                 trace.start.cast(),
                 trace.length / size_of::<u64>(),
             )
@@ -165,6 +170,6 @@ impl ReadOnly {
 impl Drop for ReadOnly {
     fn drop(&mut self) {
         // SAFETY: the mapping is this one's own, and nothing borrows it any more.
-        unsafe { munmap(self.start.cast(), self.length) };
+        unsafe { munmap(self.start.cast(), self.length.max(1)) };
     }
 }

@@ -190,24 +190,20 @@ fn refused_scripts(fresh: &[u8]) -> Vec<Refused<'_>> {
     calls
 }
 
-/// Neither the table nor a record nor the trace is stored to: all three may only be read.
+/// The table and the trace may only be read, and the records are as before.
 #[test]
-fn refused_dispatches_store_nothing() {
+fn refused_dispatches_change_nothing() {
     let (fresh, unsound) = (fresh(2, 2), [0; TABLE_SIZE]);
     let calls = [refused_numbers(&fresh, &unsound), refused_scripts(&fresh)];
     for (bytes, quantum, scripts, cursors, number) in calls.concat() {
-        let records: Vec<u8> = cursors
-            .iter()
-            .flat_map(|script| [script.start, script.length, script.cursor])
-            .flat_map(u32::to_le_bytes)
-            .collect();
-        // A mapping has at least a byte.
-        let [table, records, trace] = [bytes, &records, &[0xa5; 80]].map(|bytes| match bytes {
-            [] => ReadOnly::new(&[0]),
-            _ => ReadOnly::new(bytes),
-        });
-        let answer = table.dispatch(quantum, scripts, &records, &trace);
-        assert_eq!(answer, number, "{quantum} {scripts:?} {cursors:?}");
+        let [table, trace] = [bytes, &[0xa5; 80]].map(ReadOnly::new);
+        let mut records = cursors.clone();
+        let answer = table.dispatch(quantum, scripts, &mut records, &trace);
+        assert_eq!(
+            (answer, &records),
+            (number, &cursors),
+            "{quantum} {scripts:?}"
+        );
     }
 }
 

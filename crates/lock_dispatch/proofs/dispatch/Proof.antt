@@ -49,7 +49,7 @@ use Rattle.lock_table.proofs.record.Table.Laws as Tb′
 use Rattle.dispatch_rules.specs.declared.ScriptCursor.{ScriptCursor}
 use Rattle.dispatch_rules.specs.declared.ScriptRun.{ScriptRun}
 use Rattle.dispatch_rules.specs.declared.Dispatched.{Dispatched}
-use Rattle.dispatch_rules.specs.Dispatch.{most-steps, steps-room, scripted, dispatched, script-run, traced}
+use Rattle.dispatch_rules.specs.Dispatch.{most-steps, steps-room, scripted, dispatched, run-scripts, traced}
 use Rattle.dispatch_rules.proofs.ScriptCursor as T
 use Rattle.dispatch_rules.proofs.ScriptRun as R
 use Rattle.dispatch_rules.proofs.ScriptRun.Laws as R′
@@ -155,7 +155,7 @@ module _ {M : Type 1} (𝓤 : URA M) (H : Heap 𝓤) (A : Atoms 𝓤) (W : Given
 
   -- the run from an array, and the trace after it
   abbrev run-of : List ScriptCursor → ScriptRun
-  run-of before = script-run (scripts .now) quantum (length ys) (scripted table before)
+  run-of before = run-scripts (scripts .now) quantum (length ys) (scripted table before)
 
   abbrev trace-of : List ScriptCursor → List ℕ
   trace-of before = traced 0 (trace .now) (dispatched (scripts .now) quantum (length ys) (scripted table before) .steps)

@@ -1,6 +1,4 @@
 -- `dispatch_core::position::most_steps` meets its contract: there is room for the product.
-use mathlib.Core.Path.{_≡_, ap}
-use Prim.Native.Nat.{_*_, _≤_}
 use native.Mathlib.Omega.{arith}
 use borrow.Author.Needs.{needs}
 use Rattle.dispatch_core.proofs.position.most_steps.Statement.{statement}
@@ -9,5 +7,5 @@ use Rattle.dispatch_core.proofs.position.most_steps.Tie as tie
 pub most-steps-spec : {M : Type 1} → statement M
 most-steps-spec =
     tie.close
-    (tie.spec (λ c κs. tt) (λ c. search needs) (λ c. search needs) (λ c. search needs)
-    (λ c. let (sum, small) = c .operations-left .ensures in (omega (arith, sum), omega (arith, small))))
+    (tie.spec (λ c κs. tt) (λ c. search needs) (λ c. search needs)
+    (λ c. let (sum, small) = c .operations-left .ensures in (simp (sum), omega (arith, small))))

@@ -1,5 +1,5 @@
 -- `dispatch_core::position::operations_left` meets its contract: what was added up, and what is left to add.
-use mathlib.Core.Path.{_≡_, refl}
+use mathlib.Core.Path.{_≡_}
 use Prim.Native.Nat.{_+_, _-_, _*_, _≤_}
 use native.Mathlib.Omega.{arith}
 use borrow.Author.Needs.{needs}

@@ -13,9 +13,9 @@ use Rattle.lock_engine.specs.declared.outcome.Outcome.{Outcome}
 use Rattle.step_bounds.specs.SixSteps.{is-step}
 use Rattle.dispatch_rules.specs.Attempt.{goes-on}
 use Rattle.dispatch_rules.specs.Dispatch.{scripted, dispatched}
-use Rattle.dispatch_rules.specs.declared.Scripted.{Scripted}
+use Rattle.dispatch_rules.specs.Script.{Scripted}
 use Rattle.dispatch_core.specs.Position.{next-position}
-use Rattle.dispatch_core.proofs.Measure.{togo}
+use Rattle.dispatch_core.proofs.Measure.{ahead}
 use Rattle.dispatch_core.proofs.InPlace.{Readied, started-so, ready-so, stepped-so, Going, goes-round, goes-less, run-over, counts-fit, put-length, run-begins, run-few}
 use Rattle.dispatch_core.proofs.running.run_scripts.Statement.{statement}
 use Rattle.dispatch_core.proofs.running.run_scripts.Tie as tie
@@ -26,7 +26,7 @@ Inv-loop quantum scripts lent trace₀ answer threads changed₀ moved₀ steps�
     × Going scripts quantum threads (changed₀ .objectcount) (dispatched scripts quantum lent (scripted changed₀ moved₀)) trace₀ trace (scripted changed moved) steps position
 
 abbrev μ-loop : tie.MeasureT-loop
-μ-loop quantum scripts lent trace₀ answer threads changed₀ moved₀ steps₀ position₀ trace changed moved steps position = togo threads quantum position
+μ-loop quantum scripts lent trace₀ answer threads changed₀ moved₀ steps₀ position₀ trace changed moved steps position = ahead threads quantum position
 
 loop-holds : tie.Need-loop-holds Inv-loop μ-loop
 loop-holds c =
