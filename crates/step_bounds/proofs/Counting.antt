@@ -59,7 +59,7 @@ parked-none : (word : WordSeen) (state : ThreadState) → unparked state ≡ fal
 parked-none word = each-state _ (search, λ doing e. false≢true (sym e), search, search, search)
 
 -- no refusal is a step
-refused-none : (refusal : Refusal) → is-step (refusal-number refusal) ≡ false
+pub refused-none : (refusal : Refusal) → is-step (refusal-number refusal) ≡ false
 unfolding refusal-number
 refused-none NotSound = refl
 refused-none NoSuchThread = refl

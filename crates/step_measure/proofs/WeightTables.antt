@@ -5,11 +5,10 @@ use mathlib.Core.Logic.{_≢_}
 use mathlib.Core.Bool.{true}
 use native.Mathlib.Omega.{arith}
 use borrow.Author.Tests.{eq-eqb, ne-eqb}
-use Rattle.laws.proofs.Choice.{either-way, equal?}
+use Rattle.laws.proofs.Choice.{false≢true, either-way, equal?}
 use Rattle.laws.proofs.Update.{update-same, update-other}
-use Rattle.lock_word.specs.declared.meaning.WordSeen.the-variants.{Free}
 use Rattle.lock_rules.specs.Numbers.{first-refusal, refusal-number}
-use Rattle.lock_rules.specs.{Operations.Operation, Events.returned, Rules.begun, RunQueue.own-event}
+use Rattle.lock_rules.specs.{Operations.Operation, Events.returned, Rules.begun}
 use Rattle.lock_rules.specs.declared.{Limit.Limit, Doing.Doing}
 use Rattle.lock_rules.specs.declared.ThreadState.the-variants.{Idle, Running}
 use Rattle.lock_rules.specs.declared.event.{Event.Event, Refusal.Refusal}
@@ -18,8 +17,8 @@ use Rattle.lock_rules.proofs.Perform.{Performed}
 use Rattle.lock_rules.proofs.TableKinds.{by-event}
 use Rattle.lock_rules.proofs.Tables.{ListThread, ListTable, states-at, put-back, perform-at, begin-at, step-at, list-kind, turn, seen-here}
 use Rattle.lock_table.specs.Limits.{thread-limit}
-use Rattle.step_bounds.specs.{SixSteps.is-step, Starts.NotBegun}
-use Rattle.step_bounds.proofs.Counting.{refused-counted}
+use Rattle.step_bounds.specs.SixSteps.{is-step}
+use Rattle.step_bounds.proofs.Counting.{refused-none}
 use Rattle.step_measure.proofs.Sums.{sum-up-to, sum-moves, sum-falls}
 use Rattle.step_measure.proofs.Weights.{look-more, weight, weight-limit, weight-most}
 use Rattle.step_measure.proofs.WeightMoves.{weights, step-falls}
@@ -43,11 +42,6 @@ module _ (table : ListTable) (home : ℕ) (result : Performed) (n : ℕ) where
   after-away : table .threads n .object ≢ home → weight-to (put-back table home result) n ≡ weight-to table n
   after-away away = rw (ne-eqb (table .threads n .object) home away, update-other (table .objects) home (result .object) (table .threads n .object) away) refl
 
--- no refusal is a step, or a thread that has begun nothing would be counted one
-refused-no-step : (refusal : Refusal) → first-refusal < refusal-number refusal → is-step (refusal-number refusal) ≡ true → ⊥
-unfolding own-event
-refused-no-step refusal high step = omega (arith, rw step at (refused-counted 0 (Step 0) refusal high 0 NotBegun Free Idle (omega arith)))
-
 -- what is shown of an event that returned this number, with the work left before and after it
 abbrev pub Measured : Event → ℕ → ℕ → ℕ → Type 0
 Measured (Begin operation n object limit) returned before after = returned ≡ 0 → after ≤ before + weight-limit
@@ -56,7 +50,7 @@ Measured Tick returned before after = Unit {0}
 
 refused-measured : (work : ℕ) (event : Event) (refusal : Refusal) → first-refusal < refusal-number refusal → Measured event (refusal-number refusal) work work
 refused-measured work (Begin operation n object limit) refusal high = λ accepted. omega arith
-refused-measured work (Step n) refusal high = λ step. absurd (refused-no-step refusal high step)
+refused-measured work (Step n) refusal high = λ step. false≢true (sym (refused-none refusal) ∙ step)
 refused-measured work Tick refusal high = tt
 
 module _ (threads objects : ℕ) (few : threads ≤ thread-limit) (table : ListTable) where
