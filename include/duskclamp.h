@@ -23,7 +23,7 @@
  *     DUSKCLAMP_RETURNED(answer) == DUSKCLAMP_FINISHED
  * and never `answer == DUSKCLAMP_FINISHED`.
  *
- * Stack: a dispatch needs up to 9.6 KB, a run 7.1 KB, a fresh table 5.8 KB, a step and a tick 5.7 KB, a begin and a question 5.4 KB, beside what memcpy
+ * Stack: a dispatch needs up to 9.6 KB, a run 7.1 KB, a step and a tick 5.7 KB, a begin and a question 5.4 KB, a fresh table 4.7 KB, beside what memcpy
  * and memset need. So measured by bench/stack.c, on a stack filled with a pattern, over a long schedule; no function calls itself.
  */
 #ifndef DUSKCLAMP_H
