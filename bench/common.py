@@ -58,8 +58,29 @@ def instructions_each(few, many, between):
     return (instructions(*many) - instructions(*few)) / between if COUNTS else None
 
 
-def shown(number, unit=''):
-    return '-' if number is None else f'{number:,.0f}{unit}'
+def case_costs(cases, timed, counted):
+    """Name, nanoseconds and instructions of one repetition, for each case of soundness_bench, or of another build of it that the command line names.
+
+    A case has its number, its name, and what the program must write for a number of repetitions. `timed` and `counted` are two such numbers each.
+    """
+    if len(sys.argv) > 2:
+        sys.exit(f'usage: {sys.argv[0]} [PROGRAM]')
+    program = built(sys.argv[1] if len(sys.argv) > 1 else ROOT / 'target' / 'bin' / 'soundness_bench', 'rt check soundness_bench')
+
+    def job(case, repeats):
+        return [program], f'{case} {repeats}\n'.encode()
+
+    for case, (name, due) in cases.items():
+        found = run(*job(case, counted[0])).stdout.decode().strip()
+        if found != str(due(counted[0])):
+            sys.exit(f'{name}: {due(counted[0])} is due, and the program writes {found}')
+        few, many = least_times([job(case, repeats) for repeats in timed])
+        each = instructions_each(job(case, counted[0]), job(case, counted[1]), counted[1] - counted[0])
+        yield name, (many - few) / (timed[1] - timed[0]) * 1e9, each
+
+
+def shown(number, unit='', digits=0):
+    return '-' if number is None else f'{number:,.{digits}f}{unit}'
 
 
 def print_table(head, rows):

@@ -1,7 +1,7 @@
 // Where the fields of a lock word begin and how many values they have. specs/Layout.antt states the same numbers for the contracts.
 pub const RESERVED_BIT: u32 = 2;
 
-pub const COUNT_UNIT: u32 = 4;
+pub const COUNT_UNIT: u8 = 4;
 
 pub const NUMBER_UNIT: u32 = 256;
 

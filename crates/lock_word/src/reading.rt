@@ -1,11 +1,14 @@
 // The word reader. Thread numbers and monitor numbers are made here alone, each by the reader of its kind of word.
-use crate::kinds::KINDS;
-use crate::layout::COUNTS;
+use crate::kinds::FAT;
+use crate::kinds::FLAT;
+use crate::kinds::RESERVED;
+use crate::kinds::count_field;
+use crate::kinds::kind_of;
 use crate::layout::FIRST_BEYOND;
 use crate::layout::NUMBER_UNIT;
 ghost use mathlib.Core.Path.{_≡_};
 ghost use Rattle.lock_word.specs.Read.{read-word, read-flat, read-reserved, fat-of};
-ghost use Rattle.lock_word.specs.KindTable.{packed-of, by-kind};
+ghost use Rattle.lock_word.specs.KindTable.{by-kind};
 
 // A thread's number and a monitor's number: the same fifteen bits, and neither can be passed for the other.
 // The fields are private to this file.
@@ -81,28 +84,20 @@ fn read_fat(number: u16) -> Decoded
     Decoded::Valid(LockWord::Fat(MonitorNumber(number)))
 }
 
-// The table's kind picks the reader.
+// The kind picks the reader.
 fn by_kind(kind: u8, count: u8, number: u16) -> Decoded
     ensures { λ r. ⌜ r ≡ by-kind kind count number ⌝ }
 {
-    if kind == 0 {
+    if kind == FLAT {
         return read_flat(count, number);
     }
-    if kind == 1 {
+    if kind == RESERVED {
         return read_reserved(count, number);
     }
-    if kind == 2 {
+    if kind == FAT {
         return read_fat(number);
     }
     Decoded::Invalid
-}
-
-// Kind and count of a low byte, from the constant table.
-fn kind_and_count(low: u8) -> u8
-    ensures { λ r. ⌜ r ≡ packed-of low ⌝ }
-{
-    let at = low as usize;
-    KINDS[at]
 }
 
 // What the word means, or that it is no lock word.
@@ -112,10 +107,6 @@ pub fn read_word(word: u32) -> Decoded
     if FIRST_BEYOND <= word {
         return Decoded::Invalid;
     }
-    let packed = kind_and_count((word % NUMBER_UNIT) as u8);
-    by_kind(
-        packed / COUNTS,
-        packed % COUNTS,
-        (word / NUMBER_UNIT) as u16,
-    )
+    let low = (word % NUMBER_UNIT) as u8;
+    by_kind(kind_of(low), count_field(low), (word / NUMBER_UNIT) as u16)
 }

@@ -23,13 +23,15 @@ pub fn anonymous_word() -> u32
 pub fn flat_word(thread: u16, count: u8) -> u32
     ensures { λ r. ⌜ r ≡ flat-word thread count ⌝ }
 {
-    (thread as u32) % NUMBERS * NUMBER_UNIT + ((count % COUNTS) as u32) * COUNT_UNIT
+    (thread as u32) % NUMBERS * NUMBER_UNIT + ((count % COUNTS) as u32) * (COUNT_UNIT as u32)
 }
 
 pub fn reserved_word(thread: u16, count: u8) -> u32
     ensures { λ r. ⌜ r ≡ reserved-word thread count ⌝ }
 {
-    (thread as u32) % NUMBERS * NUMBER_UNIT + ((count % COUNTS) as u32) * COUNT_UNIT + RESERVED_BIT
+    (thread as u32) % NUMBERS * NUMBER_UNIT
+        + ((count % COUNTS) as u32) * (COUNT_UNIT as u32)
+        + RESERVED_BIT
 }
 
 pub fn fat_word(object: u16) -> u32

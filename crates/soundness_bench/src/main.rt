@@ -1,5 +1,6 @@
-// How long the soundness test takes. Standard input: a case (0 idle, 1 typical, 2 worst), a space and how often to test, in decimal.
-// Writes how many of the tests found the table sound: all of them.
+// How long the soundness test takes, and the reading of a lock word, which the test does for each object in use. Standard input: a case, a space and how
+// often, in decimal. Cases 0 idle, 1 typical and 2 worst test a table and write how many tests found it sound: all of them. Cases 3 flat, 4 reserved, 5
+// fat and 6 mixed read lock words and write the sum of owners and depths by them.
 use libc::STDIN_FILENO;
 use libc::STDOUT_FILENO;
 use lock_table::Monitor;
@@ -8,11 +9,14 @@ use lock_table::Operation;
 use lock_table::Phase;
 use lock_table::Table;
 use lock_table::ThreadRecord;
+use lock_word::Decoded;
 
 // What is read has room for a case and nine digits.
 const INPUT: usize = 11;
 
 const COUNT_LIMIT: u64 = 100000000;
+
+const WORDS: u64 = 64;
 
 // Thread `holder` holds the object, and the threads from `first` to `last` are in its entry chain.
 fn contended(table: Table, object: u8, holder: u8, first: u8, last: u8) -> Table {
@@ -96,6 +100,57 @@ fn sound_answers(table: Table, repeats: u64) -> u64 {
     answers
 }
 
+// The owner's number and depth by a word, added up; of a fat word thread 1 is the holder, at depth 1.
+fn owned_by(word: u32) -> u64 {
+    let Decoded::Valid(meaning) = lock_word::read_word(word) else {
+        return 0;
+    };
+    let ownership = lock_word::ownership_of(lock_word::seen_word(meaning), 1, 1);
+    (ownership.thread as u64) + (ownership.depth as u64)
+}
+
+// A word of a case: flat, reserved, fat, or of mixed kinds, flat, none, reserved and none by turns. The remainder bounds the sum.
+fn case_word(number: u8, turn: u64) -> u32 {
+    let place = (turn % WORDS) as u32;
+    match number {
+        3 => 0x100 + place * 4,
+        4 => 0x102 + place * 4,
+        5 => 0x101 + place * 0x100,
+        _ => 0x100 + place * 5,
+    }
+}
+
+fn case_words(number: u8) -> [u32; 64] {
+    let mut words = [0; 64];
+    let mut turn: u64 = 0;
+    while turn < WORDS {
+        let at = turn as usize;
+        words[at] = case_word(number, turn);
+        turn = turn + 1;
+    }
+    words
+}
+
+// The words lie in memory, so that nothing is known of them where they are read.
+fn owned_sum(words: [u32; 64], repeats: u64) -> u64 {
+    let mut sum: u64 = 0;
+    let mut left = repeats;
+    while 0 < left {
+        let at = (left % WORDS) as usize;
+        sum = std::num::wrapping_add_u64(sum, owned_by(words[at]));
+        left = left - 1;
+    }
+    sum
+}
+
+// How often a table is found sound, or what words say.
+fn measured(number: u8, repeats: u64) -> u64 {
+    if number < 3 {
+        return sound_answers(case_table(number), repeats);
+    }
+    owned_sum(case_words(number), repeats)
+}
+
 // The decimal number behind the first two bytes.
 fn count_read(input: [u8; 11]) -> u64 {
     let mut count: u64 = 0;
@@ -114,7 +169,6 @@ fn main() {
     let mut input = [0; 11];
     io::read_full(STDIN_FILENO, &mut input);
     let number = input[0] % 16;
-    let answers = sound_answers(case_table(number), count_read(input));
-    io::print_decimal(STDOUT_FILENO, answers);
+    io::print_decimal(STDOUT_FILENO, measured(number, count_read(input)));
     io::write_all(STDOUT_FILENO, b"\n");
 }
