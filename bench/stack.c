@@ -57,6 +57,8 @@ static void call_questions(void) {
     answer = duskclamp_phase(table, sizeof table, thread);
     answer = duskclamp_blocker(table, sizeof table, thread);
     answer = duskclamp_depth(table, sizeof table, object);
+    answer = duskclamp_word_kind(table, sizeof table, object);
+    answer = duskclamp_word_thread(table, sizeof table, object);
 }
 
 static void enter(void) { called(); }

@@ -88,6 +88,14 @@ extern "C" {
 #define DUSKCLAMP_PHASE_WAITING 14    /* parked in the waiting chain */
 #define DUSKCLAMP_PHASE_RESUME 15     /* holder, about to take its saved depth back */
 
+/* The kinds of a lock word, by duskclamp_word_kind. */
+#define DUSKCLAMP_WORD_FREE 0      /* nobody owns the object */
+#define DUSKCLAMP_WORD_FLAT 1      /* the thread that it names owns the object */
+#define DUSKCLAMP_WORD_ANONYMOUS 2 /* reserved for whoever enters first */
+#define DUSKCLAMP_WORD_RESERVED 3  /* reserved for the thread that it names, which owns the object if duskclamp_depth is above 0 */
+#define DUSKCLAMP_WORD_FAT 4       /* the monitor says the rest */
+#define DUSKCLAMP_WORD_NONE 5      /* no lock word: the table is not sound */
+
 /* The returned numbers. From 11 up nothing is changed, save that 18 and 19 make the thread idle. */
 #define DUSKCLAMP_GONE_ON 0             /* begun, or gone on */
 #define DUSKCLAMP_FINISHED 1            /* the operation is finished, and the thread idle */
@@ -167,7 +175,7 @@ typedef struct duskclamp_event {
     uint32_t limit; /* of a timed wait, in bytes 4 to 7, the lowest first; no other operation looks at it */
 } duskclamp_event;
 
-/* The kinds. Any other is the begin of no operation: 17, unless 11 or 12 applies. */
+/* The kinds of an event. Any other is the begin of no operation: 17, unless 11 or 12 applies. */
 #define DUSKCLAMP_KIND_BEGIN 0
 #define DUSKCLAMP_KIND_STEP 1
 #define DUSKCLAMP_KIND_TICK 2
@@ -260,6 +268,11 @@ uint64_t duskclamp_blocker(const uint8_t *bytes, size_t length, uint32_t thread)
 /* The object's lock word. */
 uint64_t duskclamp_word(const uint8_t *bytes, size_t length, uint32_t object);
 
+/* What the word says, so that nobody need take its bits apart: its kind, one of DUSKCLAMP_WORD_FREE to DUSKCLAMP_WORD_NONE, and the thread that a flat
+ * or reserved word names, 0 for any other word. A reserved word names its thread also while nobody owns the object. */
+uint64_t duskclamp_word_kind(const uint8_t *bytes, size_t length, uint32_t object);
+uint64_t duskclamp_word_thread(const uint8_t *bytes, size_t length, uint32_t object);
+
 /* The thread that owns the object and how deep it does; 0 and 0 for nobody. */
 uint64_t duskclamp_owner(const uint8_t *bytes, size_t length, uint32_t object);
 uint64_t duskclamp_depth(const uint8_t *bytes, size_t length, uint32_t object);
@@ -330,6 +343,18 @@ static inline const char *duskclamp_phase_name(uint32_t phase) {
     case DUSKCLAMP_PHASE_GIVE_UP: return "give up";
     case DUSKCLAMP_PHASE_WAITING: return "waiting";
     case DUSKCLAMP_PHASE_RESUME: return "resume";
+    default: return "unknown";
+    }
+}
+
+static inline const char *duskclamp_word_kind_name(uint32_t kind) {
+    switch (kind) {
+    case DUSKCLAMP_WORD_FREE: return "free";
+    case DUSKCLAMP_WORD_FLAT: return "flat";
+    case DUSKCLAMP_WORD_ANONYMOUS: return "anonymous";
+    case DUSKCLAMP_WORD_RESERVED: return "reserved";
+    case DUSKCLAMP_WORD_FAT: return "monitor";
+    case DUSKCLAMP_WORD_NONE: return "no lock word";
     default: return "unknown";
     }
 }

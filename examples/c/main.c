@@ -1,6 +1,6 @@
 /* Three threads at one object: the first waits on it, the second then owns it, and the third parks. A fourth waits on an object of its own until its
  * wait runs out. A fifth parks while it leaves an object, and the sixth, which enters it, lets that exit out. The table is printed at the end: each
- * thread with its operation, its phase and who keeps it, each object with its word, owner, flag and chains. */
+ * thread with its operation, its phase and who keeps it, each object with its word and the word's kind, owner, flag and chains. */
 #include "duskclamp.h"
 #include <inttypes.h>
 #include <stdio.h>
@@ -104,7 +104,9 @@ static void print_chain(const char *name, uint32_t thread) {
 static void print_objects(void) {
     uint32_t count = DUSKCLAMP_VALUE(duskclamp_object_count(table, sizeof table));
     for (uint32_t object = 1; object <= count; object++) {
+        uint32_t kind = DUSKCLAMP_VALUE(duskclamp_word_kind(table, sizeof table, object));
         printf("object %" PRIu32 ": word %06" PRIx32, object, DUSKCLAMP_VALUE(duskclamp_word(table, sizeof table, object)));
+        printf(" (%s)", duskclamp_word_kind_name(kind));
         printf(", owner %" PRIu32, DUSKCLAMP_VALUE(duskclamp_owner(table, sizeof table, object)));
         printf(" at depth %" PRIu32, DUSKCLAMP_VALUE(duskclamp_depth(table, sizeof table, object)));
         printf(", flag %" PRIu32, DUSKCLAMP_VALUE(duskclamp_flag(table, sizeof table, object)));

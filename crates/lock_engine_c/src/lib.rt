@@ -34,4 +34,6 @@ pub use questions::duskclamp_ticks;
 pub use questions::duskclamp_version;
 pub use questions::duskclamp_waiting_first;
 pub use questions::duskclamp_word;
+pub use questions::duskclamp_word_kind;
+pub use questions::duskclamp_word_thread;
 pub use running::duskclamp_run;

@@ -12,7 +12,7 @@ ghost use Rattle.table_bytes.specs.Layout.{layout-version};
 ghost use Rattle.lock_engine_c.specs.Calls.{version};
 ghost use Rattle.table_questions.specs.declared.asking.ThreadQuestion.the-variants.{OperationOf, ObjectOf, PhaseOf, OnwardOf, KeptOf, SavedOf, TicksOf, NextOf, BlockerOf};
 ghost use Rattle.table_questions.specs.declared.asking.ObjectQuestion.the-variants.{WordOf, OwnerOf, DepthOf, FlagOf, HolderOf, MonitorDepthOf};
-ghost use Rattle.table_questions.specs.declared.asking.ObjectQuestion.the-variants.{EntryOf, ContentionOf, WaitingOf};
+ghost use Rattle.table_questions.specs.declared.asking.ObjectQuestion.the-variants.{EntryOf, ContentionOf, WaitingOf, KindOf, NamedOf};
 
 const VERSION: u32 = 1280;
 
@@ -126,6 +126,22 @@ pub extern "C" fn duskclamp_word(bytes: &[u8], object: u32) -> u64
     ensures { λ r. ⌜ r ≡ ask-object WordOf (now (bytes .entry)) object ⌝ }
 {
     ask_object(ObjectQuestion::WordOf, bytes, object)
+}
+
+// The kind of the object's lock word.
+#[no_mangle]
+pub extern "C" fn duskclamp_word_kind(bytes: &[u8], object: u32) -> u64
+    ensures { λ r. ⌜ r ≡ ask-object KindOf (now (bytes .entry)) object ⌝ }
+{
+    ask_object(ObjectQuestion::KindOf, bytes, object)
+}
+
+// The thread that a flat or reserved word names, 0 for any other word.
+#[no_mangle]
+pub extern "C" fn duskclamp_word_thread(bytes: &[u8], object: u32) -> u64
+    ensures { λ r. ⌜ r ≡ ask-object NamedOf (now (bytes .entry)) object ⌝ }
+{
+    ask_object(ObjectQuestion::NamedOf, bytes, object)
 }
 
 // The thread that owns the object, 0 for nobody.

@@ -4,6 +4,10 @@ use mathlib.Core.Bool.{Bool, true}
 use mathlib.Core.List.{List}
 use lib.Dec.{eqb, leb}
 use Rattle.laws.specs.Choice.{pick, both, within}
+use Rattle.lock_word.specs.Read.{read-word}
+use Rattle.lock_word.specs.declared.reading.Decoded.{Decoded}
+use Rattle.lock_word.specs.declared.reading.Decoded.the-variants.{Valid, Invalid}
+use Rattle.lock_word.specs.declared.reading.LockWord.the-variants.{Free, Flat, Anonymous, Reserved, Fat}
 use Rattle.lock_word.specs.declared.meaning.Ownership.{Ownership}
 use Rattle.lock_table.specs.Access.{thread-at, object-at}
 use Rattle.lock_table.specs.Limits.{thread-limit, object-limit}
@@ -23,7 +27,7 @@ use Rattle.table_questions.specs.declared.asking.ThreadQuestion.the-vari
 use Rattle.table_questions.specs.declared.asking.ThreadQuestion.the-variants.{TicksOf, NextOf, BlockerOf}
 use Rattle.table_questions.specs.declared.asking.ObjectQuestion.{ObjectQuestion}
 use Rattle.table_questions.specs.declared.asking.ObjectQuestion.the-variants.{WordOf, OwnerOf, DepthOf, FlagOf, HolderOf, MonitorDepthOf}
-use Rattle.table_questions.specs.declared.asking.ObjectQuestion.the-variants.{EntryOf, ContentionOf, WaitingOf}
+use Rattle.table_questions.specs.declared.asking.ObjectQuestion.the-variants.{EntryOf, ContentionOf, WaitingOf, KindOf, NamedOf}
 
 -- the answer to a question: 0 and the value, packed as bits 0 to 7 and the rest; else a refusal's number
 abbrev pub saying : ℕ → ℕ
@@ -64,9 +68,29 @@ thread-value TicksOf number thread owner holder = thread .ticks
 thread-value NextOf number thread owner holder = thread .next
 thread-value BlockerOf number thread owner holder = blocker-of (phase-number (thread .phase)) number owner holder
 
+-- the kind of a lock word: free, flat, anonymous, reserved, fat, and no lock word, which only a table that is not sound has
+unfoldable pub kind-number : Decoded → ℕ
+kind-number Invalid = 5
+kind-number (Valid Free) = 0
+kind-number (Valid (Flat thread count)) = 1
+kind-number (Valid Anonymous) = 2
+kind-number (Valid (Reserved thread count)) = 3
+kind-number (Valid (Fat monitor)) = 4
+
+-- the thread that a flat or reserved word names, whether it owns the object or not; 0 for any other word
+unfoldable pub named-thread : Decoded → ℕ
+named-thread Invalid = 0
+named-thread (Valid Free) = 0
+named-thread (Valid (Flat thread count)) = thread .0
+named-thread (Valid Anonymous) = 0
+named-thread (Valid (Reserved thread count)) = thread .0
+named-thread (Valid (Fat monitor)) = 0
+
 -- what is asked of an object, by its record and who owns it; owner and depth are those that the theorem on schedules compares with the plain monitors
 unfoldable pub object-value : ObjectQuestion → ObjectRecord → Ownership → ℕ
 object-value WordOf object ownership = object .word
+object-value KindOf object ownership = kind-number (read-word (object .word))
+object-value NamedOf object ownership = named-thread (read-word (object .word))
 object-value OwnerOf object ownership = ownership .thread
 object-value DepthOf object ownership = ownership .depth
 object-value FlagOf object ownership = flag-byte (object .flag)

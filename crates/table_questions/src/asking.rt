@@ -14,13 +14,17 @@ use lock_table::operation_number;
 use lock_table::ownership_at;
 use lock_table::phase_number;
 use lock_table::thread_at;
+use lock_word::Decoded;
+use lock_word::LockWord;
 use lock_word::Ownership;
+use lock_word::read_word;
 use table_bytes::is_table;
 use table_bytes::read_table;
 ghost use mathlib.Core.Path.{_≡_};
 ghost use Rattle.table_bytes.specs.ObjectBytes.{flag-byte};
 ghost use Rattle.table_questions.specs.Questions.{said-of, holder-blocks, owner-blocks, blocker-of, thread-value, object-value};
 ghost use Rattle.table_questions.specs.Questions.{thread-in, object-in, ask-thread, ask-object, thread-count, object-count};
+ghost use Rattle.table_questions.specs.Questions.{kind-number, named-thread};
 
 // Of a thread.
 pub enum ThreadQuestion {
@@ -40,6 +44,9 @@ pub enum ThreadQuestion {
 // Of an object.
 pub enum ObjectQuestion {
     WordOf,
+    // the kind of the word, and the thread that a flat or reserved one names
+    KindOf,
+    NamedOf,
     OwnerOf,
     DepthOf,
     FlagOf,
@@ -74,6 +81,38 @@ fn flag_number(flag: bool) -> u32
         return 1;
     }
     0
+}
+
+// The kind of a lock word, 5 where it is none. C callers have names for these numbers.
+fn kind_number(decoded: Decoded) -> u32
+    ensures { λ r. ⌜ r ≡ kind-number decoded ⌝ }
+{
+    let Decoded::Valid(meaning) = decoded else {
+        return 5;
+    };
+    match meaning {
+        LockWord::Free => 0,
+        LockWord::Flat(_, _) => 1,
+        LockWord::Anonymous => 2,
+        LockWord::Reserved(_, _) => 3,
+        LockWord::Fat(_) => 4,
+    }
+}
+
+// The thread that the word names. It need not own the object: a reserved word without a count names who may take it fast.
+fn named_thread(decoded: Decoded) -> u32
+    ensures { λ r. ⌜ r ≡ named-thread decoded ⌝ }
+{
+    let Decoded::Valid(meaning) = decoded else {
+        return 0;
+    };
+    match meaning {
+        LockWord::Free => 0,
+        LockWord::Flat(thread, _) => thread.value() as u32,
+        LockWord::Anonymous => 0,
+        LockWord::Reserved(thread, _) => thread.value() as u32,
+        LockWord::Fat(_) => 0,
+    }
 }
 
 fn holder_blocks(holder: u8) -> u32
@@ -140,6 +179,8 @@ fn object_value(question: ObjectQuestion, object: ObjectRecord, ownership: Owner
     let monitor = object.monitor;
     match question {
         ObjectQuestion::WordOf => object.word,
+        ObjectQuestion::KindOf => kind_number(read_word(object.word)),
+        ObjectQuestion::NamedOf => named_thread(read_word(object.word)),
         ObjectQuestion::OwnerOf => ownership.thread as u32,
         ObjectQuestion::DepthOf => ownership.depth as u32,
         ObjectQuestion::FlagOf => flag_number(object.flag),

@@ -1,15 +1,17 @@
 -- Every example holds: both sides compute to the same.
 use mathlib.Core.Path.{refl}
+use Rattle.lock_word.specs.Read.{read-word, read-reserved}
 use Rattle.lock_rules.specs.Numbers.{refusal-number}
 use Rattle.lock_engine.specs.Outcome.{reply-returned}
 use Rattle.event_bytes.specs.Answer.{packed-of}
 use Rattle.dispatch_rules.specs.Dispatch.{dispatch-returned}
+use Rattle.table_questions.specs.Questions.{kind-number, named-thread}
 use Rattle.lock_engine_c.specs.Calls.{reply-changes}
 use Rattle.replay_session.specs.Session.{answer-from}
 use Rattle.worked_outcomes.specs.Outcomes.{OutcomeExamples}
 
 pub outcome-examples : OutcomeExamples
-unfolding refusal-number reply-returned packed-of reply-changes dispatch-returned answer-from
+unfolding refusal-number reply-returned packed-of reply-changes dispatch-returned answer-from kind-number named-thread read-word read-reserved
 outcome-examples =
     record {
       stored = refl;
@@ -17,6 +19,9 @@ outcome-examples =
       answered = refl;
       ran = λ table. refl;
       run-refused = λ table. refl;
+      reserved-kind = refl;
+      reserved-named = refl;
+      no-lock-word = refl;
       printed = λ outcome thread object. refl;
       ticked = λ outcome. refl;
       tick-refused = λ outcome. refl;

@@ -1,7 +1,8 @@
--- Examples of what the library for C stores of a reply, and of what the replay prints of an outcome.
+-- Examples of what the library for C stores of a reply and says of a lock word, and of what the replay prints of an outcome.
 use Prim.Native.Nat.{ℕ}
 use mathlib.Core.Path.{_≡_}
 use mathlib.Core.Bool.{true, false}
+use Rattle.lock_word.specs.Read.{read-word}
 use Rattle.lock_rules.specs.declared.event.Refusal.{Refusal}
 use Rattle.lock_rules.specs.declared.event.Refusal.the-variants.{NotSound}
 use Rattle.lock_engine.specs.Outcome.{reply-returned, reply-woken}
@@ -11,6 +12,7 @@ use Rattle.lock_engine.specs.declared.outcome.Reply.the-variants.{Accepted, Ref
 use Rattle.event_bytes.specs.Answer.{packed-of}
 use Rattle.dispatch_rules.specs.declared.DispatchAnswer.the-variants.{Ended, QuantumOutOfRange}
 use Rattle.lock_table.specs.declared.record.Table.{Table}
+use Rattle.table_questions.specs.Questions.{kind-number, named-thread}
 use Rattle.lock_engine_c.specs.Calls.{reply-changes}
 use Rattle.lock_engine_c.specs.Dispatch.{run-answer}
 use Rattle.replay_text.specs.declared.answer.Answer.the-variants.{Alone, Ticked}
@@ -29,6 +31,10 @@ pub record OutcomeExamples : Type 0 where
   -- a run's answer for C has its steps from bit 8 on: here three steps, and a refused run
   pub ran : (table : Table) → run-answer (record { table = table; answer = Ended; steps = 3 }) ≡ 0x300
   pub run-refused : (table : Table) → run-answer (record { table = table; answer = QuantumOutOfRange; steps = 0 }) ≡ 25
+  -- a word that is reserved for thread 3 names it, though nobody owns the object; and a word that is none has a kind of its own
+  pub reserved-kind : kind-number (read-word 0x000302) ≡ 3
+  pub reserved-named : named-thread (read-word 0x000302) ≡ 3
+  pub no-lock-word : kind-number (read-word 0x000003) ≡ 5
   -- the phase is that of the thread, the word that of the object, the set that of the outcome
   pub printed : (outcome : Outcome) (thread object : ℕ)
       → after-event outcome thread object .answer

@@ -73,6 +73,7 @@ pub mod raw;
 mod record;
 mod script;
 mod thread_set;
+mod word;
 
 pub use answer::{Answer, Operation, Outcome, Refusal};
 pub use event::{Event, Packed};
@@ -80,6 +81,7 @@ pub use phase::{Onward, Phase};
 pub use record::{Blocker, Chain, Object, Thread};
 pub use script::{Command, ScriptCursor, TraceEntry};
 pub use thread_set::{ThreadSet, ThreadSetIter};
+pub use word::LockWord;
 
 use core::fmt;
 
@@ -521,6 +523,28 @@ impl Table {
         answer::value(raw::word(&self.bytes, object))
     }
 
+    /// What the object's lock word says.
+    ///
+    /// ```
+    /// use duskclamp::{LockWord, Operation, Refusal, Table, Words};
+    /// let mut table = Table::fresh(1, 1, Words::Reserved)?;
+    /// assert_eq!(table.lock_word(1), Ok(LockWord::Anonymous));
+    /// assert_eq!(table.lock_word(2), Err(Refusal::NoSuchObject));
+    ///
+    /// // The first thread that enters gets the reservation, and keeps it when it leaves.
+    /// for (operation, depth) in [(Operation::Enter, 1), (Operation::Exit, 0)] {
+    ///     table.begin(1, operation, 1)?;
+    ///     while table.step(1).result? == duskclamp::Answer::GoneOn {}
+    ///     assert_eq!(table.lock_word(1), Ok(LockWord::Reserved { thread: 1, depth }));
+    /// }
+    /// # Ok::<(), Refusal>(())
+    /// ```
+    pub fn lock_word(&self, object: u32) -> Result<LockWord, Refusal> {
+        let kind = answer::value(raw::word_kind(&self.bytes, object))?;
+        let thread = answer::value(raw::word_thread(&self.bytes, object))?;
+        Ok(LockWord::from_numbers(kind, thread, self.depth(object)?))
+    }
+
     /// The thread that owns the object, 0 for nobody.
     pub fn owner(&self, object: u32) -> Result<u32, Refusal> {
         answer::value(raw::owner(&self.bytes, object))
@@ -664,6 +688,8 @@ mod tests {
             assert_eq!(raw::dispatch(&mut bytes, 1, &[], &mut [], &mut []), 11);
             assert_eq!(raw::ticks(&bytes, 1), 11);
             assert_eq!(raw::phase(&bytes, 1), 11);
+            assert_eq!(raw::word_kind(&bytes, 1), 11);
+            assert_eq!(raw::word_thread(&bytes, 1), 11);
             assert_eq!(raw::thread_count(&bytes), 11);
             assert_eq!(bytes, vec![0xa5; length]);
         }

@@ -67,6 +67,8 @@ mod declared {
         pub fn duskclamp_ticks(bytes: *const u8, length: usize, thread: u32) -> u64;
         pub fn duskclamp_blocker(bytes: *const u8, length: usize, thread: u32) -> u64;
         pub fn duskclamp_word(bytes: *const u8, length: usize, object: u32) -> u64;
+        pub fn duskclamp_word_kind(bytes: *const u8, length: usize, object: u32) -> u64;
+        pub fn duskclamp_word_thread(bytes: *const u8, length: usize, object: u32) -> u64;
         pub fn duskclamp_owner(bytes: *const u8, length: usize, object: u32) -> u64;
         pub fn duskclamp_depth(bytes: *const u8, length: usize, object: u32) -> u64;
         pub fn duskclamp_flag(bytes: *const u8, length: usize, object: u32) -> u64;
@@ -229,6 +231,16 @@ pub fn blocker(bytes: &[u8], thread: u32) -> u64 {
 /// The object's lock word.
 pub fn word(bytes: &[u8], object: u32) -> u64 {
     unsafe { declared::duskclamp_word(bytes.as_ptr(), bytes.len(), object) }
+}
+
+/// The kind of the object's lock word: 0 free, 1 flat, 2 anonymous, 3 reserved, 4 fat, 5 no lock word.
+pub fn word_kind(bytes: &[u8], object: u32) -> u64 {
+    unsafe { declared::duskclamp_word_kind(bytes.as_ptr(), bytes.len(), object) }
+}
+
+/// The thread that a flat or reserved word names, 0 for any other word.
+pub fn word_thread(bytes: &[u8], object: u32) -> u64 {
+    unsafe { declared::duskclamp_word_thread(bytes.as_ptr(), bytes.len(), object) }
 }
 
 /// The thread that owns the object, 0 for nobody.

@@ -197,7 +197,8 @@ fn going_in_cases() -> Vec<(u8, Table, Event)> {
     ]
 }
 
-/// Tables to be asked about: a thread behind another in each chain, a timed wait, and a monitor at a depth that nobody holds, which is no owner's.
+/// Tables to be asked about: a thread behind another in each chain, a timed wait, a monitor at a depth that nobody holds, which is no owner's, and words
+/// that few made tables have.
 pub fn asked_about() -> Vec<Table> {
     let mut tables: Vec<Table> = Chain::ALL.into_iter().map(chained).collect();
     tables.push(at(Operation::TimedWait, Phase::Waiting));
@@ -210,6 +211,13 @@ pub fn asked_about() -> Vec<Table> {
     let queued = at(Operation::Wait, Phase::Queued(Onward::Inflate));
     tables.push(held(queued.clone(), own, OTHER, 0));
     tables.push(held(queued, LockWord::Free, OTHER, 0));
+    // Reserved for a thread that does not own it; and a fat word that names no object, which is no lock word, whatever its monitor says.
+    let unowned = LockWord::Reserved {
+        thread: ONE.into(),
+        count: 0,
+    };
+    tables.push(held(fresh(), unowned, 0, 0));
+    tables.push(held(fresh(), LockWord::Fat { monitor: 0 }, ONE, 1));
     tables
 }
 

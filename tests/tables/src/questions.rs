@@ -43,7 +43,7 @@ const fn object(
     }
 }
 
-pub const QUESTIONS: [Question; 20] = [
+pub const QUESTIONS: [Question; 22] = [
     Question {
         name: "thread count",
         given: |bytes, _| raw::thread_count(bytes),
@@ -70,6 +70,8 @@ pub const QUESTIONS: [Question; 20] = [
     thread("ticks", raw::ticks, |_, record, _| record.ticks.into()),
     thread("blocker", raw::blocker, blocker),
     object("word", raw::word, |record| record.word),
+    object("kind", raw::word_kind, |record| kind_and_named(record).0),
+    object("named", raw::word_thread, |record| kind_and_named(record).1),
     object("owner", raw::owner, |record| ownership(record).0),
     object("depth", raw::depth, |record| ownership(record).1),
     object("flag", raw::flag, |record| record.contention_flag.into()),
@@ -142,6 +144,18 @@ fn onward(phase: Phase) -> u32 {
     match phase {
         Phase::Queued(onward) => onward.phase().number().into(),
         _ => 0,
+    }
+}
+
+/// The kind of the word and the thread that it names, 0 for none.
+fn kind_and_named(object: &ObjectRecord) -> (u32, u32) {
+    match LockWord::decode(object.word) {
+        Some(LockWord::Free) => (0, 0),
+        Some(LockWord::Flat { thread, .. }) => (1, thread.into()),
+        Some(LockWord::Anonymous) => (2, 0),
+        Some(LockWord::Reserved { thread, .. }) => (3, thread.into()),
+        Some(LockWord::Fat { monitor: 1.. }) => (4, 0),
+        Some(LockWord::Fat { monitor: 0 }) | None => (5, 0),
     }
 }
 

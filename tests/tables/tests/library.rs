@@ -1,6 +1,9 @@
-//! The library beside the second engine in short, and its refusals on memory that may only be read.
+//! The library beside the second engine in short, the wrapper's lock words, and refusals on memory that may only be read.
 
+use duskclamp::raw;
 use reference::engine::Event;
+use reference::table::Table;
+use reference::word::LockWord;
 use std::os::unix::process::ExitStatusExt;
 use std::process::{Command, ExitCode};
 use tables::cases::cases;
@@ -31,6 +34,67 @@ fn the_numbers_of_steps_agree() {
     assert_eq!(duskclamp::MAX_STEPS, most);
     let header = include_str!("../../../include/duskclamp.h");
     assert!(header.contains(&format!("#define DUSKCLAMP_STEPS {most}\n")));
+}
+
+/// What the wrapper has to say of a word. A fat word with number 0 is no lock word: no object has that number.
+fn said(word: u32) -> duskclamp::LockWord {
+    match LockWord::decode(word) {
+        Some(LockWord::Free) => duskclamp::LockWord::Free,
+        Some(LockWord::Flat { thread, count }) => duskclamp::LockWord::Flat {
+            thread: thread.into(),
+            depth: u32::from(count) + 1,
+        },
+        Some(LockWord::Anonymous) => duskclamp::LockWord::Anonymous,
+        Some(LockWord::Reserved { thread, count }) => duskclamp::LockWord::Reserved {
+            thread: thread.into(),
+            depth: count.into(),
+        },
+        Some(LockWord::Fat { monitor: 1.. }) => duskclamp::LockWord::Monitor,
+        Some(LockWord::Fat { monitor: 0 }) | None => duskclamp::LockWord::Invalid,
+    }
+}
+
+/// The wrapper makes its words from questions alone, the second decoder from the bits. Every low byte, few numbers and single bits above them.
+#[test]
+fn lock_words_are_read_alike() {
+    let mut table = Table::fresh(3, 1, false).expect("sizes in range");
+    let mut names = Vec::new();
+    for number in [0, 1, 3, 300, 0x7fff, 0x8000, 0x80_0000] {
+        for word in (number << 8)..=(number << 8 | 0xff) {
+            table.object_mut(1).word = word;
+            let bytes = encode(&table)[..].try_into().expect("a table's size");
+            let given = duskclamp::Table::from_bytes(bytes).lock_word(1);
+            assert_eq!(given, Ok(said(word)), "word {word:06x}");
+            names.push(said(word).name());
+        }
+    }
+    names.sort_unstable();
+    names.dedup();
+    let all = [
+        "anonymous",
+        "flat",
+        "free",
+        "monitor",
+        "no lock word",
+        "reserved",
+    ];
+    assert_eq!(names, all);
+}
+
+/// The kinds have the same numbers in the header as in the wrapper's raw calls, and the same names.
+#[test]
+fn the_numbers_of_kinds_agree() {
+    let header = include_str!("../../../include/duskclamp.h");
+    let kinds = ["FREE", "FLAT", "ANONYMOUS", "RESERVED", "FAT", "NONE"];
+    let words = [0, 0x100, 2, 0x302, 0x101, 3];
+    let mut table = Table::fresh(3, 1, false).expect("sizes in range");
+    for (number, (kind, word)) in kinds.into_iter().zip(words).enumerate() {
+        assert!(header.contains(&format!("#define DUSKCLAMP_WORD_{kind} {number} ")));
+        let name = said(word).name();
+        assert!(header.contains(&format!("case DUSKCLAMP_WORD_{kind}: return \"{name}\";")));
+        table.object_mut(1).word = word;
+        assert_eq!(raw::word_kind(&encode(&table), 1), (number as u64) << 8);
+    }
 }
 
 /// Returned with nothing to store: all refusals but 18 and 19, which make the thread idle.
