@@ -1,6 +1,6 @@
 #!/bin/sh
-# The scripts ./replay and ./report over programs that are built: their statuses, their arguments and a link to them. When they build again:
-# program_builds.sh. tests/program_script.sh; the last line is 'N passed, M failed'.
+# The scripts ./replay, ./report, ./explain and ./timeline over programs that are built: their statuses, their arguments and a link to them. When they
+# build again: program_builds.sh. tests/program_script.sh; the last line is 'N passed, M failed'.
 set -u
 . "$(dirname "$0")/counting.sh"
 here=$(cd "$(dirname "$0")/.." && pwd -P) || exit 2
@@ -14,7 +14,7 @@ outcome() {
     if cmp -s "$work/output" "$expected"; then echo "whole $status"; else echo "$(head -n 1 "$work/output") $status"; fi
 }
 
-# The first call sees that all is proved as it is, and builds nothing.
+# The first call sees that all is proved as it is.
 calls() {
     check "$name: standard input" "$(outcome "$script" <"$input")" 'whole 0'
     check "$name: nothing is proved again" "$(grep -c '^\[' "$work/said")" 0
@@ -36,6 +36,11 @@ statuses() {
     "$script" "$input" >&- 2>/dev/null
     check "$name: no standard output" "$?" 5
     check "$name: no standard input" "$(outcome "$script" <&-)" ' 4'
+    ended
+}
+
+# By a signal, and where nobody reads.
+ended() {
     "$script" <"$work/open" >"$work/output" 2>&1 &
     sleep 0.5
     kill "$!"
@@ -56,6 +61,21 @@ arguments() {
     check "$name: and it says what status 3 means here" "$(grep -c "^ *3 .*$1 was printed" "$work/output")" 1
 }
 
+# The viewers read their arguments themselves; rust/schedule_view/tests has the rest of their statuses.
+viewer() {
+    check "$name: a folder" "$(outcome "$script" "$here")" ' 4'
+    check "$name: and it says who could not read" "$(grep -c "^$name: " "$work/said")" 1
+    check "$name: no such file" "$(outcome "$script" "$work/none")" ' 2'
+    check "$name: an option that there is not" "$(outcome "$script" --fast)" ' 2'
+    check "$name: help" "$(outcome "$script" --help | sed 's/\[.*\]//')" "usage: ./$name  0"
+    "$script" "$input" >&- 2>/dev/null
+    check "$name: no standard output" "$?" 5
+    check "$name: no standard input" "$(outcome "$script" <&-)" ' 4'
+    "$script" "$input" <&- >/dev/null
+    check "$name: no standard input, and a file" "$?" 0
+    ended
+}
+
 # An input that stays open and has nothing in it.
 mkfifo "$work/open"
 exec 7<>"$work/open"
@@ -69,4 +89,10 @@ for name in replay report; do
     statuses $early
     arguments "${early#* }"
 done
+name=explain script=$here/explain input=$here/examples/cancelled-before-store.txt expected=$here/examples/cancelled-before-store.explained
+calls
+viewer
+name=timeline script=$here/timeline expected=$here/docs/pictures/cancelled-before-store.svg
+check 'timeline: built with explain, and draws' "$(outcome "$script" --svg "$input") $(wc -c <"$work/said")" 'whole 0 0'
+viewer
 finish

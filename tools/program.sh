@@ -1,18 +1,27 @@
-# What ./replay and ./report share, which read this file: proves and builds the program where it is missing or a source is newer, and runs it.
-# They set: name, build_time (from nothing), about (what --help says of it), ended_early (what status 3 means), here (the top of the repository).
+# What ./replay, ./report, ./explain and ./timeline share: proves and builds the program where it is missing or a source is newer, and runs it. Before
+# this file is read, the scripts, and tools/proved.sh for the proved programs and tools/view.sh for those in Rust, have set
+#     name, here        the program's, and the top of the repository
+#     about, options    what --help says of it, and what it takes
+#     ended_early       what status 3 means
+#     build_time        from nothing
+#     crate, sources    what is proved, and what the program is built from
+#     program, stamp    its file, and the name under which a build is remembered; programs that are built together have one
+#     takes_arguments   whether it reads them, and files, itself
+#     proves            whether rt has anything to do
+#     make_program      what builds it, in the top folder
 set -u
 kit='rattle-kit-5b logic 064da1ca440f63e7' # what `rt version` prints of the kit that the proofs are written for
 
 usage() {
     cat <<TEXT
-usage: ./$name [FILE]
+usage: ./$name $options
 
 $about
 docs/REFERENCE.md has the format.
 
 The first call proves and builds the program; later calls start at once, and build again where a source is newer.
 
-status  0  the whole input was read
+status  0  the whole input was read, or what was asked for of it
         1  the program could not be proved or built
         2  other arguments than these, or FILE cannot be opened
         3  $ended_early
@@ -26,7 +35,7 @@ say() { printf '%s: %s\n' "$name" "$*" >&2; }
 
 # The crates that the program needs, itself last.
 needed() {
-    awk -v name="$name" 'function visit(n,    a, k, m) {
+    awk -v name="$crate" 'function visit(n,    a, k, m) {
             if (n in seen) return
             seen[n] = 1
             m = split(deps[n], a, " ")
@@ -40,7 +49,7 @@ needed() {
 
 # Whether a source is newer than the program's last build, or gone; folders count, so that a file that is gone is seen.
 stale() {
-    [ ! -x "target/bin/$name" ] || [ ! -f "$current" ] || [ -n "$(find crates crates.txt -newer "$current" -print | head -n 1)" ]
+    [ ! -x "$program" ] || [ ! -f "$current" ] || [ -n "$(find $sources -newer "$current" -print | head -n 1)" ]
 }
 
 # Says which crates were proved anew: those of the running build, and once it is done the rest. Ends with the build, or with this script ($1).
@@ -74,42 +83,59 @@ alone() {
     flock 9 || exit 1
 }
 
-# Proves and builds. The time before the build counts as that of the program, so that a source saved meanwhile is seen as newer.
-build() {
+# Ends where the kit is not there; says where it is another.
+kit_there() {
     if ! command -v rt >/dev/null; then
         say "the program must be proved and built first, and that needs the Rattle kit ($kit): its command rt is not found in PATH"
         exit 1
     fi
     [ "$(rt version)" = "$kit" ] || say "the kit here is '$(rt version)'; the proofs are written for '$kit'"
+}
+
+# Proves and builds. The time before the build counts as that of the program, so that a source saved meanwhile is seen as newer.
+build() {
+    if proves; then kit_there; fi
     alone
     stale || return 0
-    say "proving and building the program: $build_time where nothing is proved yet; $log has what rt says"
+    if proves; then
+        say "proving and building the program: $build_time where nothing is proved yet; $log has what rt says"
+    else
+        say "building the program; $log has what is said"
+    fi
     : >"$began" || exit 1
-    progress $$ &
-    watcher=$!
+    watcher=''
+    if proves; then
+        progress $$ &
+        watcher=$!
+    fi
     # Crates are checked a layer at a time; more jobs than processors fill the gaps in a layer.
-    RT_JOBS=${RT_JOBS:-4} rt check "$name" >"$log" 2>&1 </dev/null
+    export RT_JOBS="${RT_JOBS:-4}"
+    make_program >"$log" 2>&1 </dev/null
     built=$?
     if [ "$built" -ne 0 ]; then
-        kill "$watcher" 2>/dev/null
+        [ -z "$watcher" ] || kill "$watcher" 2>/dev/null
         grep -E 'error|NOT PROVED|FAILED' "$log" | cut -c 1-200 | tail -n 20 >&2
-        say "the program could not be proved or built; $log has all that rt said"
+        say "the program could not be proved or built; $log has all that was said"
         exit 1
     fi
     if ! mv "$began" "$current"; then
         say "$began is gone: another build has taken it away"
         exit 1
     fi
-    wait "$watcher"
+    [ -z "$watcher" ] || wait "$watcher"
+}
+
+# Ends with the status of a failed write where there is nowhere to write.
+output_open() {
+    { true 6>&1; } 2>/dev/null && return 0
+    say 'standard output is closed'
+    exit 5
 }
 
 # Runs the program with descriptor 3 open on a file, into which it writes one digit, the status. It runs in the background, so that a signal to
 # this script alone reaches it; a command there has no standard input but one that is handed to it.
 run() {
-    if ! { true 6>&1; } 2>/dev/null; then
-        say 'standard output is closed'
-        exit 5
-    fi
+    output_open
     if ! { true 6<&0; } 2>/dev/null; then
         say 'standard input is closed'
         exit 4
@@ -130,27 +156,35 @@ run() {
     exit 1
 }
 
-# Of the build, in the top folder. Each program has its own, since one is built without the other.
-current=target/$name.current began=target/$name.began log=target/$name.log
-
-case ${1-} in
---help | -h) usage && exit 0 ;;
--*) usage >&2 && exit 2 ;;
-esac
-if [ $# -gt 1 ]; then
-    usage >&2
-    exit 2
-fi
-if [ $# -eq 1 ]; then
+# The proved programs read standard input alone: a file is opened for them.
+open_input() {
+    case ${1-} in -*) usage >&2 && exit 2 ;; esac
+    if [ $# -gt 1 ]; then
+        usage >&2
+        exit 2
+    fi
+    [ $# -eq 1 ] || return 0
     if [ ! -r "$1" ]; then
         say "$1 cannot be opened"
         exit 2
     fi
     exec <"$1"
-fi
+}
+
+# Of the build, in the top folder. Each program that is built without another has its own.
+current=target/$stamp.current began=target/$stamp.began log=target/$stamp.log
+
+case ${1-} in --help | -h) usage && exit 0 ;; esac
+[ -n "$takes_arguments" ] || open_input "$@"
 trap 'exit 130' INT
 trap 'exit 143' TERM
 if (cd "$here" && stale); then
     (cd "$here" && build) || exit 1
 fi
-run "$here/target/bin/$name"
+if [ -n "$takes_arguments" ]; then
+    output_open
+    # A closed input would be an empty one to the program. A folder cannot be read, and need not be where a file is given.
+    { true 6<&0; } 2>/dev/null || exec <"$here"
+    exec "$here/$program" "$@"
+fi
+run "$here/$program"

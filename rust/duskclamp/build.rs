@@ -13,9 +13,6 @@ fn main() {
         None => Path::new(env!("CARGO_MANIFEST_DIR")).join("../../target/staticlib"),
     };
     let archive = |library: &str| folder.join(format!("lib{library}.a"));
-    for library in LIBRARIES {
-        println!("cargo:rerun-if-changed={}", archive(library).display());
-    }
     let Some(library) = LIBRARIES.into_iter().find(|name| archive(name).is_file()) else {
         eprintln!(
             "the library is not in {}: run `rt staticlib lock_engine_c` in the repository, or name its folder by DUSKCLAMP_LIB_DIR",
@@ -23,6 +20,8 @@ fn main() {
         );
         std::process::exit(1);
     };
+    // Of the one that is there: a file that is not would have cargo build again every time.
+    println!("cargo:rerun-if-changed={}", archive(library).display());
     println!("cargo:rustc-link-search=native={}", folder.display());
     println!("cargo:rustc-link-lib=static={library}");
 }

@@ -286,8 +286,12 @@ impl Turn<'_> {
         self.go_on(Phase::Look)
     }
 
-    /// A reservation's owner that has read the old word must look again, or it would store that word.
+    /// A reservation's owner that has read the old word must look again, or it would store that word. With the feature `stale_store` it does: that engine
+    /// is wrong, and there to be drawn.
     fn send_back(&mut self, owner: u8) {
+        if cfg!(feature = "stale_store") {
+            return;
+        }
         let object = self.object;
         let record = self.table.thread_mut(owner);
         if record.phase == Phase::Store && record.object == object {

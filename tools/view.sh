@@ -1,0 +1,35 @@
+# What ./explain and ./timeline share, which read this file: they are programs in Rust on the proved library for C, built together, and read their
+# arguments and files themselves. The rest is as for the proved programs: tools/program.sh.
+build_time='some minutes on two processors'
+crate=lock_engine_c
+program=target/view/release/$name
+sources='crates crates.txt rust/*/src rust/*/Cargo.* rust/duskclamp/build.rs'
+stamp=view
+takes_arguments=yes
+library=target/staticlib/lib$crate.a
+library_began=target/$crate.began
+
+# rt looks at the whole library again where nothing is new, which takes a minute; so it is called only where something is: newer than the start of the
+# library's last build by this script, or, where there was none, than the library.
+proves() {
+    since=$library_began
+    [ -f "$since" ] || since=$library
+    [ ! -f "$library" ] || [ -n "$(find crates crates.txt -newer "$since" -print | head -n 1)" ]
+}
+
+make_library() {
+    proves || return 0
+    rt staticlib "$crate" && touch -r "$began" "$library_began"
+}
+
+make_program() {
+    if ! command -v cargo >/dev/null; then
+        echo 'error: cargo is not found in PATH, and the program is in Rust'
+        return 1
+    fi
+    make_library || return 1
+    DUSKCLAMP_LIB_DIR=$PWD/target/staticlib \
+        cargo build --offline --release --quiet --manifest-path rust/schedule_view/Cargo.toml --target-dir target/view
+}
+
+. "$here/tools/program.sh"
