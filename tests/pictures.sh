@@ -27,7 +27,7 @@ warned() { grep -c '<text class="warning".*WRONG ON PURPOSE' "$1"; }
 check 'the wrong one is marked' "$(warned "$here/docs/pictures/cancelled-before-store-wrong.svg")" 1
 check 'the right one is not' "$(warned "$here/docs/pictures/cancelled-before-store.svg")" 0
 
-# By the processor's time, which does not depend on what else runs.
+# By the processor's time, which depends less on what else runs than the clock does.
 "$programs/make_schedule" 9967 32 64 1 2 >"$work/long.txt"
 check 'lines of the long one' "$(wc -l <"$work/long.txt")" 10000
 cat >"$work/timed.py" <<'PYTHON'
