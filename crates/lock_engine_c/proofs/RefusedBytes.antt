@@ -10,10 +10,9 @@ use Rattle.laws.specs.Choice.{either}
 use Rattle.laws.proofs.Choice.{split, by-test, false≢true}
 use Rattle.laws.proofs.Sequence.{tabulate-every}
 use Rattle.lock_rules.specs.Numbers.{refusal-number}
-use Rattle.lock_rules.specs.Gate.{gate, event-thread}
-use Rattle.lock_rules.specs.declared.event.{Event.Event, Gate.Gate, Refusal.Refusal}
+use Rattle.lock_rules.specs.Gate.{event-thread}
+use Rattle.lock_rules.specs.declared.event.{Event.Event, Refusal.Refusal}
 use Rattle.lock_rules.specs.declared.event.Event.the-variants.{Begin, Step, Tick}
-use Rattle.lock_rules.specs.declared.event.Gate.the-variants.{Open, Shut}
 use Rattle.lock_rules.specs.declared.Answer.the-variants.{GoneOn, Finished, Parked, NotOwner, TooDeep, NoRule}
 use Rattle.lock_table.specs.Limits.{object-limit}
 use Rattle.lock_word.specs.Depth.{depth-limit}
@@ -21,19 +20,16 @@ use Rattle.lock_table.specs.Record.{no-object, idle}
 use Rattle.lock_table.specs.Access.{thread-at, object-at, set-thread}
 use Rattle.lock_table.specs.{Narrow.narrow-of, WellTyped.WellTyped}
 use Rattle.lock_table.specs.declared.record.{ObjectRecord.ObjectRecord, Table.Table}
-use Rattle.lock_soundness.specs.Sound.{sound-of}
 use Rattle.lock_engine.specs.Outcome.{reply-returned, reply-woken}
-use Rattle.lock_engine.specs.Turn.{gate-turn, open-turn}
-use Rattle.lock_gate.specs.Status.{thread-status}
 use Rattle.lock_work.specs.Work.{work-stays}
-use Rattle.lock_engine.specs.Handle.{work-done-of, outcome-of, waiters-of, trusted, handle-trusting, handle, begin, tick-event}
-use Rattle.lock_engine.proofs.{Refused.refused-stays, Full.full-thread}
+use Rattle.lock_engine.specs.Handle.{work-done-of, handle-trusting, handle}
+use Rattle.lock_engine.proofs.Full.{full-thread}
 use Rattle.lock_engine.proofs.Narrow.{narrow-begin, narrow-step}
 use Rattle.lock_rules.specs.declared.event.Refusal.the-variants.{NotSound, NoSuchThread, NoSuchObject, NotIdle, ThreadIdle, ThreadParked}
 use Rattle.lock_rules.specs.declared.event.Refusal.the-variants.{NoSuchOperation, LimitOutOfRange}
 use Rattle.lock_engine.specs.declared.outcome.{Reply.Reply, Outcome.Outcome}
 use Rattle.lock_engine.specs.declared.outcome.Reply.the-variants.{Accepted, Refused, Answered}
-use Rattle.lock_refusals.specs.Demand.{returned, left-by}
+use Rattle.lock_refusals.specs.Demand.{returned, left-by, Leaves}
 use Rattle.lock_refusals.proofs.Theorem.{demand-one}
 use Rattle.lock_refusals.proofs.Interpreter.{refused-carry-none}
 use Rattle.table_bytes.specs.Layout.{object-start}
@@ -47,34 +43,6 @@ use Rattle.lock_engine_c.proofs.FullTables.{read-full}
 use Rattle.event_bytes.specs.Answer.{set-unit, packed-of, returned-in}
 use Rattle.lock_engine_c.specs.Calls.{RefusedTo, outcome-answer, event-answer, event-bytes, left-bytes, RefusedLeaves, begun-on, ticked-on}
 use Rattle.lock_engine_c.specs.Calls.{stepped-on, answer-changes, reply-changes, event-number, event-turn, store-turn, event-over}
-
--- a begin that is refused leaves the table
-begin-leaves : (table : Table) (thread operation object limit : ℕ) → let outcome = begin table thread operation object limit in
-    11 ≤ returned outcome → outcome .table ≡ table
-unfolding handle handle-trusting gate-turn open-turn reply-returned
-begin-leaves table thread operation object limit =
-    at (gate (trusted table (sound-of table)) (table .threadcount) (table .objectcount) (Begin operation thread object limit)
-    (thread-status (thread-at table thread .phase)))
-  where
-    at : (gated : Gate)
-        → let home = object-at table object in
-        let outcome = outcome-of table thread object (gate-turn gated (Begin operation thread object limit) (thread-at table thread) home (waiters-of table home)) in
-        11 ≤ returned outcome → outcome .table ≡ table
-    at Open high = absurd (omega (arith, high))
-    at (Shut refusal) high = ap (λ (outcome : Outcome). outcome .table) (refused-stays table thread object refusal)
-
--- and so does a tick
-tick-leaves : (table : Table) → let outcome = tick-event table in 11 ≤ returned outcome → outcome .table ≡ table
-unfolding handle handle-trusting gate-turn open-turn reply-returned
-tick-leaves table =
-    at (gate (trusted table (sound-of table)) (table .threadcount) (table .objectcount) Tick (thread-status (thread-at table 1 .phase)))
-  where
-    at : (gated : Gate)
-        → let home = object-at table 1 in
-        let outcome = outcome-of table 1 1 (gate-turn gated Tick (thread-at table 1) home (waiters-of table home)) in
-        11 ≤ returned outcome → outcome .table ≡ table
-    at Open high = absurd (omega (arith, high))
-    at (Shut refusal) high = ap (λ (outcome : Outcome). outcome .table) (refused-stays table 1 1 refusal)
 
 abbrev DepthFits : ObjectRecord → Type 0
 DepthFits object = object .monitor .depth ≤ depth-limit
@@ -125,7 +93,13 @@ unchanged-number (Answered NoRule) same = (omega arith, refl)
 pub unchanged-same : (table : Table) → WellTyped table → (event : Event) → reply-changes (handle table event .reply) ≡ false → handle table event .table ≡ table
 unchanged-same table typed event unchanged =
     let (refused, ordinary) = unchanged-number (handle table event .reply) unchanged in
-    rw ordinary at (demand-one table typed event .1 refused)
+    at event ordinary (demand-one table typed event .1 refused)
+  where
+    at : (kind : Event) → let outcome = handle table event in
+        either (eqb (returned outcome) 18) (eqb (returned outcome) 19) ≡ false → outcome .table ≡ left-by (returned outcome) table kind → outcome .table ≡ table
+    at (Begin operation thread object limit) ordinary same = same
+    at (Step thread) ordinary same = rw ordinary at same
+    at Tick ordinary same = same
 
 number-small : (reply : Reply) → reply-returned reply < 256
 unfolding reply-returned
@@ -168,8 +142,8 @@ module _ (bytes : List ℕ) (small : AreBytes bytes) where
   abbrev table : Table
   table = table-of bytes
 
-  left : (event : Event) → let outcome = handle table event in 11 ≤ returned outcome → outcome .table ≡ left-by (returned outcome) table (event-thread event)
-  left event refused = demand-one table (read-well-typed bytes small) event .1 refused
+  left : (event : Event) → Leaves table event (handle table event)
+  left event = demand-one table (read-well-typed bytes small) event .1
 
   -- what the code writes is what the contract says
   turn-stored : is-table bytes ≡ true → (event : Event)
@@ -190,18 +164,20 @@ module _ (bytes : List ℕ) (small : AreBytes bytes) where
   pub event-stored : (event : Event) → event-over (is-table bytes) bytes table event ≡ event-bytes (is-table bytes) bytes (handle table event)
   event-stored event = split (is-table bytes) (λ known. rw known (turn-stored known event)) (λ unknown. rw unknown refl)
 
-  pub refused-left : (event : Event) → let outcome = handle table event in
+  pub refused-left : (thread : ℕ) → let outcome = handle table (Step thread) in
       11 ≤ returned-in (event-answer (is-table bytes) outcome)
-      → event-bytes (is-table bytes) bytes outcome ≡ left-bytes (returned-in (event-answer (is-table bytes) outcome)) bytes (event-thread event)
+      → event-bytes (is-table bytes) bytes outcome ≡ left-bytes (returned-in (event-answer (is-table bytes) outcome)) bytes thread
   unfolding refusal-number
-  refused-left event =
-      let outcome = handle table event in
-      split (is-table bytes) (λ known. rw known (rw (outcome-number outcome) (λ refused. ap bytes-of (left event refused) ∙ kinds known (returned outcome)))) (λ unknown. rw unknown (λ refused. refl))
+  refused-left thread =
+      let outcome = handle table (Step thread) in
+      split (is-table bytes)
+      (λ known. rw known (rw (outcome-number outcome) (λ refused. ap bytes-of (left (Step thread) refused) ∙ kinds known (returned outcome))))
+      (λ unknown. rw unknown (λ refused. refl))
     where
-      kinds : is-table bytes ≡ true → (number : ℕ) → bytes-of (left-by number table (event-thread event)) ≡ left-bytes number bytes (event-thread event)
+      kinds : is-table bytes ≡ true → (number : ℕ) → bytes-of (left-by number table (Step thread)) ≡ left-bytes number bytes thread
       kinds known number =
           split (either (eqb number 18) (eqb number 19))
-          (λ ends. rw ends (sym (thread-written bytes table (sym (bytes-back bytes small known)) (event-thread event) (read-full bytes .threads) (idle (thread-at table (event-thread event))))))
+          (λ ends. rw ends (sym (thread-written bytes table (sym (bytes-back bytes small known)) thread (read-full bytes .threads) (idle (thread-at table thread)))))
           (λ other. rw other (bytes-back bytes small known))
 
   -- the answer of a refused event carries no set
@@ -239,7 +215,7 @@ module _ (bytes : List ℕ) (small : AreBytes bytes) where
       let written : after ≡ event-bytes (is-table bytes) bytes outcome =
       stores ∙ event-stored (Begin (narrow-of operation) (narrow-of thread) (narrow-of object) limit) ∙ ap (event-bytes (is-table bytes) bytes) same in (
         written,
-        both-so (rw (answered, written) (left-whole outcome (begin-leaves table thread operation object limit)))
+        both-so (rw (answered, written) (left-whole outcome (left (Begin operation thread object limit))))
             (rw answers (refused-alone (Begin (narrow-of operation) (narrow-of thread) (narrow-of object) limit))),
       )
 
@@ -252,7 +228,7 @@ module _ (bytes : List ℕ) (small : AreBytes bytes) where
       let answered : answer ≡ event-answer (is-table bytes) outcome = answers ∙ ap (event-answer (is-table bytes)) same in
       let written : after ≡ event-bytes (is-table bytes) bytes outcome =
       stores ∙ event-stored (Step (narrow-of thread)) ∙ ap (event-bytes (is-table bytes) bytes) same in
-      (written, both-so (rw (answered, written) (refused-left (Step thread))) (rw answers (refused-alone (Step (narrow-of thread)))))
+      (written, both-so (rw (answered, written) (refused-left thread)) (rw answers (refused-alone (Step (narrow-of thread)))))
 
   pub tick-promised : (answer : ℕ) (after : List ℕ) → let outcome = ticked-on bytes in
       answer ≡ event-answer (is-table bytes) outcome → after ≡ event-over (is-table bytes) bytes table Tick
@@ -260,4 +236,4 @@ module _ (bytes : List ℕ) (small : AreBytes bytes) where
   tick-promised answer after answers stores =
       let outcome = ticked-on bytes in
       let written : after ≡ event-bytes (is-table bytes) bytes outcome = stores ∙ event-stored Tick in
-      (written, both-so (rw (answers, written) (left-whole outcome (tick-leaves table))) (rw answers (refused-alone Tick)))
+      (written, both-so (rw (answers, written) (left-whole outcome (left Tick))) (rw answers (refused-alone Tick)))

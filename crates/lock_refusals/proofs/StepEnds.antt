@@ -29,7 +29,9 @@ use Rattle.lock_table.specs.declared.phase.Phase.{Phase}
 use Rattle.lock_table.specs.declared.phase.Phase.the-variants.{Look, Cancel, GoIn, Inflate, GiveUp, Resume}
 use Rattle.lock_table.specs.declared.record.{Monitor.Monitor, ObjectRecord.ObjectRecord, Table.Table}
 use Rattle.lock_perform.specs.{State.doing-activity, State.wait-activity, Sight.sight-at}
-use Rattle.lock_refusals.specs.Refusals.{Row, row, first-applies, not-the-owner, too-deep, unruled}
+use Rattle.lock_refusals.specs.Rows.{Row, row}
+use Rattle.lock_refusals.specs.Refusals.{not-the-owner, too-deep, unruled}
+use Rattle.lock_refusals.proofs.Rows.{first-applies}
 use Rattle.lock_refusals.proofs.RuleEnds.{Ends, Ordinary, ordinary-ends, either-ordinary, owner-ends, go-in-ends}
 
 -- a step's refusals by its rule, of a thread with this operation and phase; `none` says that no rule fits

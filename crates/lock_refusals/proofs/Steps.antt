@@ -11,7 +11,7 @@ use Rattle.lock_word.specs.Read.{read-word}
 use Rattle.lock_word.specs.declared.reading.Decoded.{Decoded}
 use Rattle.lock_word.specs.declared.reading.Decoded.the-variants.{Valid, Invalid}
 use Rattle.lock_rules.specs.{Numbers.refusal-number, Rules.decide}
-use Rattle.lock_rules.specs.Gate.{is-idle, is-parked, gate-rows, gate, event-thread, event-object}
+use Rattle.lock_rules.specs.Gate.{is-idle, is-parked, gate, event-thread, event-object}
 use Rattle.lock_rules.specs.declared.event.{Event.Event, Gate.Gate}
 use Rattle.lock_rules.specs.declared.event.Event.the-variants.{Begin, Step, Tick}
 use Rattle.lock_rules.specs.declared.event.ThreadStatus.the-variants.{Ready}
@@ -40,8 +40,9 @@ use Rattle.lock_engine.proofs.Narrow.{sizes}
 use Rattle.lock_records.proofs.ReadBack.{IsWritten, state-back}
 use Rattle.lock_records.proofs.EveryNumber.{written-at}
 use Rattle.lock_schedule.proofs.EngineKind.{status-read, home-inside}
-use Rattle.lock_refusals.specs.Refusals.{first-applies, no-rule-seeing, no-rule, rule-rows, refusals}
-use Rattle.lock_refusals.proofs.Rows.{by-gate-number, first-gated}
+use Rattle.lock_refusals.specs.Refusals.{no-rule-seeing, no-rule, rule-rows, refusals}
+use Rattle.lock_refusals.proofs.Rows.{first-applies}
+use Rattle.lock_refusals.proofs.GateRows.{behind-gate, by-gate-number, first-by-gate}
 use Rattle.lock_refusals.proofs.StepEnds.{rule-refusals, decide-ends}
 use Rattle.lock_refusals.proofs.Ended.{Ended, refuse-ended, action-ended}
 
@@ -63,7 +64,7 @@ module _ (table : Table) (typed : WellTyped table) (sound : sound-of table ≡ t
   word-ended : (doing : Doing) (decoded : Decoded) → WordFits (table .threadcount) home decoded
       → let written = doing-activity thread home doing in
       let object = object-at table home in
-      Ended table thread (outcome-of table thread home (word-turn thread own object (waiters-of table object) doing decoded))
+      Ended table (Step thread) (outcome-of table thread home (word-turn thread own object (waiters-of table object) doing decoded))
       (first-applies
       (rule-refusals thread (operation-number (written .operation)) (phase-number (written .phase)) (ownership-in decoded (object .monitor) .thread)
       (object .monitor) (no-rule-seeing table thread object doing decoded)))
@@ -76,7 +77,7 @@ module _ (table : Table) (typed : WellTyped table) (sound : sound-of table ≡ t
   -- its record is the state that it is read as, written
   ready-ended : (state : ThreadState) → read-thread own ≡ state → status-of state ≡ Ready
       → let object = object-at table home in
-      Ended table thread
+      Ended table (Step thread)
       (outcome-of table thread home
       (pick (within 1 object-limit home) (state-turn thread own object (waiters-of table object) state) (refused own object NotSound)))
       (from-rule (activity own) state)
@@ -88,7 +89,7 @@ module _ (table : Table) (typed : WellTyped table) (sound : sound-of table ≡ t
       let written : activity own ≡ doing-activity thread home doing = ap activity (read .written) ∙ ap (write-activity thread home) back in
       let (low, high) = read .home (rw back tt) in
       rw (home-inside table sound thread (rw is tt))
-      (subst (λ (shape : Activity). Ended table thread
+      (subst (λ (shape : Activity). Ended table (Step thread)
       (outcome-of table thread home
       (word-turn thread own (object-at table home) (waiters-of table (object-at table home)) doing (read-word (object-at table home .word))))
       (from-rule shape (Running doing))) (sym written)
@@ -99,7 +100,7 @@ module _ (table : Table) (typed : WellTyped table) (sound : sound-of table ≡ t
 
   step-ended : thread-status (own .phase) ≡ Ready
       → let object = object-at table home in
-      Ended table thread (outcome-of table thread home (step-turn thread own object (waiters-of table object))) (first-applies (rule-rows table (Step thread)))
+      Ended table (Step thread) (outcome-of table thread home (step-turn thread own object (waiters-of table object))) (first-applies (rule-rows table thread))
   unfolding step-turn
   step-ended ready = ready-ended (read-thread own) refl (sym (status-read table sound thread) ∙ ready)
 
@@ -110,8 +111,8 @@ module _ (table : Table) (typed : WellTyped table) where
       → let own = thread-at table (event-thread event) in
       let number = event-object event (own .object) in
       let object = object-at table number in
-      Ended table (event-thread event) (outcome-of table (event-thread event) number (open-turn event own object (waiters-of table object)))
-      (first-applies (rule-rows table event))
+      Ended table event (outcome-of table (event-thread event) number (open-turn event own object (waiters-of table object)))
+      (first-applies (behind-gate table event))
   unfolding open-turn reply-returned
   open-ended sound (Begin operation thread object limit) passed = record { refused = refl; left = λ high. absurd (omega (arith, high)); nobody = λ high. absurd (omega (arith, high)) }
   open-ended sound (Step thread) (low, high, ready) = step-ended table typed sound thread (λ none. omega (arith, none, low)) ready
@@ -119,9 +120,9 @@ module _ (table : Table) (typed : WellTyped table) where
 
   -- on a sound table
   sound-ended : sound-of table ≡ true → (event : Event)
-      → Ended table (event-thread event) (handle-trusting table event true)
+      → Ended table event (handle-trusting table event true)
       (by-gate-number (gate true (table .threadcount) (table .objectcount) event (thread-status (thread-at table (event-thread event) .phase)))
-      (first-applies (rule-rows table event)))
+      (first-applies (behind-gate table event)))
   unfolding handle-trusting gate-turn
   sound-ended sound event =
       let own = thread-at table (event-thread event) in
@@ -129,18 +130,17 @@ module _ (table : Table) (typed : WellTyped table) where
       let object = object-at table number in
       rw (le-leb (table .threadcount) thread-limit (sizes table sound .0))
       (by-gate true (table .threadcount) (table .objectcount)
-      (λ (gated : Gate). Ended table (event-thread event) (outcome-of table (event-thread event) number (gate-turn gated event own object (waiters-of table object)))
-      (by-gate-number gated (first-applies (rule-rows table event))))
+      (λ (gated : Gate). Ended table event (outcome-of table (event-thread event) number (gate-turn gated event own object (waiters-of table object)))
+      (by-gate-number gated (first-applies (behind-gate table event))))
       (λ unsound. false≢true (sym unsound))
-      (λ refusal is high. subst (λ (outcome : Outcome). Ended table (event-thread event) outcome (refusal-number refusal))
-      (sym (refused-stays table (event-thread event) number refusal)) (refuse-ended table (event-thread event) refusal))
+      (λ refusal is high. subst (λ (outcome : Outcome). Ended table event outcome (refusal-number refusal))
+      (sym (refused-stays table (event-thread event) number refusal)) (refuse-ended table event refusal))
       event (thread-status (own .phase)) (λ is. open-ended sound event))
 
   -- and on any other, where 11 comes first
-  pub event-ended : (event : Event) → Ended table (event-thread event) (handle table event) (first-applies (refusals table event))
+  pub event-ended : (event : Event) → Ended table event (handle table event) (first-applies (refusals table event))
   unfolding handle
   event-ended event =
-      let status = thread-status (thread-at table (event-thread event) .phase) in
-      rw (first-gated (gate-rows (sound-of table) (table .threadcount) (table .objectcount) event status) (rule-rows table event))
+      rw (first-by-gate table event)
       (split (sound-of table) (λ sound. rw sound (sound-ended sound event))
-      (λ unsound. rw (unsound, handle-shut table event false NotSound refl) (refuse-ended table (event-thread event) NotSound)))
+      (λ unsound. rw (unsound, handle-shut table event false NotSound refl) (refuse-ended table event NotSound)))
