@@ -2,7 +2,7 @@
  * what each number, phase and word means and which tables are sound.
  *
  * Link liblock_engine_c.a, which `rt staticlib lock_engine_c` writes to target/staticlib, or install it as libduskclamp.a by `make install`.
- * Of other libraries it needs memcpy and memset alone. It is built for x86-64.
+ * Of other libraries it needs memcpy and memset alone. It is built for x86-64. This header is C99, and C++11.
  *
  * A table is DUSKCLAMP_TABLE_SIZE bytes, which the caller owns, keeps and may copy. No call keeps a pointer, allocates, or blocks. Two calls on
  * one table at the same time are a data race, as on any other memory: the caller sees to it that there is one at a time.
@@ -188,8 +188,19 @@ typedef struct duskclamp_event {
  * room for `answers_length` answers; neither overlaps the table or the other. As many events are run as there are whole ones and as there is room for, and
  * that number is given back; no other answer is written. A refused event does not end the run.
  * The table is read, tested for soundness and written back once, not for each event: a sound table stays sound, and one that is not stays as it is. If
- * no event changes it, nothing is stored in it. */
+ * all events are refused with other numbers than 18 and 19, nothing is stored in it. An accepted tick writes it back also where nobody waits. */
 size_t duskclamp_run(uint8_t *bytes, size_t length, const uint8_t *events, size_t events_length, uint64_t *answers, size_t answers_length);
+
+/* The same for an array of `count` events, with room for as many answers. An event lies in memory as its eight bytes do, which the array type tests: it
+ * has a negative length if a compiler lays the struct out in another way. */
+typedef char duskclamp_event_is_its_bytes[sizeof(duskclamp_event) == DUSKCLAMP_EVENT_SIZE && offsetof(duskclamp_event, thread) == 1
+                                                  && offsetof(duskclamp_event, operation) == 2 && offsetof(duskclamp_event, object) == 3
+                                                  && offsetof(duskclamp_event, limit) == 4
+                                              ? 1
+                                              : -1];
+static inline size_t duskclamp_run_events(uint8_t *bytes, size_t length, const duskclamp_event *events, size_t count, uint64_t *answers) {
+    return duskclamp_run(bytes, length, (const uint8_t *)events, count * DUSKCLAMP_EVENT_SIZE, answers, count);
+}
 
 /* A thread's script, twelve bytes: `length` operations of those that are lent, from operation `start` on, which is counted from 0. `cursor` of them have
  * been begun; at `length` the thread is at its script's end. */
@@ -257,10 +268,10 @@ uint64_t duskclamp_next(const uint8_t *bytes, size_t length, uint32_t thread);
 /* The ticks that a timed wait has left. They fall only while it is in the waiting chain; 0 when it ran out, and for any other operation. */
 uint64_t duskclamp_ticks(const uint8_t *bytes, size_t length, uint32_t thread);
 
-/* Who keeps a thread that is parked for entry, in phase 5 or 8: the thread that owns its object by the lock word, where that is another; else the
- * monitor's holder, which is on its way in or out; else, and in any other phase, 0. DUSKCLAMP_IS_HOLDER tells the second from the first.
- * An owner does not keep an exit, though it is named here: in a table that began as a fresh one a parked exit waits for duskclamp_holder of its object
- * alone, which is another thread, not parked and at depth 0, and whose operation is on that object. */
+/* Who keeps a thread that is parked for entry, in phase 5 or 8, which is always another: of an exit the monitor's holder; of any other operation the
+ * thread that owns its object by the lock word, or, where nobody else does, the holder, which is on its way in or out. 0 for nobody, and in any other
+ * phase. DUSKCLAMP_IS_HOLDER tells a holder from an owner. In a table that began as a fresh one the holder that an exit waits for is not parked and at
+ * depth 0, and its operation is on that object. */
 uint64_t duskclamp_blocker(const uint8_t *bytes, size_t length, uint32_t thread);
 #define DUSKCLAMP_BLOCKER(answer) (DUSKCLAMP_VALUE(answer) & 0xffff)
 #define DUSKCLAMP_IS_HOLDER(answer) ((DUSKCLAMP_VALUE(answer) >> 16) & 1)

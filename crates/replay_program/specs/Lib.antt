@@ -1,2 +1,3 @@
 -- What the program's functions promise of the values that they pass on.
 pub mod Run
+pub mod Messages

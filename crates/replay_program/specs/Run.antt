@@ -3,6 +3,7 @@ use Prim.Native.Nat.{ℕ, _+_, _≤_}
 use mathlib.Core.Path.{_≡_}
 use mathlib.Core.Bool.{Bool, true, false}
 use mathlib.Core.List.{List, []}
+use lib.IntN.{ℤ, pos, negsuc}
 use lib.ListN.{length, take, drop}
 use Rattle.replay_text.specs.Bytes.{digit-zero}
 use Rattle.replay_parts.specs.Replay.{rest-output}
@@ -16,6 +17,22 @@ use Rattle.replay_program.specs.declared.running.Drained.{Drained}
 use Rattle.replay_program.specs.declared.running.Held.{Held}
 use Rattle.replay_program.specs.declared.moving.Moved.{Moved}
 use Rattle.replay_program.specs.declared.running.Ran.{Ran}
+use Rattle.replay_program.specs.declared.Told.{Told}
+
+-- a call of C's that moved something, or nothing at the input's end, is not tried again
+abbrev pub OnlyFailed : ℤ → Bool → Type 0
+OnlyFailed (pos moved) again = again ≡ false
+OnlyFailed (negsuc error) again = Unit {0}
+
+-- one read or write of up to `most` bytes: where it failed it moved none
+pub record Moves (most : ℕ) (r : Moved) : Type 0 where
+  pub within : r .count ≤ most
+  pub none-failed : r .failed ≡ true → r .count ≡ 0
+
+-- writes one behind the other: where none failed they took all of the bytes
+pub record WritesAll (all : ℕ) (r : Moved) : Type 0 where
+  pub within : r .count ≤ all
+  pub whole : r .failed ≡ false → r .count ≡ all
 
 -- a stream passed the input on up to `rest`, and there is something that it printed on the way
 abbrev pub PassedOn : Stream → Bool → List ℕ → Stream → List ℕ → Type 0
@@ -68,3 +85,9 @@ status-of WriteFailed = 5
 -- its digit
 unfoldable pub ending-byte : Ending → ℕ
 ending-byte ending = digit-zero + status-of ending
+
+-- a run as the program's loop makes one, on some buffer, and the byte that tells how it ended
+pub record Tells (reporting : Bool) (r : Told) : Type 0 where
+  pub buffer : List ℕ
+  pub runs : Runs reporting buffer (r .ran)
+  pub byte : r .byte ≡ ending-byte (r .ran .ending)

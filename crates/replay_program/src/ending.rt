@@ -25,15 +25,19 @@ fn ending_byte(ending: Ending) -> u8
     }
 }
 
-// Tells how the run ended; tried again where it was interrupted. Where descriptor 3 is not open nobody asks, and the write fails.
-pub(crate) fn tell(ending: Ending) {
-    let told = [ending_byte(ending)];
+// Tells how the run ended, and gives back the byte that it handed to the write; tried again where it was interrupted. Where descriptor 3 is not open
+// nobody asks, and the write fails.
+pub(crate) fn tell(ending: Ending) -> u8
+    ensures { λ r. ⌜ r ≡ ending-byte ending ⌝ }
+{
+    let told = ending_byte(ending);
     let mut turns = u64::MAX;
     while 0 < turns {
         turns = turns - 1;
-        let got = libc::write(ENDING_FILENO, &told);
+        let got = libc::write(ENDING_FILENO, &[told]);
         if !interrupted(got) {
-            return;
+            return told;
         }
     }
+    told
 }

@@ -5,11 +5,26 @@ mod ending;
 mod moving;
 mod running;
 
+use running::Ran;
+ghost use Rattle.replay_program.specs.Run.{Tells};
+
+// How a run went, and the byte that told descriptor 3 of it.
+pub struct Told {
+    pub ran: Ran,
+    pub byte: u8,
+}
+
 // Runs the report or the replay, and tells how it ended.
-pub fn run_program(reporting: bool) {
+pub fn run_program(reporting: bool) -> Told
+    ensures { λ r. ⌜ Tells reporting r ⌝ }
+{
     let mut buffer = io::large_buffer();
     let mut out = io::large_buffer();
     let ran = running::run(reporting, &mut buffer, &mut out);
     let ending = ran.ending;
-    ending::tell(ending);
+    let byte = ending::tell(ending);
+    Told {
+        ran: ran,
+        byte: byte,
+    }
 }

@@ -1,7 +1,9 @@
 // Reads from standard input and writes to standard output, tried again where they were interrupted.
 ghost use Prim.Native.Nat.{_≤_};
+ghost use mathlib.Core.Path.{_≡_};
 ghost use lib.ListN.{length};
-ghost use Rattle.replay_program.specs.Run.{ReadBehind};
+ghost use Rattle.replay_program.specs.Run.{OnlyFailed, Moves, WritesAll, ReadBehind};
+ghost use Rattle.replay_program.specs.Messages.{output-name, input-name};
 use libc::STDERR_FILENO;
 use libc::STDIN_FILENO;
 use libc::STDOUT_FILENO;
@@ -13,47 +15,37 @@ pub struct Moved {
 }
 
 // Whether a read or a write that answered `got` is to be tried again.
-pub(crate) fn interrupted(got: isize) -> bool {
+pub(crate) fn interrupted(got: isize) -> bool
+    ensures { λ r. ⌜ OnlyFailed got r ⌝ }
+{
     if got < 0 {
         return os::errno() == libc::EINTR;
     }
     false
 }
 
-// What is said where a read or a write failed, in the program's name.
-fn failed_output(reporting: bool) {
+// What a failure is named by on standard error, in the program's name.
+fn output_name(reporting: bool) -> [u8; 23]
+    ensures { λ r. ⌜ r ≡ output-name reporting ⌝ }
+{
     if reporting {
-        os::fail(b"report: standard output");
-        return;
+        return *b"report: standard output";
     }
-    os::fail(b"replay: standard output");
+    *b"replay: standard output"
 }
 
-fn empty_output(reporting: bool) {
+fn input_name(reporting: bool) -> [u8; 22]
+    ensures { λ r. ⌜ r ≡ input-name reporting ⌝ }
+{
     if reporting {
-        io::write_all(
-            STDERR_FILENO,
-            b"report: standard output: nothing was written\n",
-        );
-        return;
+        return *b"report: standard input";
     }
-    io::write_all(
-        STDERR_FILENO,
-        b"replay: standard output: nothing was written\n",
-    );
-}
-
-fn failed_input(reporting: bool) {
-    if reporting {
-        os::fail(b"report: standard input");
-        return;
-    }
-    os::fail(b"replay: standard input");
+    *b"replay: standard input"
 }
 
 // One write to standard output: the only one in a program. It is no failure where it was interrupted.
 fn write_once(reporting: bool, bytes: &[u8]) -> Moved
-    ensures { λ r. ⌜ r .count ≤ length (now (bytes .entry)) ⌝ }
+    ensures { λ r. ⌜ Moves (length (now (bytes .entry))) r ⌝ }
 {
     let got = libc::write(STDOUT_FILENO, bytes);
     let again = interrupted(got);
@@ -64,10 +56,12 @@ fn write_once(reporting: bool, bytes: &[u8]) -> Moved
             failed: false,
         };
     }
+    let name = output_name(reporting);
     if got < 0 {
-        failed_output(reporting);
+        os::fail(&name);
     } else if count == 0 {
-        empty_output(reporting);
+        io::write_all(STDERR_FILENO, &name);
+        io::write_all(STDERR_FILENO, b": nothing was written\n");
     }
     Moved {
         count: count,
@@ -75,32 +69,43 @@ fn write_once(reporting: bool, bytes: &[u8]) -> Moved
     }
 }
 
-// Writes all of the bytes, or stops at the first write that fails; whether one failed.
-pub(crate) fn write_out(reporting: bool, bytes: &[u8]) -> bool {
+// Writes all of the bytes, or stops at the first write that fails: how many the writes took.
+pub(crate) fn write_out(reporting: bool, bytes: &[u8]) -> Moved
+    ensures { λ r. ⌜ WritesAll (length (now (bytes .entry))) r ⌝ }
+{
     let mut rest = bytes;
     let mut turns = u64::MAX;
     while 0 < rest.len() {
         if turns == 0 {
-            return true;
+            return Moved {
+                count: bytes.len() - rest.len(),
+                failed: true,
+            };
         }
         turns = turns - 1;
         let wrote = write_once(reporting, rest);
         let count = wrote.count;
         let failed = wrote.failed;
         if failed {
-            return true;
+            return Moved {
+                count: bytes.len() - rest.len(),
+                failed: true,
+            };
         }
         rest = &rest[count..];
     }
-    false
+    Moved {
+        count: bytes.len(),
+        failed: false,
+    }
 }
 
 // What a read that was not interrupted has moved. At the end of the input that is nothing.
 fn arrived(reporting: bool, got: isize, buffer: &[u8]) -> Moved
-    ensures { λ r. ⌜ r .count ≤ length (now (buffer .entry)) ⌝ }
+    ensures { λ r. ⌜ Moves (length (now (buffer .entry))) r ⌝ }
 {
     if got < 0 {
-        failed_input(reporting);
+        os::fail(&input_name(reporting));
         return Moved {
             count: 0,
             failed: true,
@@ -114,7 +119,7 @@ fn arrived(reporting: bool, got: isize, buffer: &[u8]) -> Moved
 
 // One read, tried again where it was interrupted.
 fn read_once(reporting: bool, buffer: &mut [u8]) -> Moved
-    ensures { λ r. ⌜ r .count ≤ length (now (buffer .exit)) ⌝ }
+    ensures { λ r. ⌜ Moves (length (now (buffer .exit))) r ⌝ }
 {
     let mut turns = u64::MAX;
     while 0 < turns {

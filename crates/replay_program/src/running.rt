@@ -43,7 +43,8 @@ fn drain(reporting: bool, start: Stream, input: &[u8], last: bool, out: &mut [u8
         let wrote = progress.wrote;
         let used = progress.used;
         stream = progress.stream;
-        let failed = write_out(reporting, &out[..wrote]);
+        let written = write_out(reporting, &out[..wrote]);
+        let failed = written.failed;
         rest = &rest[used..];
         if failed {
             return Drained {

@@ -43,18 +43,25 @@ thread-count bytes = said-of (is-table bytes) true NotSound (table-of bytes .thr
 abbrev pub object-count : List ℕ → ℕ
 object-count bytes = said-of (is-table bytes) true NotSound (table-of bytes .objectcount)
 
--- who keeps a thread that is parked for entry, in phase 5 or 8: another thread that owns its object, else the monitor's holder, marked by bit 16
+-- who keeps a parked thread from going on, always another: the monitor's holder, marked by bit 16, or who owns the object
 abbrev pub holder-mark : ℕ
 holder-mark = 65536
 
-unfoldable pub holder-blocks : ℕ → ℕ
-holder-blocks holder = pick (eqb holder 0) 0 (holder + holder-mark)
+unfoldable pub holder-blocks : ℕ → ℕ → ℕ
+holder-blocks number holder = pick (eqb holder 0) 0 (pick (eqb holder number) 0 (holder + holder-mark))
 
 unfoldable pub owner-blocks : ℕ → ℕ → ℕ → ℕ
-owner-blocks number owner holder = pick (eqb owner 0) (holder-blocks holder) (pick (eqb owner number) (holder-blocks holder) owner)
+owner-blocks number owner holder =
+    pick (eqb owner 0) (holder-blocks number holder) (pick (eqb owner number) (holder-blocks number holder) owner)
 
-unfoldable pub blocker-of : ℕ → ℕ → ℕ → ℕ → ℕ
-blocker-of phase number owner holder = pick (eqb phase 5) (owner-blocks number owner holder) (pick (eqb phase 8) (owner-blocks number owner holder) 0)
+-- an exit waits for no owner
+unfoldable pub entry-blocks : ℕ → ℕ → ℕ → ℕ → ℕ
+entry-blocks operation number owner holder = pick (eqb operation 2) (holder-blocks number holder) (owner-blocks number owner holder)
+
+-- parked for entry is phase 5 or 8
+unfoldable pub blocker-of : ℕ → ℕ → ℕ → ℕ → ℕ → ℕ
+blocker-of operation phase number owner holder =
+    pick (eqb phase 5) (entry-blocks operation number owner holder) (pick (eqb phase 8) (entry-blocks operation number owner holder) 0)
 
 -- what is asked of a thread, by its number, its record, and the owner of its object and the holder of that object's monitor
 unfoldable pub thread-value : ThreadQuestion → ℕ → ThreadRecord → ℕ → ℕ → ℕ
@@ -66,7 +73,8 @@ thread-value KeptOf number thread owner holder = thread .kept
 thread-value SavedOf number thread owner holder = thread .saved
 thread-value TicksOf number thread owner holder = thread .ticks
 thread-value NextOf number thread owner holder = thread .next
-thread-value BlockerOf number thread owner holder = blocker-of (phase-number (thread .phase)) number owner holder
+thread-value BlockerOf number thread owner holder =
+    blocker-of (operation-number (thread .operation)) (phase-number (thread .phase)) number owner holder
 
 -- the kind of a lock word: free, flat, anonymous, reserved, fat, and no lock word, which only a table that is not sound has
 unfoldable pub kind-number : Decoded → ℕ

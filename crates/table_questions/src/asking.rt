@@ -22,7 +22,7 @@ use table_bytes::is_table;
 use table_bytes::read_table;
 ghost use mathlib.Core.Path.{_≡_};
 ghost use Rattle.table_bytes.specs.ObjectBytes.{flag-byte};
-ghost use Rattle.table_questions.specs.Questions.{said-of, holder-blocks, owner-blocks, blocker-of, thread-value, object-value};
+ghost use Rattle.table_questions.specs.Questions.{said-of, holder-blocks, owner-blocks, entry-blocks, blocker-of, thread-value, object-value};
 ghost use Rattle.table_questions.specs.Questions.{thread-in, object-in, ask-thread, ask-object, thread-count, object-count};
 ghost use Rattle.table_questions.specs.Questions.{kind-number, named-thread};
 
@@ -115,10 +115,14 @@ fn named_thread(decoded: Decoded) -> u32
     }
 }
 
-fn holder_blocks(holder: u8) -> u32
-    ensures { λ r. ⌜ r ≡ holder-blocks holder ⌝ }
+// On a sound table that no schedule reaches the holder may itself be parked for entry: it does not keep itself.
+fn holder_blocks(number: u8, holder: u8) -> u32
+    ensures { λ r. ⌜ r ≡ holder-blocks number holder ⌝ }
 {
     if holder == 0 {
+        return 0;
+    }
+    if holder == number {
         return 0;
     }
     (holder as u32) + HOLDER_MARK
@@ -129,22 +133,32 @@ fn owner_blocks(number: u8, owner: u16, holder: u8) -> u32
     ensures { λ r. ⌜ r ≡ owner-blocks number owner holder ⌝ }
 {
     if owner == 0 {
-        return holder_blocks(holder);
+        return holder_blocks(number, holder);
     }
     if owner == (number as u16) {
-        return holder_blocks(holder);
+        return holder_blocks(number, holder);
     }
     owner as u32
 }
 
-fn blocker(phase: u8, number: u8, owner: u16, holder: u8) -> u32
-    ensures { λ r. ⌜ r ≡ blocker-of phase number owner holder ⌝ }
+// An exit has given the object up, and goes in to tell a contender: whoever owns the object does not keep it.
+fn entry_blocks(operation: u8, number: u8, owner: u16, holder: u8) -> u32
+    ensures { λ r. ⌜ r ≡ entry-blocks operation number owner holder ⌝ }
+{
+    if operation == 2 {
+        return holder_blocks(number, holder);
+    }
+    owner_blocks(number, owner, holder)
+}
+
+fn blocker(operation: u8, phase: u8, number: u8, owner: u16, holder: u8) -> u32
+    ensures { λ r. ⌜ r ≡ blocker-of operation phase number owner holder ⌝ }
 {
     if phase == 5 {
-        return owner_blocks(number, owner, holder);
+        return entry_blocks(operation, number, owner, holder);
     }
     if phase == 8 {
-        return owner_blocks(number, owner, holder);
+        return entry_blocks(operation, number, owner, holder);
     }
     0
 }
@@ -169,7 +183,13 @@ fn thread_value(
         ThreadQuestion::SavedOf => thread.saved as u32,
         ThreadQuestion::TicksOf => thread.ticks as u32,
         ThreadQuestion::NextOf => thread.next as u32,
-        ThreadQuestion::BlockerOf => blocker(phase_number(phase), number, owner, holder),
+        ThreadQuestion::BlockerOf => blocker(
+            operation_number(operation),
+            phase_number(phase),
+            number,
+            owner,
+            holder,
+        ),
     }
 }
 

@@ -5,13 +5,14 @@ use Rattle.lock_rules.specs.Numbers.{refusal-number}
 use Rattle.lock_engine.specs.Outcome.{reply-returned}
 use Rattle.event_bytes.specs.Answer.{packed-of}
 use Rattle.dispatch_rules.specs.Dispatch.{dispatch-returned}
-use Rattle.table_questions.specs.Questions.{kind-number, named-thread}
+use Rattle.table_questions.specs.Questions.{kind-number, named-thread, holder-blocks, owner-blocks, entry-blocks, blocker-of}
 use Rattle.lock_engine_c.specs.Calls.{reply-changes}
 use Rattle.replay_session.specs.Session.{answer-from}
 use Rattle.worked_outcomes.specs.Outcomes.{OutcomeExamples}
 
 pub outcome-examples : OutcomeExamples
 unfolding refusal-number reply-returned packed-of reply-changes dispatch-returned answer-from kind-number named-thread read-word read-reserved
+    holder-blocks owner-blocks entry-blocks blocker-of
 outcome-examples =
     record {
       stored = refl;
@@ -22,6 +23,9 @@ outcome-examples =
       reserved-kind = refl;
       reserved-named = refl;
       no-lock-word = refl;
+      enter-kept = refl;
+      exit-kept = refl;
+      holder-kept = refl;
       printed = λ outcome thread object. refl;
       ticked = λ outcome. refl;
       tick-refused = λ outcome. refl;

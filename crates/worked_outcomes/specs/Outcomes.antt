@@ -1,4 +1,4 @@
--- Examples of what the library for C stores of a reply and says of a lock word, and of what the replay prints of an outcome.
+-- Examples of what the library for C stores of a reply and says of a lock word and of a parked thread, and of what the replay prints of an outcome.
 use Prim.Native.Nat.{ℕ}
 use mathlib.Core.Path.{_≡_}
 use mathlib.Core.Bool.{true, false}
@@ -12,7 +12,7 @@ use Rattle.lock_engine.specs.declared.outcome.Reply.the-variants.{Accepted, Ref
 use Rattle.event_bytes.specs.Answer.{packed-of}
 use Rattle.dispatch_rules.specs.declared.DispatchAnswer.the-variants.{Ended, QuantumOutOfRange}
 use Rattle.lock_table.specs.declared.record.Table.{Table}
-use Rattle.table_questions.specs.Questions.{kind-number, named-thread}
+use Rattle.table_questions.specs.Questions.{kind-number, named-thread, blocker-of}
 use Rattle.lock_engine_c.specs.Calls.{reply-changes}
 use Rattle.lock_engine_c.specs.Dispatch.{run-answer}
 use Rattle.replay_text.specs.declared.answer.Answer.the-variants.{Alone, Ticked}
@@ -35,6 +35,10 @@ pub record OutcomeExamples : Type 0 where
   pub reserved-kind : kind-number (read-word 0x000302) ≡ 3
   pub reserved-named : named-thread (read-word 0x000302) ≡ 3
   pub no-lock-word : kind-number (read-word 0x000003) ≡ 5
+  -- thread 1 is queued, thread 3 owns the object and thread 2 holds the monitor: the owner keeps an enter, the holder an exit; and nobody keeps itself
+  pub enter-kept : blocker-of 1 5 1 3 2 ≡ 3
+  pub exit-kept : blocker-of 2 5 1 3 2 ≡ 0x10002
+  pub holder-kept : blocker-of 1 5 1 0 1 ≡ 0
   -- the phase is that of the thread, the word that of the object, the set that of the outcome
   pub printed : (outcome : Outcome) (thread object : ℕ)
       → after-event outcome thread object .answer

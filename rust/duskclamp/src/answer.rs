@@ -180,8 +180,16 @@ impl fmt::Display for Refusal {
 
 impl core::error::Error for Refusal {}
 
-/// An event's answer, whether it committed its operation, and whom it unparked.
+/// An event's answer, whether it committed its operation, and whom it unparked. To drop one unseen is a warning:
+///
+/// ```compile_fail
+/// #![deny(unused_must_use)]
+/// fn step(table: &mut duskclamp::Table) {
+///     table.step(1);
+/// }
+/// ```
 #[derive(Clone, Copy, Debug, PartialEq, Eq, Hash)]
+#[must_use = "it says whether the event was refused, and whom to run again"]
 pub struct Outcome {
     /// What the event answered, or why it was refused.
     pub result: Result<Answer, Refusal>,

@@ -454,7 +454,7 @@ impl Table {
     }
 
     /// Who keeps the thread, where it is parked for entry, in phase 5 or 8. An exit there waits for the object's holder alone, though another thread may
-    /// own the object by then, and is named:
+    /// own the object by then:
     ///
     /// ```
     /// use duskclamp::{Answer, Blocker, Operation, Phase, Table, Words};
@@ -472,8 +472,8 @@ impl Table {
     /// assert_eq!(table.blocker(1), Ok(Some(Blocker::Holder(2))));
     /// table.begin(3, Operation::Enter, 1)?;
     /// assert_eq!(table.step(3).result, Ok(Answer::Finished { woken: 0 }));
-    /// assert_eq!(table.blocker(1), Ok(Some(Blocker::Owner(3))));
-    /// assert_eq!(table.object(1)?.holder, 2);
+    /// assert_eq!(table.owner(1), Ok(3));
+    /// assert_eq!(table.blocker(1), Ok(Some(Blocker::Holder(2))));
     ///
     /// // Thread 2 parks and hands the monitor to thread 1, which goes on while thread 3 owns the object.
     /// assert_eq!(table.step(2).result, Ok(Answer::Parked));
@@ -749,12 +749,12 @@ mod tests {
         wait_timed(&mut table, 2, 1, 3);
         table.begin(3, Operation::Enter, 1).unwrap();
         while table.step(3).result.unwrap() == Answer::GoneOn {}
-        table.tick().unwrap();
+        assert!(table.tick().unwrap().is_empty());
         assert!(table.chain(1, Chain::Entry).unwrap().eq([1]));
         assert!(table.chain(1, Chain::Waiting).unwrap().eq([2]));
         table.begin(3, Operation::NotifyAll, 1).unwrap();
         assert_eq!(table.step(3).result, Ok(Answer::Finished { woken: 1 }));
-        table.tick().unwrap();
+        assert!(table.tick().unwrap().is_empty());
         assert_eq!([1, 2].map(|thread| table.ticks(thread)), [Ok(0), Ok(2)]);
         for (thread, next, woken) in [(3, 1, 1), (1, 2, 0)] {
             table.begin(thread, Operation::Exit, 1).unwrap();

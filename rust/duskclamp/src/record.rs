@@ -65,12 +65,12 @@ impl Chain {
     pub const ALL: [Chain; 3] = [Chain::Entry, Chain::Contention, Chain::Waiting];
 }
 
-/// Who keeps a thread that is parked for entry. A parked exit waits for the holder alone, also where an owner is named: see [`Object::holder`].
+/// Who keeps a thread that is parked for entry; always another thread.
 #[derive(Clone, Copy, Debug, PartialEq, Eq, Hash)]
 pub enum Blocker {
     /// Another thread owns the object by its lock word.
     Owner(u32),
-    /// Nobody else owns it, and this thread holds the monitor, on its way in or out.
+    /// This thread holds the monitor, on its way in or out. Nobody else owns the object, or the parked thread is leaving it.
     Holder(u32),
 }
 

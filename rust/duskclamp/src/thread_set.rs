@@ -18,7 +18,18 @@ use core::iter::FusedIterator;
 /// queue.extend(set);
 /// assert_eq!(queue, [7, 1, 3, 32]);
 /// ```
+///
+/// To drop one unseen is a warning:
+///
+/// ```compile_fail
+/// #![deny(unused_must_use)]
+/// fn tick(table: &mut duskclamp::Table) -> Result<(), duskclamp::Refusal> {
+///     table.tick()?;
+///     Ok(())
+/// }
+/// ```
 #[derive(Clone, Copy, Default, PartialEq, Eq, Hash)]
+#[must_use = "the threads in it can run again"]
 pub struct ThreadSet {
     bits: u32,
 }

@@ -49,12 +49,11 @@ fn way<E: Engine>(run: &Run<E>, start: u32) -> Vec<u32> {
     way
 }
 
-/// The owner that a parked thread waits for. An exit waits for no owner.
+/// The owner that a parked thread waits for. An exit waits for none: whoever keeps it is the monitor's holder.
 fn waits_for<E: Engine>(run: &Run<E>, thread: u32) -> Option<u32> {
-    let record = run.state().thread(thread)?;
     match run.engine().blocker(thread)? {
-        Blocker::Owner(owner) if record.operation != Some(Operation::Exit) => Some(owner),
-        _ => None,
+        Blocker::Owner(owner) => Some(owner),
+        Blocker::Holder(_) => None,
     }
 }
 
@@ -116,7 +115,7 @@ fn doing<E: Engine>(run: &Run<E>, thread: &ThreadSeen) -> String {
     if !thread.phase.is_parked() {
         return format!("in {at}, next is {}", words::phase(thread.phase));
     }
-    let place = words::parked(thread, run.parked(thread.number), run.state());
+    let place = words::parked(thread, run.parked(thread.number));
     let left = match (operation, thread.phase) {
         (Operation::TimedWait, Phase::Waiting) => {
             format!(", with {} left", words::count(thread.ticks.into(), "tick"))

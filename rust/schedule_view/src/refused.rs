@@ -49,7 +49,7 @@ fn reason(refusal: Refusal, happened: &Happened, state: &State) -> String {
         Refusal::ThreadIdle => {
             format!("{who} is idle, so it has no step to take. It has to begin an operation first.")
         }
-        Refusal::ThreadParked => format!("{who} is parked, {}.", kept(happened, state)),
+        Refusal::ThreadParked => format!("{who} is parked, {}.", kept(happened)),
         Refusal::NotOwner => format!("{who} does not own {}", owned(happened, state)),
         Refusal::TooDeep => {
             let depth = happened.object.and_then(|object| state.object(object));
@@ -93,7 +93,7 @@ fn place(happened: &Happened) -> String {
     format!("in {at}, at {}", words::phase(phase))
 }
 
-fn kept(happened: &Happened, state: &State) -> String {
+fn kept(happened: &Happened) -> String {
     let Some(thread) = &happened.thread else {
         return String::new();
     };
@@ -101,10 +101,7 @@ fn kept(happened: &Happened, state: &State) -> String {
         .operation
         .map(|named| words::operation(named, thread.object));
     let at = at.unwrap_or_default();
-    format!(
-        "in {at}, in the {}",
-        words::parked(thread, happened.parked, state)
-    )
+    format!("in {at}, in the {}", words::parked(thread, happened.parked))
 }
 
 fn owned(happened: &Happened, state: &State) -> String {

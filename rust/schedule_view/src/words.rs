@@ -192,10 +192,7 @@ fn result(happened: &Happened, before: &ThreadSeen, state: &State) -> String {
         }
         Ok(Answer::Parked) => {
             let after = state.thread(before.number).unwrap_or(before);
-            format!(
-                " and parks in the {}.",
-                parked(after, happened.parked, state)
-            )
+            format!(" and parks in the {}.", parked(after, happened.parked))
         }
         _ => {
             let after = state.thread(before.number).unwrap_or(before);
@@ -233,29 +230,20 @@ fn finished(before: &ThreadSeen, woken: u8, state: &State) -> String {
 }
 
 /// Where a thread is parked, behind whom and kept by whom: "entry chain (5) behind thread 3, kept by thread 1, which owns the object".
-pub fn parked(thread: &ThreadSeen, parked: Option<Parked>, state: &State) -> String {
+pub fn parked(thread: &ThreadSeen, parked: Option<Parked>) -> String {
     let behind = match parked.and_then(|parked| parked.behind) {
         Some(other) => format!(" behind thread {other}"),
         None => String::new(),
     };
-    let kept = match keeper(thread, parked.and_then(|parked| parked.blocker), state) {
-        Some(keeper) => format!(", kept by {keeper}"),
+    let kept = match parked.and_then(|parked| parked.blocker) {
+        Some(Blocker::Owner(other)) => format!(", kept by thread {other}, which owns the object"),
+        Some(Blocker::Holder(other)) => {
+            format!(", kept by thread {other}, which holds the monitor")
+        }
         None => String::new(),
     };
     let (chain, number) = (chain(thread.phase), thread.phase.number());
     format!("{chain} ({number}){behind}{kept}")
-}
-
-/// Who keeps a parked thread. Of an exit the wrapper says that it waits for the holder alone, also where the answer names an owner.
-fn keeper(thread: &ThreadSeen, blocker: Option<Blocker>, state: &State) -> Option<String> {
-    let owner = |number: u32| format!("thread {number}, which owns the object");
-    let holder = |number: u32| format!("thread {number}, which holds the monitor");
-    let object = state.object(thread.object)?;
-    Some(match (thread.operation, blocker?) {
-        (Some(Operation::Exit), _) => holder(object.record.holder),
-        (_, Blocker::Owner(number)) => owner(number),
-        (_, Blocker::Holder(number)) => holder(number),
-    })
 }
 
 fn ticks(happened: &Happened) -> String {

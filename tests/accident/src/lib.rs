@@ -104,14 +104,14 @@ impl Engine for Second {
         if !record.phase.is_parked_for_entry() {
             return None;
         }
+        let other = |number: u32| number != 0 && number != thread;
+        let enters = record.operation != Some(Operation::Exit);
         let (owner, _) = self.table.owner(record.object);
-        match (
-            u32::from(owner),
-            self.table.object(record.object).monitor.holder,
-        ) {
-            (owner, _) if owner != 0 && owner != thread => Some(Blocker::Owner(owner)),
-            (_, 0) => None,
-            (_, holder) => Some(Blocker::Holder(holder.into())),
+        let holder = self.table.object(record.object).monitor.holder;
+        match (owner.into(), holder.into()) {
+            (owner, _) if enters && other(owner) => Some(Blocker::Owner(owner)),
+            (_, holder) if other(holder) => Some(Blocker::Holder(holder)),
+            _ => None,
         }
     }
 }

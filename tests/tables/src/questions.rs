@@ -172,14 +172,17 @@ fn ownership(object: &ObjectRecord) -> (u32, u32) {
     }
 }
 
-/// Who keeps a thread that is parked for entry: another that owns the object, else the monitor's holder, marked by bit 16.
+/// Who keeps a thread that is parked for entry, always another: who owns the object, unless the thread leaves it; else the monitor's holder, marked by
+/// bit 16.
 fn blocker(number: u32, record: &ThreadRecord, object: &ObjectRecord) -> u32 {
+    let other = |thread: u32| thread != 0 && thread != number;
     if !record.phase.is_parked_for_entry() {
         return 0;
     }
-    match (ownership(object).0, object.monitor.holder) {
-        (owner, _) if owner != 0 && owner != number => owner,
-        (_, 0) => 0,
-        (_, holder) => u32::from(holder) + (1 << 16),
+    let enters = record.operation != Some(Operation::Exit);
+    match (ownership(object).0, object.monitor.holder.into()) {
+        (owner, _) if enters && other(owner) => owner,
+        (_, holder) if other(holder) => holder + (1 << 16),
+        _ => 0,
     }
 }

@@ -1,7 +1,9 @@
 //! Cases on the proved engine, through its library: tables that are sound and tables that break one clause of document 01's "Sound means" or of request
-//! L1's, the cases K1 to K9, ticks, request L2's exits, and whom events unpark. What is expected is written here, and not asked of the second engine.
+//! L1's, the cases K1 to K9, ticks, request L2's exits, whom events unpark, and who keeps a thread. What is expected is written here, and not asked of the second engine.
 
-use duskclamp::{Answer, Chain, Operation as Wanted, Refusal, Table as Engine, ThreadSet, Words};
+use duskclamp::{
+    Answer, Blocker, Chain, Operation as Wanted, Refusal, Table as Engine, ThreadSet, Words,
+};
 use reference::table::{Monitor, ObjectRecord, Onward, Operation, Phase, Table, ThreadRecord};
 use tables::layout::{encode, TABLE_SIZE, THREADS_START};
 
@@ -589,4 +591,32 @@ fn the_first_and_the_last_bit() {
     table.object_records[1].monitor.waiting = 1;
     let unparked = engine(&table).tick();
     assert_eq!(unparked, Ok(ThreadSet::from_bits(0x8000_0001)));
+}
+
+/// Who keeps thread 2, which is first in the entry chain of object 1, with this record; the table is sound.
+fn keeper(record: ThreadRecord, depth: u16, holder: u8) -> Option<Blocker> {
+    let table = monitored(with_thread(fresh(), 2, record), depth, holder, [2, 0, 0]);
+    assert!(is_sound(&table));
+    engine(&table).blocker(2).unwrap()
+}
+
+/// Thread 1 owns the object. It keeps whoever wants to enter; an exit has left, and waits for the monitor.
+#[test]
+fn an_owner_keeps_no_exit() {
+    let entering = at(ENTER, Phase::Queued(Onward::Check));
+    let leaving = at(EXIT, Phase::Queued(Onward::Tell));
+    assert_eq!(keeper(entering, 1, 1), Some(Blocker::Owner(1)));
+    assert_eq!(keeper(leaving, 1, 1), Some(Blocker::Holder(1)));
+}
+
+/// No schedule leads to a table whose holder is queued for what it holds.
+#[test]
+fn nobody_keeps_itself() {
+    let entering = at(ENTER, Phase::Queued(Onward::Check));
+    let leaving = at(EXIT, Phase::Queued(Onward::Tell));
+    for record in [entering, leaving] {
+        assert_eq!(keeper(record, 0, 2), None);
+        assert_eq!(keeper(record, 1, 2), None);
+        assert_eq!(keeper(record, 0, 1), Some(Blocker::Holder(1)));
+    }
 }

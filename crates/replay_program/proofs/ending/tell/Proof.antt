@@ -1,4 +1,4 @@
--- `replay_program::ending::tell` ends: the turns run out.
+-- `replay_program::ending::tell` meets its contract: the byte is that of the ending, however often it is handed over; and the turns run out.
 use borrow.Author.Needs.{needs}
 use Rattle.replay_program.proofs.ending.tell.Statement.{statement}
 use Rattle.replay_program.proofs.ending.tell.Tie as tie
@@ -12,5 +12,6 @@ abbrev μ-loop : tie.MeasureT-loop
 pub tell-spec : {M : Type 1} → statement M
 tell-spec =
     tie.close
-    (tie.spec Inv-loop μ-loop (λ c κs. tt) (λ c. tt) (λ c. search needs) (λ c. search needs) (λ c κs. tt) (λ c κs. tt) (λ c. search needs)
-    (λ c. search needs) (λ c. tt) (λ c. search needs))
+    (tie.spec Inv-loop μ-loop (λ c κs. tt) (λ c. tt) (λ c. search needs) (λ c. search needs) (λ c κs. tt) (λ c κs. tt)
+    (λ c. c .before .before .before .before .before .before .ending-byte .ensures) (λ c. search needs) (λ c. tt)
+    (λ c. c .before .before .ending-byte .ensures))

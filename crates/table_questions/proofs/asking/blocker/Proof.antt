@@ -8,6 +8,6 @@ pub blocker-spec : {M : Type 1} → statement M
 unfolding blocker-of
 blocker-spec =
     tie.close
-    (tie.spec (λ c κs. tt) (λ c. simp (c .owner-blocks .ensures, eq-eqb _ _ (c .before .if1 .taken))) (λ c κs. tt)
-    (λ c. simp (c .owner-blocks2 .ensures, eq-eqb _ _ (c .before .if2 .taken), ne-eqb _ _ (c .before .before .if1 .left)))
+    (tie.spec (λ c κs. tt) (λ c. simp (c .entry-blocks .ensures, eq-eqb _ _ (c .before .if1 .taken))) (λ c κs. tt)
+    (λ c. simp (c .entry-blocks2 .ensures, eq-eqb _ _ (c .before .if2 .taken), ne-eqb _ _ (c .before .before .if1 .left)))
     (λ c. simp (ne-eqb _ _ (c .if2 .left), ne-eqb _ _ (c .before .if1 .left))))

@@ -9,4 +9,5 @@ pub holder-blocks-spec : {M : Type 1} → statement M
 unfolding holder-blocks
 holder-blocks-spec =
     tie.close
-    (tie.spec (λ c. simp (eq-eqb _ _ (c .if1 .taken))) (λ c. search needs) (λ c. simp (ne-eqb _ _ (c .if1 .left))))
+    (tie.spec (λ c. simp (eq-eqb _ _ (c .if1 .taken))) (λ c. simp (eq-eqb _ _ (c .if2 .taken), ne-eqb _ _ (c .before .if1 .left)))
+    (λ c. search needs) (λ c. simp (ne-eqb _ _ (c .if2 .left), ne-eqb _ _ (c .before .if1 .left))))

@@ -10,9 +10,9 @@ thread-value-spec =
     tie.close
     (tie.spec (λ c. search needs) (λ c κs. tt) (λ c. search needs) (λ c. search needs) (λ c. search needs) (λ c. search needs) (λ c κs. tt)
     (λ c. search needs) (λ c. search needs) (λ c κs. tt) (λ c. search needs) (λ c. search needs) (λ c. search needs) (λ c. search needs)
-    (λ c. search needs) (λ c. search needs) (λ c. search needs) (λ c. search needs) (λ c. search needs) (λ c κs. tt) (λ c κs. tt)
+    (λ c. search needs) (λ c. search needs) (λ c. search needs) (λ c. search needs) (λ c. search needs) (λ c κs. tt) (λ c κs. tt) (λ c κs. tt)
     (λ c. simp (c .operation-number .ensures, c .before .enum-told .given .1)) (λ c. simp (c .before .enum-told2 .given .1))
     (λ c. simp (c .phase-number .ensures, c .before .enum-told3 .given .1))
     (λ c. simp (c .carried-number .ensures, c .before .enum-told4 .given .1)) (λ c. simp (c .enum-told5 .given .1))
     (λ c. simp (c .before .enum-told6 .given .1)) (λ c. simp (c .before .enum-told7 .given .1)) (λ c. simp (c .before .enum-told8 .given .1))
-    (λ c. simp (c .blocker .ensures, c .before .phase-number2 .ensures, c .before .before .enum-told9 .given .1)))
+    (λ c. simp (c .blocker .ensures, c .before .phase-number2 .ensures, c .before .before .operation-number2 .ensures, c .before .before .before .enum-told9 .given .1)))
