@@ -1,6 +1,6 @@
 /* Makes one call of the library for C over and over, each time on the same table: the bytes are copied back before it. bench/calls.py times it, and
  * takes off what the copying costs.
- * Arguments: table (typical, idle, worst, waiting), call (none, begin, step, refused, tick, run, ticks), events in a call of run or ticks, repeats. */
+ * Arguments: table (typical, idle, worst, waiting), call (those of `calls` below, run, ticks), events in a call of run or ticks, repeats. */
 #include "duskclamp.h"
 #include <stdio.h>
 #include <stdlib.h>
@@ -74,30 +74,65 @@ static void run_events(int ticks, size_t count, long repeats) {
     }
     for (; repeats > 0; repeats--) {
         memcpy(table, saved, sizeof table);
-        kept = duskclamp_run(table, sizeof table, (const uint8_t *)events, count * sizeof *events, answers, count);
+        kept = duskclamp_run_events(table, sizeof table, events, count, answers);
     }
     for (size_t place = 0; place < count; place++)
         if (DUSKCLAMP_RETURNED(answers[place]) > DUSKCLAMP_FINISHED)
             fprintf(stderr, "calls: event %zu is answered %u\n", place, DUSKCLAMP_RETURNED(answers[place])), exit(1);
 }
 
+/* What is done each time, and its last answer. */
+static uint64_t nothing(void) {
+    return (uint64_t)table[0] << 8;
+}
+
+static uint64_t begin(void) {
+    return duskclamp_begin(table, sizeof table, caller, DUSKCLAMP_ENTER, last_object);
+}
+
+static uint64_t step(void) {
+    return duskclamp_step(table, sizeof table, caller);
+}
+
+static uint64_t tick_once(void) {
+    return duskclamp_tick(table, sizeof table);
+}
+
+static uint64_t question(void) {
+    return duskclamp_owner(table, sizeof table, last_object);
+}
+
+/* An enter and an exit, which nobody is in the way of: five calls where nobody owns the object, four where the caller does. */
+static uint64_t pair(void) {
+    uint64_t answer = 0;
+    for (uint32_t operation = DUSKCLAMP_ENTER; operation <= DUSKCLAMP_EXIT; operation++) {
+        answer = duskclamp_begin(table, sizeof table, caller, operation, last_object);
+        while (DUSKCLAMP_RETURNED(answer) == DUSKCLAMP_GONE_ON)
+            answer = duskclamp_step(table, sizeof table, caller);
+    }
+    return answer;
+}
+
+static const struct {
+    const char *name;
+    uint64_t (*make)(void);
+    uint32_t returned;
+} calls[] = {{"none", nothing, 0}, {"begin", begin, DUSKCLAMP_GONE_ON}, {"step", step, DUSKCLAMP_FINISHED}, {"refused", step, DUSKCLAMP_THREAD_IDLE},
+    {"tick", tick_once, DUSKCLAMP_GONE_ON}, {"pair", pair, DUSKCLAMP_FINISHED}, {"question", question, 0}};
+
 static void call(const char *name, long repeats) {
-    int begins = !strcmp(name, "begin"), steps = !strcmp(name, "step"), refused = !strcmp(name, "refused"), ticks = !strcmp(name, "tick");
-    if (steps)
+    size_t place = 0;
+    while (place < sizeof calls / sizeof *calls && strcmp(name, calls[place].name))
+        place++;
+    if (place == sizeof calls / sizeof *calls)
+        fprintf(stderr, "calls: there is no call %s\n", name), exit(2);
+    if (!strcmp(name, "step"))
         duskclamp_begin(saved, sizeof saved, caller, DUSKCLAMP_ENTER, last_object);
     for (; repeats > 0; repeats--) {
         memcpy(table, saved, sizeof table);
-        if (begins)
-            kept = duskclamp_begin(table, sizeof table, caller, DUSKCLAMP_ENTER, last_object);
-        else if (steps || refused)
-            kept = duskclamp_step(table, sizeof table, caller);
-        else if (ticks)
-            kept = duskclamp_tick(table, sizeof table);
-        else
-            kept = table[repeats % sizeof table];
+        kept = calls[place].make();
     }
-    uint32_t expected = steps ? DUSKCLAMP_FINISHED : refused ? DUSKCLAMP_THREAD_IDLE : DUSKCLAMP_GONE_ON;
-    if ((begins || steps || refused || ticks) && DUSKCLAMP_RETURNED(kept) != expected)
+    if (DUSKCLAMP_RETURNED(kept) != calls[place].returned)
         fprintf(stderr, "calls: %s is answered %u\n", name, DUSKCLAMP_RETURNED(kept)), exit(1);
 }
 

@@ -1,5 +1,6 @@
 #!/usr/bin/env python3
-"""Times the calls of the library for C: a begin, a step, a refused event and a tick on four tables, and several events in one call.
+"""Times the calls of the library for C: a begin, a step, a refused event, a tick, an enter and exit, and a question on four tables, and several events in
+one call.
 
     bench/calls.py [LIBRARY]
 
@@ -16,7 +17,7 @@ from common import ROOT, built, instructions_each, least_times, print_table, sho
 
 TABLES = {'typical': 'typical (8 threads, 7 of them at 3 of 16 objects)', 'idle': 'idle (32 threads, 64 objects)',
           'worst': 'worst (31 threads queued on one of 64 objects, all in use)', 'waiting': 'waiting (8 threads, 6 of them in timed waits at 3 of 16 objects)'}
-CALLS = {'begin': 'begin', 'step': 'step', 'refused': 'refused step', 'tick': 'tick'}
+CALLS = {'begin': 'begin', 'step': 'step', 'refused': 'refused step', 'tick': 'tick', 'pair': 'enter and exit, all calls', 'question': 'question'}
 EVENTS_OF_CALL = [1, 8, 64]
 TIMED, COUNTED = (1_000, 101_000), (100, 300)
 

@@ -66,7 +66,7 @@ static void run_events(void) {
         {DUSKCLAMP_KIND_TICK, 0, 0, 0, 0},
     };
     uint64_t answers[4];
-    size_t count = duskclamp_run(table, sizeof table, (const uint8_t *)events, sizeof events, answers, 4);
+    size_t count = duskclamp_run_events(table, sizeof table, events, 4, answers);
     for (size_t place = 0; place < count; place++)
         printf("event %zu of the run: %s\n", place + 1, duskclamp_returned_name(DUSKCLAMP_RETURNED(answers[place])));
 }
