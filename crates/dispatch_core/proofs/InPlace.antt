@@ -358,7 +358,7 @@ run-few scripts q lent w Ended rounds typed long is rounds-are few =
     let given : RunInput = record { scripts = scripts; quantum = q; lent = lent; cursors = w .cursors; long = long } in
     let most : length (run-answered Ended scripts q w .steps) ≤ most-steps (w .table .threadcount) (w .cursors) =
     subst (λ (a : DispatchAnswer). length (run-answered a scripts q w .steps) ≤ most-steps (w .table .threadcount) (w .cursors)) (sym is)
-    (runs-end given (w .table) typed (sym is) .1) in
+    (runs-end given (w .table) typed (sym is) .2) in
     (most, omega (arith, most, rounds-are, few, threads))
 run-few scripts q lent w NotSound rounds typed long is rounds-are few = (omega arith, omega arith)
 run-few scripts q lent w QuantumOutOfRange rounds typed long is rounds-are few = (omega arith, omega arith)

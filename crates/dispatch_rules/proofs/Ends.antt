@@ -12,7 +12,7 @@ use Rattle.lock_engine.specs.Outcome.{reply-returned}
 use Rattle.lock_engine.specs.declared.outcome.Outcome.{Outcome}
 use Rattle.step_measure.proofs.Theorem.{work-left, step-lowers, begin-adds, work-most}
 use Rattle.round_robin.proofs.Machine.{Ending}
-use Rattle.round_robin.proofs.Fairness.{run-spent, run-ends}
+use Rattle.round_robin.proofs.Fairness.{run-spent, run-last-still, run-ends}
 use Rattle.dispatch_rules.specs.Script.{operation-at, object-of, cursor-at, next-place}
 use Rattle.dispatch_rules.specs.Attempt.{begins-in, begin-next, attempt}
 use Rattle.dispatch_rules.specs.Dispatch.{step-weight, quantum-limit, operations-left, most-steps, rounds-of, run-answered}
@@ -92,6 +92,7 @@ runs-end given table typed accepted =
     let rounds = suc (most-steps threads (given .cursors)) in
     let machine = ending (given .scripts) threads (table .objectcount) in
     rw (runs given table typed accepted) (
+      run-last-still machine (given .quantum) rounds (given-world given table) good (enough-rounds given table typed accepted),
       run-ends machine (given .quantum) (some-steps given table typed accepted) rounds (given-world given table) good (enough-rounds given table typed accepted),
       omega (arith, few-steps given table typed accepted, run-spent machine (given .quantum) rounds (given-world given table) good .1),
     )

@@ -20,7 +20,7 @@ use Rattle.step_bounds.specs.SixSteps.{is-step}
 use Rattle.lock_records.specs.Unparked.{CanStep}
 use Rattle.lock_records.proofs.Claim.{schedule-represents}
 use Rattle.lock_schedule.specs.Schedule.{final-of}
-use Rattle.lock_schedule.proofs.{Theorem.from-fresh, Steps.steps-by-start, FreshWellTyped.represented-well-typed}
+use Rattle.lock_schedule.proofs.{Theorem.from-fresh, Theorem.reached-well-typed, Steps.steps-by-start}
 use Rattle.round_robin.specs.Dispatch.{run}
 use Rattle.round_robin.specs.Fair.{Fair}
 use Rattle.round_robin.proofs.Machine.{Ending, Fairly}
@@ -129,7 +129,7 @@ module _ (request : FreshRequest) (in-range : InRange request) (before : List Ev
   fits : WellTyped table × (table .threadcount ≡ request .threads)
   fits =
       let (represents, sound, same) = schedule-represents request in-range before in
-      rw (from-fresh request in-range before .0) (represented-well-typed (request .threads) (request .objects) _ _ represents sound, represents .threadcount)
+      (reached-well-typed request in-range before, rw (from-fresh request in-range before .0) (represents .threadcount))
 
   module _ (accepted : Accepted given table) where
     abbrev rounds : ℕ

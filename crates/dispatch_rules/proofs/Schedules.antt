@@ -12,7 +12,7 @@ use Rattle.lock_table.specs.Fresh.{fresh-of}
 use Rattle.lock_table.specs.declared.record.Table.{Table}
 use Rattle.lock_schedule.specs.Schedule.{final-of}
 use Rattle.lock_schedule.specs.Demand.{Claim}
-use Rattle.lock_schedule.proofs.{Theorem.demand-three, Steps.six-steps, FreshWellTyped.fresh-well-typed}
+use Rattle.lock_schedule.proofs.{Theorem.demand-three, Theorem.reached-well-typed, Steps.six-steps}
 use Rattle.round_robin.specs.Dispatch.{Step}
 use Rattle.round_robin.proofs.Machine.{Along}
 use Rattle.round_robin.proofs.Runs.{run-along}
@@ -68,11 +68,14 @@ runs-are-schedules given table typed accepted =
     (first-good given table typed accepted) .1)
 
 pub runs-claim : RunsClaim
-runs-claim request in-range given accepted =
-    let table = fresh-of request .table in
+runs-claim request in-range before given accepted =
+    let first = fresh-of request .table in
+    let table = final-of first before in
     let events = events-of (given-run given table .steps) in (
-      subst (Claim table events) (sym (runs-are-schedules given table (fresh-well-typed request in-range) accepted)) (demand-three request in-range events),
-      six-steps request in-range events,
+      subst (Claim first (before ++ events))
+          (final-append first before events ∙ sym (runs-are-schedules given table (reached-well-typed request in-range before) accepted))
+          (demand-three request in-range (before ++ events)),
+      six-steps request in-range (before ++ events),
     )
 
 -- A run without a step leaves the table, refused or not.

@@ -16,6 +16,7 @@ use Rattle.lock_schedule.specs.Schedule.{final-of}
 use Rattle.lock_schedule.specs.Demand.{Claim}
 use Rattle.round_robin.specs.Dispatch.{Step, Ran, none, round}
 use Rattle.round_robin.specs.Fair.{Fair}
+use Rattle.round_robin.specs.Rounds.{LastIsStill}
 use Rattle.dispatch_rules.specs.Attempt.{Shown, attempt, ready-in}
 use Rattle.dispatch_rules.specs.Dispatch.{scripted, most-steps, dispatch-answer, dispatched}
 use Rattle.dispatch_rules.specs.declared.ScriptCursor.{ScriptCursor}
@@ -40,13 +41,17 @@ given-run given table = dispatched (given .scripts) (given .quantum) (given .len
 abbrev pub Accepted : RunInput → Table → Type 0
 Accepted given table = dispatch-answer (given .scripts) (given .quantum) (given .lent) (given-world given table) ≡ Ended
 
--- "The run ends .. after a round without a step": on every sound table another round would take no step, and this many steps are enough.
+-- "The run ends .. after a round without a step": on every sound table the last round, and no other, took none, another would take none either, and this many
+-- steps are enough.
 abbrev pub RunsEnd : Type 0
 RunsEnd =
     (given : RunInput) (table : Table) → WellTyped table → Accepted given table
     → let ran = given-run given table in
-    (none (round (attempt (given .scripts)) (given .quantum) (table .threadcount) (ran .world) .steps) ≡ true)
-    × (length (ran .steps) ≤ most-steps (table .threadcount) (given .cursors))
+    let try = attempt (given .scripts) in
+    let threads = table .threadcount in
+    ((rounds : ℕ) × LastIsStill try (given .quantum) threads rounds (given-world given table) ran)
+    × (none (round try (given .quantum) threads (ran .world) .steps) ≡ true)
+    × (length (ran .steps) ≤ most-steps threads (given .cursors))
 
 -- "From a fresh table an unparked thread with work left gets its step before the others have taken more than (T − 1) times q." So it is at any moment of
 -- a run from any table that a schedule makes from a fresh one. A begin and the step behind it are one moment: nothing is between them.
@@ -74,11 +79,12 @@ RunsAreSchedules =
     (given : RunInput) (table : Table) → WellTyped table → Accepted given table
     → given-run given table .world .table ≡ final-of table (events-of (given-run given table .steps))
 
--- So demand 3 and six steps hold of a run from a fresh table.
+-- So demand 3 and six steps hold of a run from every table that a schedule makes from a fresh one, with that schedule before it.
 abbrev pub RunsClaim : Type 0
 RunsClaim =
-    (request : FreshRequest) → InRange request → (given : RunInput)
-    → let table = fresh-of request .table in
+    (request : FreshRequest) → InRange request → (before : List Event) (given : RunInput)
+    → let first = fresh-of request .table in
+    let table = final-of first before in
     Accepted given table
-    → let events = events-of (given-run given table .steps) in
-    Claim table events (given-run given table .world .table) × ((n : ℕ) → steps-taken n table events ≤ step-limit)
+    → let events = before ++ events-of (given-run given table .steps) in
+    Claim first events (given-run given table .world .table) × ((n : ℕ) → steps-taken n first events ≤ step-limit)

@@ -1,5 +1,5 @@
 -- What an event that is not refused, nor a tick, leaves in the records of its thread and its object: those of its turn.
-use Prim.Native.Nat.{ℕ, _≤_, _<_}
+use Prim.Native.Nat.{ℕ, _<_}
 use mathlib.Core.Path.{_≡_, refl, sym, ap, _∙_}
 use mathlib.Core.Logic.{_⊎_, inl, inr}
 use mathlib.Core.Bool.{Bool, true, false}
@@ -7,12 +7,11 @@ use native.Mathlib.Omega.{arith}
 use Rattle.laws.specs.Choice.{within}
 use Rattle.laws.proofs.Choice.{by-test, both-first, false≢true}
 use Rattle.laws.proofs.Update.{update-same}
-use Rattle.lock_rules.specs.Numbers.{first-refusal, refusal-number}
+use Rattle.lock_rules.specs.Numbers.{first-refusal}
 use Rattle.lock_rules.specs.Gate.{event-thread}
-use Rattle.lock_rules.specs.declared.event.{Event.Event, Refusal.Refusal, Gate.Gate}
+use Rattle.lock_rules.specs.declared.event.{Event.Event, Gate.Gate}
 use Rattle.lock_rules.specs.declared.event.Event.the-variants.{Begin, Step, Tick}
-use Rattle.lock_rules.specs.declared.event.Refusal.the-variants.{NotSound, NoSuchThread, NoSuchObject, NotIdle, ThreadIdle, ThreadParked}
-use Rattle.lock_rules.specs.declared.event.Refusal.the-variants.{NoSuchOperation, LimitOutOfRange}
+use Rattle.lock_rules.specs.declared.event.Refusal.the-variants.{NotSound}
 use Rattle.lock_rules.specs.declared.event.Gate.the-variants.{Open, Shut}
 use Rattle.lock_word.specs.declared.reading.Decoded.{Decoded}
 use Rattle.lock_word.specs.declared.reading.Decoded.the-variants.{Valid, Invalid}
@@ -40,18 +39,8 @@ use Rattle.lock_engine.specs.Handle.{trusted, outcome-of, handle-trustin
 use Rattle.lock_engine.proofs.InPlace.{first-there, parts-of, keeps-object, shut-thread, own-in-place, number-in-place, object-in-place}
 use Rattle.lock_engine.proofs.InPlace.{gate-here, turn-here, own-here, object-here}
 use Rattle.lock_engine.proofs.Full.{Full, full-thread, full-carried}
+use Rattle.lock_rules.proofs.RefusalNumbers.{of-gate}
 use Rattle.lock_engine.proofs.Narrow.{sizes}
-
-pub refusal-high : (refusal : Refusal) → first-refusal ≤ refusal-number refusal
-unfolding refusal-number
-refusal-high NotSound = omega arith
-refusal-high NoSuchThread = omega arith
-refusal-high NoSuchObject = omega arith
-refusal-high NotIdle = omega arith
-refusal-high ThreadIdle = omega arith
-refusal-high ThreadParked = omega arith
-refusal-high NoSuchOperation = omega arith
-refusal-high LimitOutOfRange = omega arith
 
 -- both records are read as they were written
 both-read : (t : Table) → Full t → (n o : ℕ) (own : ThreadRecord) (object : ObjectRecord) → Has thread-limit n → Has object-limit o
@@ -136,7 +125,7 @@ module _ (t : Table) (event : Event) (issound : Bool) (known : issound ≡ sound
       at (inl has) = has
       at (inr lacks) =
           let (refusal, shut) = shut-thread issound (t .threadcount) (t .objectcount) event lacks in
-          absurd (omega (arith, refusal-high refusal, rw (shut (thread-status (own-in-place t event issound .phase))) at low))
+          absurd (omega (arith, of-gate refusal .high, rw (shut (thread-status (own-in-place t event issound .phase))) at low))
 
   -- what is said of an object that has no record is refused
   refused-here : Lacks object-limit (number-in-place t event issound)
@@ -145,7 +134,7 @@ module _ (t : Table) (event : Event) (issound : Bool) (known : issound ≡ sound
   refused-here lacks =
       by-gate (trusted t issound) (t .threadcount) (t .objectcount)
       (λ (gated : Gate). reply-returned (parts-of gated event (own-in-place t event issound) .reply) < first-refusal → ⊥)
-      (λ unsound low. omega (arith, refusal-high NotSound, low)) (λ refusal is high low. omega (arith, refusal-high refusal, low)) event
+      (λ unsound low. omega (arith, of-gate NotSound .high, low)) (λ refusal is high low. omega (arith, of-gate refusal .high, low)) event
       (thread-status (own-in-place t event issound .phase)) (λ is passed. at event (sym known ∙ both-first issound _ is) passed lacks)
     where
       at : (event : Event) → sound-of t ≡ true → Passed (t .threadcount) (t .objectcount) event (thread-status (own-in-place t event issound .phase))
@@ -154,7 +143,7 @@ module _ (t : Table) (event : Event) (issound : Bool) (known : issound ≡ sound
       at (Begin operation thread object limit) sound (low, high, known, real, small, idle, fits) (inl none) accepted = omega (arith, real, none)
       at (Begin operation thread object limit) sound (low, high, known, real, small, idle, fits) (inr past) accepted =
           let few = sizes t sound .1 in omega (arith, small, few, past)
-      at (Step thread) sound passed lacks accepted = omega (arith, refusal-high NotSound, accepted)
+      at (Step thread) sound passed lacks accepted = omega (arith, of-gate NotSound .high, accepted)
       at Tick sound passed lacks accepted = first-there object-limit (omega arith) lacks
 
   has-object : Accepted → Has object-limit (number-in-place t event issound)

@@ -6,10 +6,12 @@ use mathlib.Core.Bool.{Bool, true, false}
 use mathlib.Core.List.{List}
 use native.Mathlib.Omega.{arith}
 use lib.Dec.{eqb, ltb}
+use borrow.Author.Tests.{ne-eqb}
 use Rattle.laws.specs.Choice.{either}
 use Rattle.laws.proofs.Choice.{split, by-test, false≢true}
 use Rattle.laws.proofs.Sequence.{tabulate-every}
 use Rattle.lock_rules.specs.Numbers.{refusal-number}
+use Rattle.lock_rules.proofs.RefusalNumbers.{of-gate}
 use Rattle.lock_rules.specs.Gate.{event-thread}
 use Rattle.lock_rules.specs.declared.event.{Event.Event, Refusal.Refusal}
 use Rattle.lock_rules.specs.declared.event.Event.the-variants.{Begin, Step, Tick}
@@ -25,8 +27,6 @@ use Rattle.lock_work.specs.Work.{work-stays}
 use Rattle.lock_engine.specs.Handle.{work-done-of, handle-trusting, handle}
 use Rattle.lock_engine.proofs.Full.{full-thread}
 use Rattle.lock_engine.proofs.Narrow.{narrow-begin, narrow-step}
-use Rattle.lock_rules.specs.declared.event.Refusal.the-variants.{NotSound, NoSuchThread, NoSuchObject, NotIdle, ThreadIdle, ThreadParked}
-use Rattle.lock_rules.specs.declared.event.Refusal.the-variants.{NoSuchOperation, LimitOutOfRange}
 use Rattle.lock_engine.specs.declared.outcome.{Reply.Reply, Outcome.Outcome}
 use Rattle.lock_engine.specs.declared.outcome.Reply.the-variants.{Accepted, Refused, Answered}
 use Rattle.lock_refusals.specs.Demand.{returned, left-by, Leaves}
@@ -66,22 +66,16 @@ read-well-typed bytes small =
     }
 
 -- a reply that goes with no change is a refusal, and not 18 or 19; every number fits a byte
-refusal-numbers : (refusal : Refusal) → let number = refusal-number refusal in (11 ≤ number) × (either (eqb number 18) (eqb number 19) ≡ false) × (number < 256)
-unfolding refusal-number
-refusal-numbers NotSound = (omega arith, refl, omega arith)
-refusal-numbers NoSuchThread = (omega arith, refl, omega arith)
-refusal-numbers NoSuchObject = (omega arith, refl, omega arith)
-refusal-numbers NotIdle = (omega arith, refl, omega arith)
-refusal-numbers ThreadIdle = (omega arith, refl, omega arith)
-refusal-numbers ThreadParked = (omega arith, refl, omega arith)
-refusal-numbers NoSuchOperation = (omega arith, refl, omega arith)
-refusal-numbers LimitOutOfRange = (omega arith, refl, omega arith)
+refused-plainly : (refusal : Refusal) → let number = refusal-number refusal in (11 ≤ number) × (either (eqb number 18) (eqb number 19) ≡ false)
+refused-plainly refusal =
+    let numbers = of-gate refusal in
+    (numbers .high, rw (ne-eqb (refusal-number refusal) 18 (numbers .owner), ne-eqb (refusal-number refusal) 19 (numbers .shallow)) refl)
 
 unchanged-number : (reply : Reply) → reply-changes reply ≡ false
     → let number = reply-returned reply in (11 ≤ number) × (either (eqb number 18) (eqb number 19) ≡ false)
 unfolding reply-changes answer-changes reply-returned
 unchanged-number Accepted same = false≢true (sym same)
-unchanged-number (Refused refusal) same = let numbers = refusal-numbers refusal in (numbers .0, numbers .1)
+unchanged-number (Refused refusal) same = refused-plainly refusal
 unchanged-number (Answered GoneOn) same = false≢true (sym same)
 unchanged-number (Answered (Finished woken)) same = false≢true (sym same)
 unchanged-number (Answered Parked) same = false≢true (sym same)
@@ -104,7 +98,7 @@ unchanged-same table typed event unchanged =
 number-small : (reply : Reply) → reply-returned reply < 256
 unfolding reply-returned
 number-small Accepted = omega arith
-number-small (Refused refusal) = refusal-numbers refusal .2
+number-small (Refused refusal) = of-gate refusal .small
 number-small (Answered GoneOn) = omega arith
 number-small (Answered (Finished woken)) = omega arith
 number-small (Answered Parked) = omega arith

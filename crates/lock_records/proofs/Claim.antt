@@ -131,7 +131,7 @@ woken-seen n home o state =
 
 module _ (threads objects : ℕ) (t : Table) (lists : ListTable) (represents : Represents threads objects t lists) (sound : SoundTable threads objects lists)
   where
-    ownership-is : (o : ℕ) → 1 ≤ o → o ≤ objects
+    pub ownership-is : (o : ℕ) → 1 ≤ o → o ≤ objects
         → ownership-at t o ≡ record { thread = object-owner (lists .objects o); depth = owned-depth (lists .objects o) }
     ownership-is o real small =
         (λ j. ownership-in (word-is threads objects t lists represents sound o real small j) (represents .object-is o real small j .monitor))

@@ -21,6 +21,7 @@ pub mod FreshRecords
 pub mod Claim
 pub mod Parking
 pub mod ExitsWait
+pub mod AsNew
 pub mod Ruled
 pub mod Naming
 pub mod Fits

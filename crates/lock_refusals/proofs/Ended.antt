@@ -3,16 +3,15 @@ use Prim.Native.Nat.{ℕ, _≤_}
 use mathlib.Core.Path.{_≡_, refl, sym, ap, _∙_, subst}
 use mathlib.Core.Logic.{_≢_}
 use native.Mathlib.Omega.{arith}
-use borrow.Author.Tests.{ne-eqb}
+use borrow.Author.Tests.{ne-eqb, le-leb}
 use Rattle.lock_word.specs.declared.reading.LockWord.{LockWord}
 use Rattle.lock_rules.specs.declared.{Answer.Answer, Effect.Effect, Action.Action}
 use Rattle.lock_rules.specs.declared.ChainWork.the-variants.{Stay}
 use Rattle.lock_rules.specs.declared.Answer.the-variants.{GoneOn, Finished, Parked, NotOwner, TooDeep, NoRule}
 use Rattle.lock_rules.specs.Numbers.{refusal-number}
+use Rattle.lock_rules.proofs.RefusalNumbers.{of-gate}
 use Rattle.lock_rules.specs.declared.event.{Event.Event, Refusal.Refusal}
 use Rattle.lock_rules.specs.declared.event.Event.the-variants.{Begin, Step, Tick}
-use Rattle.lock_rules.specs.declared.event.Refusal.the-variants.{NotSound, NoSuchThread, NoSuchObject, NotIdle, ThreadIdle, ThreadParked}
-use Rattle.lock_rules.specs.declared.event.Refusal.the-variants.{NoSuchOperation, LimitOutOfRange}
 use Rattle.lock_rules.specs.declared.Action.the-variants.{Unruled, Do}
 use Rattle.lock_table.specs.Access.{thread-at, object-at}
 use Rattle.lock_table.specs.declared.record.{ThreadRecord.ThreadRecord, Table.Table}
@@ -57,15 +56,10 @@ same-ended {table} {outcome} event ended = record { refused = ended .refused; le
     at Tick high = ended .same high
 
 pub refuse-same : (table : Table) (refusal : Refusal) → EndedSame table (refusing table refusal) (refusal-number refusal)
-unfolding refusal-number reply-returned
-refuse-same table NotSound = record { refused = refl; same = λ high. refl; nobody = refl; before-rule = (omega arith, omega arith) }
-refuse-same table NoSuchThread = record { refused = refl; same = λ high. refl; nobody = refl; before-rule = (omega arith, omega arith) }
-refuse-same table NoSuchObject = record { refused = refl; same = λ high. refl; nobody = refl; before-rule = (omega arith, omega arith) }
-refuse-same table NotIdle = record { refused = refl; same = λ high. refl; nobody = refl; before-rule = (omega arith, omega arith) }
-refuse-same table ThreadIdle = record { refused = refl; same = λ high. refl; nobody = refl; before-rule = (omega arith, omega arith) }
-refuse-same table ThreadParked = record { refused = refl; same = λ high. refl; nobody = refl; before-rule = (omega arith, omega arith) }
-refuse-same table NoSuchOperation = record { refused = refl; same = λ high. refl; nobody = refl; before-rule = (omega arith, omega arith) }
-refuse-same table LimitOutOfRange = record { refused = refl; same = λ high. refl; nobody = refl; before-rule = (omega arith, omega arith) }
+unfolding reply-returned
+refuse-same table refusal =
+    let numbers = of-gate refusal in
+    record { refused = rw (le-leb 11 (refusal-number refusal) (numbers .high)) refl; same = λ high. refl; nobody = refl; before-rule = (numbers .owner, numbers .shallow) }
 
 pub refuse-ended : (table : Table) (event : Event) (refusal : Refusal) → Ended table event (refusing table refusal) (refusal-number refusal)
 refuse-ended table event refusal = same-ended event (refuse-same table refusal)

@@ -10,7 +10,7 @@ use Rattle.lock_rules.specs.declared.Answer.{Answer}
 use Rattle.lock_rules.specs.declared.Answer.the-variants.{GoneOn, Finished, Parked, NotOwner, TooDeep, NoRule}
 use Rattle.lock_table.specs.declared.record.Table.{Table}
 use Rattle.lock_engine.specs.{Outcome.reply-returned, Handle.handle}
-use Rattle.lock_engine.proofs.After.{refusal-high}
+use Rattle.lock_rules.proofs.RefusalNumbers.{of-gate}
 use Rattle.lock_engine.specs.declared.outcome.Reply.{Reply}
 use Rattle.lock_engine.specs.declared.outcome.Reply.the-variants.{Accepted, Refused, Answered}
 use Rattle.lock_refusals.specs.Refusals.{refusals}
@@ -30,7 +30,7 @@ answer-range NoRule = inr (omega arith)
 reply-range : (reply : Reply) → InRange (reply-returned reply)
 unfolding reply-returned
 reply-range Accepted = inl (omega arith)
-reply-range (Refused refusal) = inr (refusal-high refusal)
+reply-range (Refused refusal) = inr (of-gate refusal .high)
 reply-range (Answered answer) = answer-range answer
 
 -- the numbers of the refusals

@@ -19,7 +19,7 @@ use Rattle.lock_rules.specs.declared.Doing.the-variants.{WaitGiveUp, Wai
 use Rattle.lock_rules.specs.declared.ThreadState.the-variants.{Idle, Running, Queued, Contending, Waiting}
 use Rattle.lock_word.specs.declared.meaning.WordSeen.{WordSeen}
 use Rattle.lock_word.specs.declared.meaning.WordSeen.the-variants.{Free, Anonymous, Fat, Flat, Reserved}
-use Rattle.lock_rules.specs.declared.Answer.the-variants.{Finished}
+use Rattle.lock_rules.specs.declared.Answer.the-variants.{GoneOn, Finished}
 use Rattle.lock_rules.specs.PlainMonitor.{PlainMonitor, Committed, commit}
 use Rattle.lock_rules.specs.Feed.{OperationLog, log-after, EndsRight}
 use Rattle.lock_rules.proofs.Each.{each-state, each-word}
@@ -185,11 +185,11 @@ Relies (Queued (ToResume suspension)) t word flag holder = IsFat word
 Relies Contending t word flag holder = NotOwn t word
 Relies (Waiting suspension) t word flag holder = IsFat word
 
--- By the log of the operation: its commits so far, and the answer that an exit's last one left
+-- By the log of the operation: its commits so far, and the plain answer that an exit's or a wait's first one left; a wait has none yet
 abbrev pub Staged : Stage → OperationLog → Type 0
 Staged uncommitted log = log .commits ≡ 0
 Staged all-committed log = (log .commits ≡ 1) × (log .answer ≡ Finished 0)
-Staged given-up log = log .commits ≡ 1
+Staged given-up log = (log .commits ≡ 1) × (log .answer ≡ GoneOn)
 
 abbrev pub LimitIs : BegunLimit → Limit → Type 0
 LimitIs any-limit limit = Unit {0}

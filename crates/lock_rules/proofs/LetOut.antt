@@ -80,7 +80,7 @@ module _ (states : ℕ → ThreadState) (t : ℕ) (busy : T (unfinished (states 
   tick-ends o =
       let moved-on = quiet-busy (expired-quiet states o t) busy in
       busy≢idle _
-      (by-tick states o (λ result. T (unfinished (result .states t))) busy (handed-on (expired states o .states) (expired states o .object) t moved-on) (λ held. moved-on))
+      (by-tick states o (λ result. T (unfinished (result .states t))) busy (λ free. handed-on (expired states o .states) (expired states o .object) t moved-on) (λ held. moved-on))
 
 -- a queued exit has committed once, and its answer was 1 with 0
 exit-answered : (log : OperationLog) → Logged (Queued ToTell) log → LetOutRight log

@@ -7,6 +7,7 @@ pub mod Objects
 pub mod Perform
 pub mod Tick
 pub mod Quiet
+pub mod RefusalNumbers
 pub mod Gate
 pub mod TableKinds
 pub mod Tables
@@ -35,7 +36,11 @@ pub mod SoundEffects
 pub mod SoundPerform
 pub mod SoundTick
 pub mod Unparks
+pub mod AnswerFits
 pub mod RunQueue
 pub mod ListChains
 pub mod SoundKept
+pub mod Presence
+pub mod Attended
+pub mod AsNew
 pub mod Simulation

@@ -115,7 +115,7 @@ log-is : (commits : Bool) (log : OperationLog) (a b : Answer) → (T commits →
 log-is true log a b e = ap (log-after true log) (e tt)
 log-is false log a b e = refl
 
-log-keeps : (commits : Bool) (log : OperationLog) (a : Answer)
+pub log-keeps : (commits : Bool) (log : OperationLog) (a : Answer)
     → (log-after commits log a .object ≡ log .object) × (log-after commits log a .operation ≡ log .operation)
 log-keeps true log a = (refl, refl)
 log-keeps false log a = (refl, refl)

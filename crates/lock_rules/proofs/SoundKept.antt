@@ -124,7 +124,7 @@ module _ (threads objects : ℕ) (table : ListTable) (sound : SoundTable threads
         performed-idle threads t (states-at table home) (table .objects home) (sound .sound home) doing here real low
         (decide t (sight-of (table .objects home)) doing) u n e
 
-    elsewhere : (u : ℕ) → table .threads u .object ≢ home → result .states u ≡ Idle
+    pub elsewhere : (u : ℕ) → table .threads u .object ≢ home → result .states u ≡ Idle
     elsewhere u s = stays-idle u (λ k. s (ap (λ x. table .threads x .object) k)) (seen-elsewhere home (table .threads u) s)
 
     step-range : (u : ℕ) → InTable threads objects u (step-at table t doing .table .threads u)

@@ -74,7 +74,7 @@ module _ (threads : ℕ) (states : ℕ → ThreadState) (o : ListObject) (sound 
   pub ticked-fine : ((t : ℕ) → StateFine (states t)) → (t : ℕ) → StateFine (tick-at states o .states t)
   ticked-fine fine t =
       by-tick states o (λ result. StateFine (result .states t)) (fine t)
-      (changed-fine (after .states) (expired-fine fine) handed handed-fine (taken First (after .object .entry)) t) (λ held. expired-fine fine t)
+      (λ free. changed-fine (after .states) (expired-fine fine) handed handed-fine (taken First (after .object .entry)) t) (λ held. expired-fine fine t)
 
   idle-zero : after .states 0 ≡ Idle
   idle-zero = expired-idle states o 0 (sound .nobody)
@@ -133,4 +133,4 @@ module _ (threads : ℕ) (states : ℕ → ThreadState) (o : ListObject) (sound 
         }
 
     pub ticked-sound : SoundObject threads (tick-at states o .states) (tick-at states o .object)
-    ticked-sound = by-tick states o (λ result. SoundObject threads (result .states) (result .object)) sound free-sound held-sound
+    ticked-sound = by-tick states o (λ result. SoundObject threads (result .states) (result .object)) sound (λ free. free-sound) held-sound

@@ -1,5 +1,6 @@
 -- A tick at one object with lists: what becomes of the object and of the threads at it (document 02, L1).
 use Prim.Native.Nat.{ℕ}
+use mathlib.Core.Path.{_≡_}
 use mathlib.Core.Logic.{_≢_}
 use mathlib.Core.Bool.{Bool, false}
 use lib.Dec.{eqb}
@@ -65,8 +66,9 @@ module _ (states : ℕ → ThreadState) (o : ListObject) where
 
   -- what holds where nobody waits, of a monitor that is handed, and of one that somebody holds, holds of a tick
   pub by-tick : (P : Ticked → Type 0) → P (record { states = states; object = o })
-      → P (record { states = handed-states (expired .states) (expired .object); object = handed-object (expired .object) }) → (o .holder ≢ 0 → P expired) → P tick-at
-  by-tick P still handed held = by-test P (empty (o .waiting)) (λ none. still) (λ some. by-equal P (o .holder) 0 (λ free. handed) held)
+      → (o .holder ≡ 0 → P (record { states = handed-states (expired .states) (expired .object); object = handed-object (expired .object) }))
+      → (o .holder ≢ 0 → P expired) → P tick-at
+  by-tick P still handed held = by-test P (empty (o .waiting)) (λ none. still) (λ some. by-equal P (o .holder) 0 handed held)
 
   -- whom a tick unparks: who is then handed the monitor
   abbrev pub tick-unparks : ℕ → Bool

@@ -33,7 +33,8 @@ pub ticked-idle : (states : ℕ → ThreadState) (o : ListObject) (t : ℕ) → 
 ticked-idle states o t idle =
     let after = expired states o in
     let still = expired-idle states o t idle in
-    by-tick states o (λ result. result .states t ≡ Idle) idle (idle-changed handed refl (after .states) (taken First (after .object .entry)) t still) (λ held. still)
+    by-tick states o (λ result. result .states t ≡ Idle) idle (λ free. idle-changed handed refl (after .states) (taken First (after .object .entry)) t still)
+    (λ held. still)
 
 -- what the plain monitors know of the threads after the tick
 abbrev pub ghost-after : ListObject → Ghost → Ghost

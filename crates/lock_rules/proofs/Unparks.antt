@@ -161,7 +161,7 @@ module _ (threads objects : ℕ) (table : ListTable) (sound : SoundTable threads
   abbrev pub TurnedBy : Event → TurnOf ListTable → Type 0
   TurnedBy event result = Turned n event (result .reply) (result .unparked n) before (result .table .threads n .state)
 
-  begun-turned : (number limit : ℕ) (operation : Operation) (given : Limit) (t o : ℕ) → table .threads t .state ≡ Idle
+  pub begun-turned : (number limit : ℕ) (operation : Operation) (given : Limit) (t o : ℕ) → table .threads t .state ≡ Idle
       → TurnedBy (Begin number t o limit) (record { table = begin-at table operation given t o; reply = Accepted; unparked = λ m. false })
   unfolding own-event
   begun-turned number limit operation given t o idle =
@@ -218,7 +218,7 @@ module _ (threads objects : ℕ) (table : ListTable) (sound : SoundTable threads
         (λ elsewhere. rw (ne-eqb (table .threads n .object) home elsewhere)
         (passed-turned (unseen _ _ (seen-elsewhere home (table .threads n) elsewhere) moves) never))
 
-    step-turned : TurnedBy (Step t) (step-at table t doing)
+    pub step-turned : TurnedBy (Step t) (step-at table t doing)
     step-turned =
         let fine = decide-fine threads t (sight-of object) (λ e. omega (arith, real, e)) (sound .sound home .deep) (sound .sound home .shallow) doing
         (rw running at (sound .fine t)) (sound .sound home .word) in

@@ -92,7 +92,7 @@ module _ (actor : Actor) where
             waiting = count-joined (actor .thread) (it .waiting) ∙ ap suc (step .self .placed .waiting);
           };
           relies = tt;
-          logged = (step .self .logged .0, first-commit (step .self .logged .1), tt);
+          logged = (step .self .logged .0, (first-commit (step .self .logged .1), refl), tt);
           saved = (update-same (actor .ghost .saved) (actor .thread) saves, step .self .seated .1, step .inv .whole .monitor .0);
           woken = step .self .woken;
         };
@@ -122,7 +122,7 @@ module _ (actor : Actor) where
         asleep = update-same (actor .ghost .woken) (actor .thread) false;
         above = step .self .saved .1;
         limit = step .self .saved .2;
-        ended = (second-commit (step .self .logged .1), refl);
+        ended = (second-commit (step .self .logged .1 .0), refl);
       }))
       (λ e. absurd (e (step .self .seated .1)))
   wait-resume-refines it (Flat owner c) suspension step = absurd (step .self .relies .0)

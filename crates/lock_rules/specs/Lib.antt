@@ -9,3 +9,4 @@ pub mod Events
 pub mod RunQueue
 pub mod PlainMonitor
 pub mod Feed
+pub mod Presence

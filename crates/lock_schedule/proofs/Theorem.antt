@@ -1,4 +1,4 @@
--- Demand 3, what a thread parked inside an exit waits for, and that every event on any sound table gives a sound table, well typed as the code's are.
+-- Demand 3, what a thread parked inside an exit waits for, that a free number is as new, and that every event on any sound table gives a sound table, well typed as the code's are.
 use Prim.Native.Nat.{ℕ, _≤_}
 use mathlib.Core.Path.{_≡_, refl, sym, ap, _∙_, subst, subst₂}
 use mathlib.Core.Logic.{_≢_, _↔_}
@@ -30,10 +30,13 @@ use Rattle.lock_records.proofs.RecordKind.{record-kind, turn-represents}
 use Rattle.lock_records.proofs.Claim.{schedule-represents, schedule-agrees, phase-is, phase-busy, phase-idle}
 use Rattle.lock_records.proofs.ExitsWait.{represents-waits}
 use Rattle.lock_records.specs.ExitsWait.{ParkedInExit, WaitsForBusyHolder}
+use Rattle.lock_records.specs.AsNew.{FreeNumber, AsNew}
+use Rattle.lock_records.proofs.AsNew.{represents-as-new}
+use Rattle.lock_rules.proofs.AsNew.{schedule-attended}
 use Rattle.lock_schedule.specs.Schedule.{final-of, shown-of}
-use Rattle.lock_schedule.specs.Demand.{EndedByOther, OthersEndRight, DemandThree, ExitsWaitForHolder, ExitsWaitForBusyHolder, SoundKept}
+use Rattle.lock_schedule.specs.Demand.{EndedByOther, OthersEndRight, DemandThree, ExitsWaitForHolder, ExitsWaitForBusyHolder, FreeNumbersAsNew, SoundKept}
 use Rattle.lock_schedule.proofs.EngineKind.{turn-of, event-is-turn}
-use Rattle.lock_schedule.proofs.FreshWellTyped.{represented-well-typed}
+use Rattle.lock_schedule.proofs.RepresentedWellTyped.{represented-well-typed}
 
 -- an operation that another's event ended, on records and on lists
 pub ended-so : {threads objects : ℕ} {n : ℕ} (event : Event) (before after : Table) (lists lists-after : ListTable) → Represents threads objects before lists
@@ -101,6 +104,11 @@ module _ (request : FreshRequest) (in-range : InRange request) (events : List Ev
       let (represents, sound, same) = schedule-represents request in-range events in
       rw (from-fresh .0) (represented-sound (request .threads) (request .objects) _ _ (in-range .0) (in-range .2) represents sound)
 
+  pub reached-well-typed : WellTyped (final-of (fresh-of request .table) events)
+  reached-well-typed =
+      let (represents, sound, same) = schedule-represents request in-range events in
+      rw (from-fresh .0) (represented-well-typed (request .threads) (request .objects) _ _ represents sound)
+
 pub demand-three : DemandThree
 demand-three request in-range events =
     let (last, shown) = from-fresh request in-range events in (
@@ -121,6 +129,15 @@ exits-wait-for-busy-holder request in-range events =
 -- which is more than was asked
 pub exits-wait-for-holder : ExitsWaitForHolder
 exits-wait-for-holder request in-range events n parked = exits-wait-for-busy-holder request in-range events n parked .0
+
+-- a free number is as new
+pub free-numbers-as-new : FreeNumbersAsNew
+free-numbers-as-new request in-range events =
+    let (represents, sound, same) = schedule-represents request in-range events in
+    subst (λ (table : Table). (o : ℕ) → FreeNumber table o → AsNew table o) (sym (from-fresh request in-range events .0))
+    (represents-as-new (request .threads) (request .objects) _ _ represents sound _
+    (world-run (request .threads) (request .objects) events (fresh (request .reserved)) blank (world-fresh (request .reserved)))
+    (schedule-attended (request .threads) (request .objects) (request .reserved) events))
 
 -- what an event makes of a sound table represents sound lists again
 pub event-represents : (t : Table) → WellTyped t → sound-of t ≡ true → (event : Event)

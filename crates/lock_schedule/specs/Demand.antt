@@ -15,6 +15,7 @@ use Rattle.lock_table.specs.declared.record.Table.{Table}
 use Rattle.lock_soundness.specs.Sound.{sound-of}
 use Rattle.lock_records.specs.Agrees.{Agrees, Ruled}
 use Rattle.lock_records.specs.ExitsWait.{ParkedInExit, WaitsForHolder, WaitsForBusyHolder}
+use Rattle.lock_records.specs.AsNew.{FreeNumber, AsNew}
 use Rattle.lock_engine.specs.Handle.{handle}
 use Rattle.lock_schedule.specs.Schedule.{reply-shown, final-of, shown-of}
 
@@ -54,6 +55,10 @@ ExitsWaitForHolder = AfterSchedules (λ table. (n : ℕ) → ParkedInExit table 
 -- and that thread is at work on that object
 abbrev pub ExitsWaitForBusyHolder : Type 0
 ExitsWaitForBusyHolder = AfterSchedules (λ table. (n : ℕ) → ParkedInExit table n → WaitsForBusyHolder table n)
+
+-- A number that nobody owns and at which no thread has an operation may go to another object (ours).
+abbrev pub FreeNumbersAsNew : Type 0
+FreeNumbersAsNew = AfterSchedules (λ table. (o : ℕ) → FreeNumber table o → AsNew table o)
 
 -- Every event on any sound table, reached by a schedule or not, gives a sound table.
 abbrev pub SoundKept : Type 0

@@ -19,8 +19,7 @@ use Rattle.lock_gate.specs.Status.{thread-status}
 use Rattle.lock_engine.specs.Handle.{handle-trusting, handle}
 use Rattle.lock_engine.specs.declared.outcome.Outcome.{Outcome}
 use Rattle.lock_engine.proofs.Refused.{handle-shut}
-use Rattle.lock_schedule.proofs.FreshWellTyped.{fresh-well-typed}
-use Rattle.lock_schedule.proofs.Theorem.{reached-sound, sound-kept, well-typed-kept}
+use Rattle.lock_schedule.proofs.Theorem.{reached-sound, reached-well-typed, sound-kept, well-typed-kept}
 use Rattle.replay_lines.specs.declared.reading.Line.{Line}
 use Rattle.replay_lines.specs.declared.reading.Line.the-variants.{Header, Begin, Step, Tick, BadHeader, Malformed}
 use Rattle.replay_stream.proofs.Numbers.{narrow-begun, narrow-stepped}
@@ -97,7 +96,7 @@ opens request = at (fresh-either request)
     at : InRange request ⊎ (fresh-of request ≡ refused-of) → Opens (fresh-of request)
     at (inl in-range) =
         let made = fresh-made request in-range in
-        rw made (rw made at (reached-sound request in-range []), rw made at (fresh-well-typed request in-range))
+        rw made (rw made at (reached-sound request in-range []), rw made at (reached-well-typed request in-range []))
     at (inr refused) = rw refused (refl, tt)
 
 open-kept : (table : Table) (line : Line) → let session = open-by table line .session in (session-sound session ≡ true) × WellTypedBy (session .stage) (session .table)

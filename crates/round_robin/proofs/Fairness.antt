@@ -11,6 +11,7 @@ use Rattle.laws.specs.Choice.{pick}
 use Rattle.laws.proofs.Choice.{false≢true, equal?}
 use Rattle.round_robin.specs.Dispatch.{Tried, Step, Ran, still, taken, with-step, followed, none, turn, turns, round, run}
 use Rattle.round_robin.specs.Fair.{Served, Prompt, Fair}
+use Rattle.round_robin.specs.Rounds.{LastIsStill}
 use Rattle.round_robin.proofs.Machine.{IsThread, Ending, Fairly, Along}
 use Rattle.round_robin.proofs.Runs.{turn-along, round-along, run-along}
 use Rattle.round_robin.proofs.Served.{served-at-once, served-more, gap, gap-next, gap-most, gap-again, turns-fit}
@@ -93,6 +94,23 @@ module _ {W E : Type 0} {threads : ℕ} {try : ℕ → W → Tried W E} {Good : 
           → none (round try q threads (pick b opening (followed opening (run try q threads rounds)) .world) .steps) ≡ true
       at true e go = subst (λ (x : W). none (round try q threads x .steps) ≡ true) (sym (turns-still some threads 1 (omega arith) (omega arith) w fine e .0)) e
       at false e go = go (let long = some-long (opening .steps) e in omega (arith, long, spent .1, enough))
+
+  -- and its last round took none
+  pub run-last-still : (rounds : ℕ) (w : W) → Good w → size w < rounds → (before : ℕ) × LastIsStill try q threads before w (run try q threads rounds w)
+  unfolding run
+  run-last-still zero w fine enough = absurd (omega (arith, enough))
+  run-last-still (suc rounds) w fine enough =
+      let first = round try q threads w in
+      let (good, fell) = round-along spending q w fine in
+      at (none (first .steps)) refl
+      (λ moved. let long = some-long (first .steps) moved in run-last-still rounds (first .world) good (omega (arith, long, fell, enough)))
+    where
+      at : (b : Bool) → none (round try q threads w .steps) ≡ b
+          → let first = round try q threads w in
+          (none (first .steps) ≡ false → (before : ℕ) × LastIsStill try q threads before (first .world) (run try q threads rounds (first .world)))
+          → (before : ℕ) × LastIsStill try q threads before w (pick b first (followed first (run try q threads rounds)))
+      at true ended go = (0, (ended, refl))
+      at false moved go = let (before, last) = go moved in (suc before, (moved, (run try q threads rounds (round try q threads w .world), last, refl)))
 
 module _ {W E : Type 0} {threads : ℕ} {try : ℕ → W → Tried W E} {ready : ℕ → W → Bool} {Good : W → Type 0} {size : W → ℕ} (ending : Ending threads try Good size) (fairly : Fairly threads try ready Good) (q : ℕ) where
   -- ---- fairness, with a bound for each thread

@@ -154,5 +154,5 @@ module _ (states : ℕ → ThreadState) (o : ListObject) (t : ℕ) where
       let same = same-bounded word word (λ clear. clear) in
       let then = then-bounded word word (λ clear. clear) in
       by-tick states o (λ result. Bounded word (states t) (result .object .word) (result .states t)) (same (states t))
-      (then (handed-states (after .states) (after .object) t) expires (handing-bounded word word (λ clear. clear) (after .states) (after .object) t))
+      (λ free. then (handed-states (after .states) (after .object) t) expires (handing-bounded word word (λ clear. clear) (after .states) (after .object) t))
       (λ held. then (after .states t) expires (same (after .states t)))

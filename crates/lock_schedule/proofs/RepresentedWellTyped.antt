@@ -1,4 +1,4 @@
--- What represents a sound table with lists is well typed; so a fresh table is.
+-- What represents a sound table with lists is well typed.
 use Prim.Native.Nat.{ℕ, _≤_}
 use mathlib.Core.Path.{_≡_, sym, subst}
 use mathlib.Core.Logic.{_≢_, _⊎_, inl, inr}
@@ -6,14 +6,12 @@ use mathlib.Core.Bool.{Bool, true, false}
 use native.Mathlib.Omega.{arith}
 use lib.Dec.{leb}
 use Rattle.laws.proofs.Choice.{equal?, AtMost, at-most}
-use Rattle.lock_rules.proofs.Tables.{ListTable, fresh}
-use Rattle.lock_rules.proofs.{ListSound.SoundTable, SoundKept.sound-fresh}
+use Rattle.lock_rules.proofs.Tables.{ListTable}
+use Rattle.lock_rules.proofs.{ListSound.SoundTable}
 use Rattle.lock_word.specs.Depth.{depth-limit}
 use Rattle.lock_table.specs.{Access.object-at, WellTyped.WellTyped}
-use Rattle.lock_table.specs.Fresh.{InRange, fresh-of}
-use Rattle.lock_table.specs.declared.fresh_table.FreshRequest.{FreshRequest}
 use Rattle.lock_table.specs.declared.record.{ObjectRecord.ObjectRecord, Table.Table}
-use Rattle.lock_records.proofs.{Represents.Represents, FreshRecords.fresh-represents}
+use Rattle.lock_records.proofs.{Represents.Represents}
 
 abbrev DepthFits : ObjectRecord → Type 0
 DepthFits object = object .monitor .depth ≤ depth-limit
@@ -30,8 +28,3 @@ represented-well-typed threads objects t lists represents sound =
     at o (inl none) used is = subst (λ (n : ℕ). DepthFits (object-at t n)) (sym none) (none-fits t)
     at o (inr some) true inside = subst DepthFits (sym (represents .object-is o (omega (arith, some)) inside)) (sound .sound o .deep)
     at o (inr some) false past = subst DepthFits (sym (represents .object-past o past)) (omega arith)
-
-pub fresh-well-typed : (request : FreshRequest) → InRange request → WellTyped (fresh-of request .table)
-fresh-well-typed request in-range =
-    represented-well-typed (request .threads) (request .objects) (fresh-of request .table) (fresh (request .reserved)) (fresh-represents request in-range)
-    (sound-fresh (request .threads) (request .objects) (request .reserved))

@@ -1,0 +1,56 @@
+-- Mutual exclusion: how often a thread is inside is what the plain monitors say, and these agree with the engine.
+use Prim.Native.Nat.{ℕ, _≤_, _<_}
+use mathlib.Core.Path.{_≡_, sym, _∙_, subst}
+use mathlib.Core.Logic.{_≢_}
+use mathlib.Core.List.{List}
+use native.Mathlib.Omega.{arith}
+use lib.Dec.{eqb}
+use Rattle.laws.specs.Choice.{pick}
+use Rattle.laws.proofs.Choice.{by-equal}
+use Rattle.lock_rules.specs.Events.{Shown}
+use Rattle.lock_rules.specs.Feed.{Plain, feed-all, blank}
+use Rattle.lock_rules.specs.PlainMonitor.{PlainMonitor}
+use Rattle.lock_rules.specs.Presence.{absent, presence-run, times-inside}
+use Rattle.lock_rules.specs.declared.event.Event.{Event}
+use Rattle.lock_rules.proofs.Tables.{fresh}
+use Rattle.lock_rules.proofs.Lift.{world-fresh}
+use Rattle.lock_rules.proofs.SoundKept.{sound-fresh}
+use Rattle.lock_rules.proofs.Presence.{owned, Matches, run-matches, blank-matches}
+use Rattle.lock_table.specs.Fresh.{InRange, fresh-of}
+use Rattle.lock_table.specs.declared.fresh_table.FreshRequest.{FreshRequest}
+use Rattle.lock_records.proofs.Claim.{schedule-represents}
+use Rattle.lock_schedule.specs.Schedule.{shown-of}
+use Rattle.lock_schedule.specs.MutualExclusion.{MutualExclusion, InsideIsDepth}
+use Rattle.lock_schedule.proofs.Theorem.{from-fresh, demand-three}
+
+-- whom a plain monitor has as owner is one thread
+owned-one : (t : ℕ) (monitor : PlainMonitor) → 0 < owned t monitor → monitor .owner ≡ t
+owned-one t monitor = by-equal (λ depth. 0 < depth → monitor .owner ≡ t) (monitor .owner) t (λ e some. e) (λ other none. absurd (omega (arith, none)))
+
+module _ (request : FreshRequest) (in-range : InRange request) (events : List Event) (o : ℕ) where
+  abbrev shown : List Shown
+  shown = shown-of (fresh-of request .table) events
+
+  abbrev plain : Plain
+  plain = feed-all blank shown
+
+  inside-is : (t : ℕ) → 1 ≤ t → times-inside t o shown ≡ owned t (plain .monitors o)
+  inside-is t low =
+      let real : t ≢ 0 = λ e. omega (arith, low, e) in
+      let (represents, sound, same) = schedule-represents request in-range events in
+      let shows = from-fresh request in-range events .1 ∙ same in
+      subst (λ (list : List Shown). Matches t o (presence-run t o absent list) (feed-all blank list)) (sym shows)
+      (run-matches (request .threads) (request .objects) events (fresh (request .reserved)) blank t o real absent
+      (sound-fresh (request .threads) (request .objects) (request .reserved)) (world-fresh (request .reserved)) (blank-matches t o real)) .holds .inside
+
+pub mutual-exclusion : MutualExclusion
+mutual-exclusion request in-range events o t u low real inside there =
+    let monitor = plain request in-range events o .monitors o in
+    sym (owned-one t monitor (subst (λ (n : ℕ). 0 < n) (inside-is request in-range events o t low) inside))
+    ∙ owned-one u monitor (subst (λ (n : ℕ). 0 < n) (inside-is request in-range events o u real) there)
+
+pub inside-is-depth : InsideIsDepth
+inside-is-depth request in-range events o t real small low =
+    let (represents, sound, same) = schedule-represents request in-range events in
+    let (owner, depth) = demand-three request in-range events .0 .owners o real (rw (from-fresh request in-range events .0, represents .objectcount) small) in
+    inside-is request in-range events o t low ∙ (λ j. pick (eqb (owner j) t) (depth j) 0)
