@@ -1,58 +1,13 @@
 #!/bin/sh
 # When the scripts ./replay, ./report, ./explain and ./timeline build: where the program is missing or a source is newer, once for two calls, never two
-# at once, and not without rt. It needs no program and calls no rt of the kit and no cargo. tests/program_builds.sh; the last line is 'N passed, M failed'.
+# at once, and not without rt; and what they say meanwhile. Which calls build nothing: program_calls.sh. It needs no program and calls no rt of the kit
+# and no cargo. tests/program_builds.sh; the last line is 'N passed, M failed'.
 set -u
 . "$(dirname "$0")/counting.sh"
 here=$(cd "$(dirname "$0")/.." && pwd -P) || exit 2
-work=$(mktemp -d) || exit 2
-trap 'rm -rf "$work"' EXIT
+. "$(dirname "$0")/program_copy.sh"
 
-listing=$here/examples/listing.txt
-
-# The first line of the output of a call and its status.
-outcome() {
-    "$@" >"$work/output" 2>"$work/said"
-    status=$?
-    echo "$(head -n 1 "$work/output") $status"
-}
-
-# A copy with an rt that only says what it is asked, and whether it is asked while it is still at work, and such a cargo.
-copy() {
-    mkdir -p "$work/copy/target/bin" "$work/copy/crates/replay/src" "$work/copy/tools" "$work/bin"
-    for package in duskclamp schedule_view; do
-        mkdir -p "$work/copy/rust/$package/src"
-        : >"$work/copy/rust/$package/Cargo.toml"
-    done
-    : >"$work/copy/rust/duskclamp/build.rs"
-    cp "$here/replay" "$here/report" "$here/explain" "$here/timeline" "$work/copy"
-    cp "$here/tools/program.sh" "$here/tools/proved.sh" "$here/tools/view.sh" "$work/copy/tools"
-    printf 'replay: io\nreport: io\nlock_engine_c:\n' >"$work/copy/crates.txt"
-    echo source >"$work/copy/crates/replay/src/main.rt"
-    cat >"$work/bin/rt" <<'RT'
-#!/bin/sh
-case $1 in version) echo a kit; exit ;; esac
-mkdir ../busy || echo "rt: $* beside another" >>../beside
-echo "rt: $*" >>../asked
-[ ! -e ../slow ] || sleep 1
-rmdir ../busy
-[ ! -e ../fails ] || { echo "rt: $2 NOT PROVED"; exit 1; }
-mkdir -p target/log target/staticlib
-echo "rt: $2 proved (1 s)" >"target/log/$2.out"
-case $1 in staticlib) : >"target/staticlib/lib$2.a" ;; esac
-printf '#!/bin/sh\nprintf 0 >&3\n' >"target/bin/$2"
-chmod +x "target/bin/$2"
-RT
-    cat >"$work/bin/cargo" <<'CARGO'
-#!/bin/sh
-echo "cargo: $1" >>../built
-mkdir -p target/view/release
-for program in explain timeline; do
-    printf '#!/bin/sh\nprintf "%%s" "$*"\n' >"target/view/release/$program"
-    chmod +x "target/view/release/$program"
-done
-CARGO
-    chmod +x "$work/bin/rt" "$work/bin/cargo"
-}
+quiet=$(sed -n 's/^quiet=\([0-9]*\) .*/\1/p' "$here/tools/program.sh")
 
 # What rt is asked for: the program's own crate, or the library that it stands on.
 proved() { case $name in replay | report) echo "$name" ;; *) echo lock_engine_c ;; esac; }
@@ -60,8 +15,8 @@ proved() { case $name in replay | report) echo "$name" ;; *) echo lock_engine_c 
 # How often it was.
 asked() { grep -c "^rt: .* $(proved)$" "$work/asked" 2>/dev/null; }
 
-# What a program prints here: that of a viewer its arguments.
-printed() { case $name in replay | report) ;; *) echo "$listing" ;; esac; }
+# The first line that a program prints here.
+printed() { case $name in replay | report) head -n 1 "$listing" ;; *) echo "$listing" ;; esac; }
 
 # Makes sources newer than the last build, by a touch of these files of the copy.
 newer() {
@@ -69,32 +24,95 @@ newer() {
     (cd "$work/copy" && touch "$@")
 }
 
+# All that is said of a build from nothing, with the number of seconds left out.
+whole_build() {
+    echo "$name: proving and building the program: .* where nothing is proved yet; target/[a-z]*.log has what rt says"
+    echo '\[1/2\] base (1 s)'
+    case $name in
+    replay | report) echo "\[2/2\] $name (1 s)" ;;
+    *)
+        echo "$name: proving lock_engine_c and compiling the library"
+        echo '\[2/2\] lock_engine_c'
+        echo "$name: compiling the programs in Rust"
+        ;;
+    esac
+    echo "$name: built, in [0-9]* s"
+}
+
+# From nothing: a line for each crate and each step, in this order, and no other; and where one takes long, what is being done. It is said first, before
+# rt is asked for anything.
+from_nothing() {
+    rm -rf "$work/copy/target"
+    outcome "$work/copy/$name" "$listing" >/dev/null
+    whole_build >"$work/whole"
+    check "$name: from nothing, what is said" "$(sed -n '$=' "$work/said")" "$(sed -n '$=' "$work/whole")"
+    while IFS= read -r line; do check "$name: from nothing, a line" "$(grep -c "^$line\$" "$work/said")" 1; done <"$work/whole"
+    rm -rf "$work/copy/target"
+    echo 4 >"$work/slow"
+    "$work/copy/$name" "$listing" >/dev/null 2>"$work/said" &
+    until [ -e "$work/busy" ]; do sleep 0.1; done
+    check "$name: said before anything is proved" "$(wc -l <"$work/said") $(said 'proving and building')" '1 1'
+    wait "$!"
+    rm "$work/slow"
+    check "$name: long at a crate" "$(said 'still proving base, for [2-4] s$' | sed 's/[1-9]/some/')" some
+    case $name in replay | report) return ;; esac
+    check "$name: long at the library" "$(said 'still proving lock_engine_c and compiling the library, for [2-4] s$' | sed 's/[1-9]/some/')" some
+    check "$name: long at what is in Rust" "$(said 'still compiling the programs in Rust, for [2-4] s$' | sed 's/[1-9]/some/')" some
+}
+
 builds() {
+    rm -rf "$work/copy/target"
     : >"$work/asked"
     script=$work/copy/$name
-    check "$name: built where it is missing" "$(outcome "$script" "$listing") $(asked) $(grep -c "^\[1/1\] $(proved)$" "$work/said")" "$(printed) 0 1 1"
-    check "$name: not built again" "$(outcome "$script" "$listing") $(asked)" "$(printed) 0 1"
+    check "$name: built where it is missing" "$(outcome "$script" "$listing") $(asked)" "$(printed) 0 1"
+    check "$name: not built again" "$(outcome "$script" "$listing") $(asked) $(wc -c <"$work/said")" "$(printed) 0 1 0"
     newer crates/replay/src/main.rt
     check "$name: built again after a change" "$(outcome "$script" "$listing") $(asked)" "$(printed) 0 2"
+    check "$name: no crate is said to be proved that was before" "$(grep -c '\] base' "$work/said")" 0
     newer crates/replay/src/more.rt && rm "$work/copy/crates/replay/src/more.rt"
     check "$name: built again after a file is gone" "$(outcome "$script" "$listing") $(asked)" "$(printed) 0 3"
-    newer crates.txt ../slow
+    newer crates.txt && echo 1 >"$work/slow"
     "$script" "$listing" >/dev/null 2>&1 &
     check "$name: two calls at once build once" "$(outcome "$script" "$listing") $(asked)" "$(printed) 0 4"
     wait "$!"
     check "$name: and both are answered" "$?" 0
     rm "$work/slow"
     newer crates.txt ../fails
-    check "$name: a build that fails" "$(outcome "$script" "$listing") $(asked)" ' 1 5'
-    check "$name: and is tried again" "$(outcome "$script" "$listing") $(asked)" ' 1 6'
-    check "$name: and says where to read on" "$(grep -c "^$name: .*target/[a-z]*.log has all" "$work/said")" 1
+    check "$name: a build that fails" "$(outcome "$script" "$listing") $(grep -c 'NOT PROVED' "$work/said")" ' 1 1'
+    check "$name: and is tried again" "$(outcome "$script" "$listing") $(wc -l <"$work/asked")" " 1 $(tries)"
+    check "$name: and says where to read on" "$(said '.*target/[a-z]*.log has all')" 1
     rm "$work/fails"
 }
 
-copy
+# How often rt is asked in these builds: for a library twice, first for the crates below it, where it fails.
+tries() { case $name in replay | report) echo 6 ;; *) echo 10 ;; esac; }
+
+# Another kit is tried all the same, and it is said what came of it.
+other_kit() {
+    rm -rf "$work/copy/target"
+    check "$name: the kit that is named" "$(outcome "$work/copy/$name" "$listing") $(said '.*kit')" "$(printed) 0 0"
+    rm -rf "$work/copy/target"
+    echo 'another-kit logic 0' >"$work/version"
+    before="the kit found is 'another-kit logic 0', and the proofs were checked with '$kit': trying all the same\$"
+    after="all 2 crates that the program needs were proved with the kit found, 'another-kit logic 0'\$"
+    check "$name: another kit" "$(outcome "$work/copy/$name" "$listing") $(said "$before") $(said "$after")" "$(printed) 0 1 1"
+    newer crates.txt ../fails
+    check "$name: another kit, by which it is not proved" "$(outcome "$work/copy/$name" "$listing") $(said "$before") $(said "$after")" ' 1 1 0'
+    rm "$work/fails"
+    : >"$work/version"
+    check "$name: a kit without a name" "$(outcome "$work/copy/$name" "$listing") $(said "the kit found is '', .*: trying all the same\$")" "$(printed) 0 1"
+    echo "$kit" >"$work/version"
+}
+
 kit_path=$PATH
 PATH=$work/bin:$PATH
 for name in replay report explain; do builds; done
+for name in replay report explain timeline; do
+    from_nothing
+    other_kit
+done
+check 'something is said every minute' "$([ "$quiet" -gt 0 ] && [ "$quiet" -le 60 ] && echo yes)" yes
+check 'the kit is named once' "$(grep -rhoI --exclude-dir=.git --exclude-dir=target 'rattle-kit-[0-9a-z-]* logic [0-9a-f]*' "$here")" "$kit"
 
 # A change of what is in Rust builds the viewers again, both by one build, and proves nothing.
 outcome "$work/copy/explain" "$listing" >/dev/null
@@ -106,14 +124,14 @@ check 'timeline: nothing is proved for that' "$(grep -c '^\[' "$work/said") $(wc
 check 'explain: built with it' "$(outcome "$work/copy/explain" "$listing") $(cat "$work/built")" "$listing 0 cargo: build"
 
 # A source that is saved while the library is being proved is seen by the next call.
-newer crates.txt ../slow
+newer crates.txt && echo 1 >"$work/slow"
 "$work/copy/explain" "$listing" >/dev/null 2>&1 &
 until [ -e "$work/busy" ]; do sleep 0.1; done
 touch "$work/copy/crates/replay/src/main.rt"
 wait "$!"
 : >"$work/asked"
 outcome "$work/copy/explain" "$listing" >/dev/null
-check 'explain: a source saved while it is built' "$(cat "$work/asked")" 'rt: staticlib lock_engine_c'
+check 'explain: a source saved while it is built' "$(tr '\n' ';' <"$work/asked")" 'rt: check base;rt: staticlib lock_engine_c;'
 rm "$work/slow"
 
 # Without cargo they are not built, and it is said.
@@ -124,18 +142,22 @@ rm -f "$work/without/cargo"
 check 'explain: no cargo' "$(PATH=$work/without outcome "$work/copy/explain" "$listing") $(grep -c 'cargo is not found' "$work/said")" ' 1 1'
 
 # Each program is built by its own call, and one behind the other.
-newer crates.txt ../slow
+newer crates.txt && echo 4 >"$work/slow"
 : >"$work/asked"
-"$work/copy/replay" "$listing" 2>/dev/null &
-check 'both at once: the second is answered' "$(outcome "$work/copy/report" "$listing")" ' 0'
+"$work/copy/replay" "$listing" >/dev/null 2>&1 &
+until [ -e "$work/busy" ]; do sleep 0.1; done
+name=report
+check 'both at once: the second is answered' "$(outcome "$work/copy/report" "$listing")" "$(printed) 0"
+check 'both at once: it waits' "$(said 'another build is under way') $(said 'still waiting for the other build, for 2 s$')" '1 1'
 wait "$!"
 check 'both at once: the first is answered' "$?" 0
 check 'both at once: each is built' "$(sort "$work/asked" | tr '\n' ';')" 'rt: check replay;rt: check report;'
 check 'no build beside another' "$(cat "$work/beside" 2>/dev/null)" ''
+rm "$work/slow"
 
 newer crates.txt
 PATH=$(echo "$kit_path" | tr ':' '\n' | while IFS= read -r place; do [ -x "$place/rt" ] || printf '%s:' "$place"; done)
 for name in replay report explain timeline; do
-    check "$name: no kit" "$(outcome "$work/copy/$name" "$listing") $(grep -c "^$name: .*the Rattle kit (rattle-kit-" "$work/said")" ' 1 1'
+    check "$name: no kit" "$(outcome "$work/copy/$name" "$listing") $(said ".*the Rattle kit ($kit)")" ' 1 1'
 done
 finish

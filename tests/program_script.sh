@@ -1,6 +1,6 @@
 #!/bin/sh
-# The scripts ./replay, ./report, ./explain and ./timeline over programs that are built: their statuses, their arguments and a link to them. When they
-# build again: program_builds.sh. tests/program_script.sh; the last line is 'N passed, M failed'.
+# The scripts ./replay, ./report, ./explain and ./timeline over programs that are built: their statuses, what they say of them, and a link to them. Their
+# arguments: program_calls.sh; when they build again: program_builds.sh. tests/program_script.sh; the last line is 'N passed, M failed'.
 set -u
 . "$(dirname "$0")/counting.sh"
 here=$(cd "$(dirname "$0")/.." && pwd -P) || exit 2
@@ -25,14 +25,20 @@ calls() {
     check "$name: a link in PATH" "$(PATH=$work:$PATH && outcome second "$input")" 'whole 0'
 }
 
+# The lines that are said, and those of them that say what status 3 means where $1 is printed.
+told_early() { echo "$(wc -l <"$work/said") $(grep -c "^$name: ended with status 3: .*($1 was printed)" "$work/said")"; }
+
 # $1 and $2: what is printed before the run ends early, without a header and with sizes out of range.
 statuses() {
     check "$name: endless, no header" "$(yes | outcome timeout 20 "$script")" "$1 3"
+    check "$name: and it says what that means" "$(told_early "$1")" "1 1"
     check "$name: endless, sizes out of range" "$({ echo 'L 33 1 0'; yes; } | outcome timeout 20 "$script")" "$2 3"
-    check "$name: a folder" "$(outcome "$script" "$here")" ' 4'
+    check "$name: and it says what that means" "$(told_early "$2")" "1 1"
+    check "$name: a folder" "$(outcome "$script" <"$here")" ' 4'
     check "$name: and it says who could not read" "$(grep -c "^$name: " "$work/said")" 1
-    "$script" "$input" >/dev/full 2>/dev/null
+    "$script" "$input" >/dev/full 2>"$work/said"
     check "$name: a full device" "$?" 5
+    check "$name: and it says why" "$(cat "$work/said")" "$name: standard output: No space left on device"
     "$script" "$input" >&- 2>/dev/null
     check "$name: no standard output" "$?" 5
     check "$name: no standard input" "$(outcome "$script" <&-)" ' 4'
@@ -52,22 +58,26 @@ ended() {
 }
 
 # $1: the number that is printed where the run ends early.
-arguments() {
-    check "$name: no such file" "$(outcome "$script" "$work/none")" ' 2'
-    check "$name: and it says so by its name" "$(cat "$work/said")" "$name: $work/none cannot be opened"
-    check "$name: an option that there is not" "$(outcome "$script" --fast)" ' 2'
-    check "$name: two files" "$(outcome "$script" "$input" "$input")" ' 2'
+help() {
     check "$name: help" "$(outcome "$script" --help)" "usage: ./$name [FILE] 0"
     check "$name: and it says what status 3 means here" "$(grep -c "^ *3 .*$1 was printed" "$work/output")" 1
 }
 
-# The viewers read their arguments themselves; rust/schedule_view/tests has the rest of their statuses.
+# A report of nothing is as it was, and it is said that no schedule was there; nothing is said of an empty schedule.
+headless() {
+    nothing='0 0 0 0 0 0 0 0 0 0 0 0 0 0 0 0'
+    for input in '' 'E 1 1\nS 1\n' 'L 33 1 0\nE 1 1\n' 'L 1 1 0'; do
+        check "report: no good header in '$input'" "$(printf "$input" | outcome "$script") $(wc -l <"$work/output")" "$nothing 0 1"
+        check 'report: and it says so' "$(wc -l <"$work/said") $(grep -c '^report: no good header is in the input' "$work/said")" '1 1'
+    done
+    check 'report: a header alone' "$(printf 'L 1 1 0\n' | outcome "$script") $(wc -l <"$work/output") $(wc -c <"$work/said")" "1${nothing#0} 0 2 0"
+}
+
+# rust/schedule_view/tests has the rest of the viewers' statuses.
 viewer() {
-    check "$name: a folder" "$(outcome "$script" "$here")" ' 4'
+    check "$name: a folder" "$(outcome "$script" <"$here")" ' 4'
     check "$name: and it says who could not read" "$(grep -c "^$name: " "$work/said")" 1
-    check "$name: no such file" "$(outcome "$script" "$work/none")" ' 2'
-    check "$name: an option that there is not" "$(outcome "$script" --fast)" ' 2'
-    check "$name: help" "$(outcome "$script" --help | sed 's/\[.*\]//')" "usage: ./$name  0"
+    check "$name: a header that is bad" "$(echo x | outcome "$script" | sed 's/.* //')" 3
     "$script" "$input" >&- 2>/dev/null
     check "$name: no standard output" "$?" 5
     check "$name: no standard input" "$(outcome "$script" <&-)" ' 4'
@@ -87,12 +97,14 @@ for name in replay report; do
     esac
     calls
     statuses $early
-    arguments "${early#* }"
+    help "${early#* }"
 done
+headless
 name=explain script=$here/explain input=$here/examples/cancelled-before-store.txt expected=$here/examples/cancelled-before-store.explained
 calls
 viewer
 name=timeline script=$here/timeline expected=$here/docs/pictures/cancelled-before-store.svg
 check 'timeline: built with explain, and draws' "$(outcome "$script" --svg "$input") $(wc -c <"$work/said")" 'whole 0 0'
+check 'timeline: every option, in another form' "$(outcome "$script" --svg --lines=1- --schedule=1 -- "$input" | sed 's/.* //')" 0
 viewer
 finish

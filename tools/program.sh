@@ -1,23 +1,26 @@
-# What ./replay, ./report, ./explain and ./timeline share: proves and builds the program where it is missing or a source is newer, and runs it. Before
-# this file is read, the scripts, and tools/proved.sh for the proved programs and tools/view.sh for those in Rust, have set
+# What ./replay, ./report, ./explain and ./timeline share: tests what was asked for, proves and builds the program where it is missing or a source is
+# newer, and runs it. Before this file is read, the scripts, and tools/proved.sh for the proved programs and tools/view.sh for those in Rust, have set
 #     name, here        the program's, and the top of the repository
-#     about, options    what --help says of it, and what it takes
+#     about, options    what --help says of it, and how it is called
+#     takes             the options that it has beside --help
 #     ended_early       what status 3 means
 #     build_time        from nothing
 #     crate, sources    what is proved, and what the program is built from
 #     program, stamp    its file, and the name under which a build is remembered; programs that are built together have one
-#     takes_arguments   whether it reads them, and files, itself
 #     proves            whether rt has anything to do
 #     make_program      what builds it, in the top folder
+#     open_file         opens the file that is to be read, if that is not the program's to do
+#     start             runs the program, and ends with its status
 set -u
-kit='rattle-kit-5b logic 064da1ca440f63e7' # what `rt version` prints of the kit that the proofs are written for
+kit='rattle-kit-5b-plain logic 097e4c862dff5811' # what `rt version` prints of the kit that the proofs were checked with; it is named nowhere else
+quiet=30                                         # seconds of a build after which something is said in any case
 
 usage() {
     cat <<TEXT
 usage: ./$name $options
 
 $about
-docs/REFERENCE.md has the format.
+FILE may be -, which is standard input; behind -- a name may begin with a hyphen. docs/REFERENCE.md has the format.
 
 The first call proves and builds the program; later calls start at once, and build again where a source is newer.
 
@@ -33,18 +36,109 @@ TEXT
 
 say() { printf '%s: %s\n' "$name" "$*" >&2; }
 
-# The crates that the program needs, itself last.
+# Ends where the call is another than there is.
+misused() {
+    say "$*"
+    printf 'usage: ./%s %s\n./%s --help says more\n' "$name" "$options" "$name" >&2
+    exit 2
+}
+
+# Whether it is a number from 1 on; one of more digits would not fit everywhere.
+positive() {
+    case $1 in '' | *[!0-9]* | ???????????????????*) return 1 ;; esac
+    [ "$1" -gt 0 ]
+}
+
+# `N`, `FROM-TO` or `FROM-`, as FROM-TO or FROM-.
+range() {
+    from=${1%%-*} to=${1#*-}
+    positive "$from" || return 1
+    [ -z "$to" ] || { positive "$to" && [ "$from" -le "$to" ]; } || return 1
+    echo "$from-$to"
+}
+
+# Takes an option, and its value where it has one.
+option() {
+    case " $takes " in *" $1 "*) ;; *) misused "there is no option $1" ;; esac
+    case $1 in
+    --svg) svg=yes ;;
+    --lines) lines=$(range "$2") || misused "--lines takes N, FROM-TO or FROM-, counted from 1, and not '$2'" ;;
+    --schedule)
+        positive "$2" || misused "--schedule takes a number from 1 on, and not '$2'"
+        schedule=$2
+        ;;
+    esac
+}
+
+one_file() {
+    [ -z "$named" ] || misused "one FILE at most is read, and '$1' is one more"
+    file=$1 named=yes
+}
+
+# Reads the arguments: here alone, so that nothing is built for a call that is wrong.
+arguments() {
+    svg='' lines='' schedule='' file=- named=''
+    while [ $# -gt 0 ]; do
+        case $1 in
+        --help | -h) usage && exit 0 ;;
+        --) shift && break ;;
+        --lines=* | --schedule=*) option "${1%%=*}" "${1#*=}" ;;
+        --lines | --schedule)
+            option "$1" "${2-}"
+            shift
+            ;;
+        --svg) option "$1" ;;
+        -?*) misused "there is no option $1" ;;
+        *) one_file "$1" ;;
+        esac
+        shift
+    done
+    for argument; do one_file "$argument"; done
+}
+
+# Ends where the file cannot be opened. It is not tried, since the writer of a pipe would take that for its reader.
+file_there() {
+    if [ -d "$file" ]; then
+        why='it is a folder'
+    elif [ -r "$file" ]; then
+        return 0
+    elif [ -e "$file" ]; then
+        why='permission denied'
+    else
+        why=$(LC_ALL=C ls -dL -- "$file" 2>&1 >/dev/null | sed 's/.*: //')
+    fi
+    say "$file cannot be opened: $why"
+    exit 2
+}
+
+# Ends where there is nowhere to write, or nothing to read from.
+streams_open() {
+    if ! { true 6>&1; } 2>/dev/null; then
+        say 'standard output is closed'
+        exit 5
+    fi
+    [ "$file" = - ] || return 0
+    if ! { true 6<&0; } 2>/dev/null; then
+        say 'standard input is closed'
+        exit 4
+    fi
+}
+
+# The crates that the program needs, as LEVEL:NAME, itself last. A level needs only those before it, and rt proves one level after the other.
 needed() {
     awk -v name="$crate" 'function visit(n,    a, k, m) {
-            if (n in seen) return
-            seen[n] = 1
+            if (n in level) return
+            level[n] = 0
             m = split(deps[n], a, " ")
-            for (k = 1; k <= m; k++) if (a[k] in deps) visit(a[k])
-            print n
+            for (k = 1; k <= m; k++) if (a[k] in deps) {
+                visit(a[k])
+                if (level[n] <= level[a[k]]) level[n] = level[a[k]] + 1
+            }
+            print level[n] ":" n
         }
         { sub(/#.*/, "") }
         NF { split($0, part, ":"); gsub(/[ \t]/, "", part[1]); deps[part[1]] = part[2] }
-        END { visit(name) }' crates.txt
+        END { visit(name) }' crates.txt | sort -s -t : -n -k 1,1
 }
 
 # Whether a source is newer than the program's last build, or gone; folders count, so that a file that is gone is seen.
@@ -52,35 +146,89 @@ stale() {
     [ ! -x "$program" ] || [ ! -f "$current" ] || [ -n "$(find $sources -newer "$current" -print | head -n 1)" ]
 }
 
-# Says which crates were proved anew: those of the running build, and once it is done the rest. Ends with the build, or with this script ($1).
+# What a build does beside proving crate after crate: a line of its log, from which `progress` says it.
+step() { echo "step: $*"; }
+
+# What the build is at: the last step; before any, the crates that rt has begun, as many of the lowest level that is not proved as it proves at a time.
+doing() {
+    level='' begun='' jobs=0
+    for item in $plan; do
+        case $proved in *" ${item#*:} "*) continue ;; esac
+        [ "${level:=${item%%:*}}" = "${item%%:*}" ] && [ "$jobs" -lt "$RT_JOBS" ] || break
+        begun="$begun ${item#*:}" jobs=$((jobs + 1))
+    done
+    [ -z "$begun" ] || begun="proving$begun"
+    [ -z "$at_step" ] || begun=$at_step
+    echo "${begun:-trying the program}"
+}
+
+# A crate that is proved, by its name, and how long that took. It is said once, and not where nothing was new.
+proved_now() {
+    case $proved in *" $1 "*) return 0 ;; esac
+    proved="$proved$1 " done=$((done + 1)) since=$now
+    case $2 in '(unchanged'*) return 0 ;; esac
+    spoke=$now
+    printf '[%d/%d] %s\n' "$done" "$total" "$1${2:+ $2}" >&2
+}
+
+# A line of the log. The crate of a static library is proved with it, and has no other line than the library's.
+follow() {
+    case $1 in
+    'rt: '*' proved ('*)
+        proved_name=${1#rt: }
+        proved_now "${proved_name%% *}" "(${1#* proved (}"
+        ;;
+    "rt: target/staticlib/lib$crate.a "*) proved_now "$crate" '' ;;
+    'step: '*)
+        at_step=${1#step: } since=$now spoke=$now
+        say "$at_step"
+        ;;
+    esac
+}
+
+# Says what the growing log tells, and, where that is nothing for a while, what is being done. Ends with the build, or with this script ($1).
 progress() {
-    crates=$(needed)
-    total=$(echo "$crates" | wc -l) done=0 left=$crates building=yes
+    plan=$(needed) proved=' ' done=0 at_step='' part='' building=yes
+    total=$(echo "$plan" | wc -l) now=$(date +%s)
+    since=$now spoke=$now
+    exec 8<"$log"
     while [ -n "$building" ] && kill -0 "$1" 2>/dev/null; do
         sleep 1
+        now=$(date +%s)
         [ -e "$began" ] || building=''
-        later=''
-        for crate in $left; do
-            said=target/log/$crate.out
-            if { [ -z "$building" ] || [ "$said" -nt "$began" ]; } && grep -q "^rt: $crate proved" "$said"; then
-                done=$((done + 1))
-                grep -q '(unchanged' "$said" || printf '[%d/%d] %s\n' "$done" "$total" "$crate" >&2
-            else
-                later="$later $crate"
-            fi
+        while IFS= read -r line <&8; do
+            follow "$part$line"
+            part=''
         done
-        left=$later
+        part=$part$line
+        if [ $((now - spoke)) -ge "$quiet" ]; then
+            spoke=$now
+            say "still $(doing), for $((now - since)) s"
+        fi
     done
+}
+
+# Ends where nothing can be built because nothing can be written.
+writable() {
+    mkdir -p target 2>/dev/null && [ -w target ] && { : >>target/build.lock; } 2>/dev/null && return 0
+    say "the program must be built first, and that writes to target/, which cannot be written here: copy the repository to a folder that you may write" \
+        "to, and call ./$name there"
+    exit 1
 }
 
 # One build at a time in this folder, of whichever program: two would spoil each other's. What a build that was broken off has left running still
 # holds the lock.
 alone() {
-    mkdir -p target && exec 9>target/build.lock || exit 1
+    exec 9>target/build.lock
     command -v flock >/dev/null || return 0
     flock -n 9 && return 0
     say 'another build is under way here: waiting for it'
-    flock 9 || exit 1
+    waited=0
+    until flock -n 9; do
+        sleep 1
+        waited=$((waited + 1))
+        [ $((waited % quiet)) -ne 0 ] || say "still waiting for the other build, for $waited s"
+    done
 }
 
 # Ends where the kit is not there; says where it is another.
@@ -89,31 +237,43 @@ kit_there() {
         say "the program must be proved and built first, and that needs the Rattle kit ($kit): its command rt is not found in PATH"
         exit 1
     fi
-    [ "$(rt version)" = "$kit" ] || say "the kit here is '$(rt version)'; the proofs are written for '$kit'"
+    found=$(rt version)
+    [ "$found" = "$kit" ] && return 0
+    other_kit="'$found'"
+    say "the kit found is $other_kit, and the proofs were checked with '$kit': trying all the same"
 }
 
-# Proves and builds. The time before the build counts as that of the program, so that a source saved meanwhile is seen as newer.
-build() {
-    if proves; then kit_there; fi
-    alone
-    stale || return 0
+# What is said before a build, and once it is done.
+announced() {
     if proves; then
         say "proving and building the program: $build_time where nothing is proved yet; $log has what rt says"
     else
         say "building the program; $log has what is said"
     fi
-    : >"$began" || exit 1
-    watcher=''
-    if proves; then
-        progress $$ &
-        watcher=$!
-    fi
+}
+
+completed() {
+    [ -z "$other_kit" ] || say "all $(needed | wc -l) crates that the program needs were proved with the kit found, $other_kit"
+    say "built, in $(($(date +%s) - start_time)) s"
+}
+
+# Proves and builds. The time before the build counts as that of the program, so that a source saved meanwhile is seen as newer.
+build() {
+    other_kit='' start_time=$(date +%s)
+    writable
+    if proves; then kit_there; fi
+    alone
+    stale || return 0
+    announced
+    : >"$log" && : >"$began" || exit 1
     # Crates are checked a layer at a time; more jobs than processors fill the gaps in a layer.
     export RT_JOBS="${RT_JOBS:-4}"
-    make_program >"$log" 2>&1 </dev/null
+    progress $$ &
+    watcher=$!
+    make_program >>"$log" 2>&1 </dev/null
     built=$?
     if [ "$built" -ne 0 ]; then
-        [ -z "$watcher" ] || kill "$watcher" 2>/dev/null
+        kill "$watcher" 2>/dev/null
         grep -E 'error|NOT PROVED|FAILED' "$log" | cut -c 1-200 | tail -n 20 >&2
         say "the program could not be proved or built; $log has all that was said"
         exit 1
@@ -122,69 +282,20 @@ build() {
         say "$began is gone: another build has taken it away"
         exit 1
     fi
-    [ -z "$watcher" ] || wait "$watcher"
-}
-
-# Ends with the status of a failed write where there is nowhere to write.
-output_open() {
-    { true 6>&1; } 2>/dev/null && return 0
-    say 'standard output is closed'
-    exit 5
-}
-
-# Runs the program with descriptor 3 open on a file, into which it writes one digit, the status. It runs in the background, so that a signal to
-# this script alone reaches it; a command there has no standard input but one that is handed to it.
-run() {
-    output_open
-    if ! { true 6<&0; } 2>/dev/null; then
-        say 'standard input is closed'
-        exit 4
-    fi
-    ending=$(mktemp) || exit 1
-    trap 'rm -f "$ending"' EXIT
-    exec 5<&0
-    "$1" 3>"$ending" <&5 5<&- &
-    running=$!
-    trap 'kill "$running" 2>/dev/null; exit 130' INT
-    trap 'kill "$running" 2>/dev/null; exit 143' TERM
-    wait "$running"
-    ended=$?
-    told=$(cat "$ending")
-    case $told in [0-9]) exit "$told" ;; esac
-    [ "$ended" -eq 0 ] || exit "$ended"
-    say 'the program ended and did not say how'
-    exit 1
-}
-
-# The proved programs read standard input alone: a file is opened for them.
-open_input() {
-    case ${1-} in -*) usage >&2 && exit 2 ;; esac
-    if [ $# -gt 1 ]; then
-        usage >&2
-        exit 2
-    fi
-    [ $# -eq 1 ] || return 0
-    if [ ! -r "$1" ]; then
-        say "$1 cannot be opened"
-        exit 2
-    fi
-    exec <"$1"
+    wait "$watcher"
+    completed
 }
 
 # Of the build, in the top folder. Each program that is built without another has its own.
 current=target/$stamp.current began=target/$stamp.began log=target/$stamp.log
 
-case ${1-} in --help | -h) usage && exit 0 ;; esac
-[ -n "$takes_arguments" ] || open_input "$@"
+arguments "$@"
+[ "$file" = - ] || file_there
+streams_open
+[ "$file" = - ] || open_file
 trap 'exit 130' INT
 trap 'exit 143' TERM
 if (cd "$here" && stale); then
     (cd "$here" && build) || exit 1
 fi
-if [ -n "$takes_arguments" ]; then
-    output_open
-    # A closed input would be an empty one to the program. A folder cannot be read, and need not be where a file is given.
-    { true 6<&0; } 2>/dev/null || exec <"$here"
-    exec "$here/$program" "$@"
-fi
-run "$here/$program"
+start
