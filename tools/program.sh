@@ -146,6 +146,14 @@ stale() {
     [ ! -x "$program" ] || [ ! -f "$current" ] || [ -n "$(find $sources -newer "$current" -print | head -n 1)" ]
 }
 
+# Says what is being done and since when, where nothing was said for a while.
+still() {
+    now=$(date +%s)
+    [ $((now - spoke)) -ge "$quiet" ] || return 0
+    spoke=$now
+    say "still $1, for $((now - since)) s"
+}
+
 # What a build does beside proving crate after crate: a line of its log, from which `progress` says it.
 step() { echo "step: $*"; }
 
@@ -201,10 +209,7 @@ progress() {
             part=''
         done
         part=$part$line
-        if [ $((now - spoke)) -ge "$quiet" ]; then
-            spoke=$now
-            say "still $(doing), for $((now - since)) s"
-        fi
+        still "$(doing)"
     done
 }
 
@@ -223,11 +228,11 @@ alone() {
     command -v flock >/dev/null || return 0
     flock -n 9 && return 0
     say 'another build is under way here: waiting for it'
-    waited=0
+    since=$(date +%s)
+    spoke=$since
     until flock -n 9; do
         sleep 1
-        waited=$((waited + 1))
-        [ $((waited % quiet)) -ne 0 ] || say "still waiting for the other build, for $waited s"
+        still 'waiting for the other build'
     done
 }
 

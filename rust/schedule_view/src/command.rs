@@ -41,7 +41,8 @@ pub struct Arguments {
     pub file: Option<OsString>,
 }
 
-/// Reads arguments; nothing where they are not as the usage has it. Only pictures have `--svg` and `--lines`.
+/// Reads arguments, each in the one form in which the scripts hand it on (tools/view.sh); nothing where they are not as the usage has it. Only pictures
+/// have `--svg` and `--lines`.
 pub fn arguments(given: impl IntoIterator<Item = OsString>, pictures: bool) -> Option<Arguments> {
     let mut arguments = Arguments {
         help: false,
