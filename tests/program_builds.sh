@@ -27,12 +27,13 @@ newer() {
 # All that is said of a build from nothing, with the number of seconds left out.
 whole_build() {
     echo "$name: proving and building the program: .* where nothing is proved yet; target/[a-z]*.log has what rt says"
-    echo '\[1/2\] base (1 s)'
+    echo '\[1/3\] base (1 s)'
+    echo '\[2/3\] second (1 s)'
     case $name in
-    replay | report) echo "\[2/2\] $name (1 s)" ;;
+    replay | report) echo "\[3/3\] $name (1 s)" ;;
     *)
         echo "$name: proving lock_engine_c and compiling the library"
-        echo '\[2/2\] lock_engine_c'
+        echo '\[3/3\] lock_engine_c'
         echo "$name: compiling the programs in Rust"
         ;;
     esac
@@ -57,7 +58,7 @@ from_nothing() {
     check "$name: said before anything is proved" "$(said 'proving and building')" 1
     wait "$!"
     rm "$work/slow"
-    check "$name: long at a crate" "$(said_long 'proving base')" yes
+    check "$name: long at crates that are proved at a time" "$(said_long 'proving base second')" yes
     case $name in replay | report) return ;; esac
     check "$name: long at the library" "$(said_long 'proving lock_engine_c and compiling the library')" yes
     check "$name: long at what is in Rust" "$(said_long 'compiling the programs in Rust')" yes
@@ -97,7 +98,7 @@ other_kit() {
     rm -rf "$work/copy/target"
     echo 'another-kit logic 0' >"$work/version"
     before="the kit found is 'another-kit logic 0', and the proofs were checked with '$kit': trying all the same\$"
-    after="all 2 crates that the program needs were proved with the kit found, 'another-kit logic 0'\$"
+    after="all 3 crates that the program needs were proved with the kit found, 'another-kit logic 0'\$"
     check "$name: another kit" "$(outcome "$work/copy/$name" "$listing") $(said "$before") $(said "$after")" "$(printed) 0 1 1"
     newer crates.txt ../fails
     check "$name: another kit, by which it is not proved" "$(outcome "$work/copy/$name" "$listing") $(said "$before") $(said "$after")" ' 1 1 0'
@@ -107,6 +108,7 @@ other_kit() {
     echo "$kit" >"$work/version"
 }
 
+unset RT_JOBS
 kit_path=$PATH
 PATH=$work/bin:$PATH
 for name in replay report explain; do builds; done
@@ -114,6 +116,11 @@ for name in replay report explain timeline; do
     from_nothing
     other_kit
 done
+rm -rf "$work/copy/target"
+name=replay && echo 4 >"$work/slow"
+RT_JOBS=1 outcome "$work/copy/$name" "$listing" >/dev/null
+check "$name: long at a crate that is proved alone" "$(said_long 'proving base')" yes
+rm "$work/slow"
 check 'something is said every minute' "$([ "$quiet" -gt 0 ] && [ "$quiet" -le 60 ] && echo yes)" yes
 check 'the kit is named once' "$(grep -rhoI --exclude-dir=.git --exclude-dir=target 'rattle-kit-[0-9a-z-]* logic [0-9a-f]*' "$here")" "$kit"
 
@@ -134,7 +141,7 @@ touch "$work/copy/crates/replay/src/main.rt"
 wait "$!"
 : >"$work/asked"
 outcome "$work/copy/explain" "$listing" >/dev/null
-check 'explain: a source saved while it is built' "$(tr '\n' ';' <"$work/asked")" 'rt: check base;rt: staticlib lock_engine_c;'
+check 'explain: a source saved while it is built' "$(tr '\n' ';' <"$work/asked")" 'rt: check base second;rt: staticlib lock_engine_c;'
 rm "$work/slow"
 
 # Without cargo they are not built, and it is said.

@@ -78,8 +78,8 @@ read_only() {
     for target in none there; do
         mkdir "$work/read_only" && cp -R "$work/copy/." "$work/read_only"
         case $target in there) mkdir "$work/read_only/target" ;; esac
-        chmod -R a-w "$work/read_only"
-        found=$(outcome unprivileged "$work/read_only/$name" "$listing")
+        chmod -R a+rX,a-w "$work/read_only"
+        found=$(outcome unprivileged "$work/read_only/$name" "$work/schedules/listing")
         check "$name: a read-only folder, target/ $target" "$found $(said '.*copy the repository to a folder that you may write') $(wc -l <"$work/said")" ' 1 1 1'
         chmod -R u+w "$work/read_only" && rm -r "$work/read_only"
     done
@@ -129,15 +129,15 @@ viewer_takes() {
 }
 
 PATH=$work/bin:$PATH
-# Whoever may not do everything must get there.
-chmod 755 "$work"
 ln -s none "$work/dangling"
 echo secret >"$work/secret" && chmod 000 "$work/secret"
 mkdir "$work/closed" && echo file >"$work/closed/file" && chmod 000 "$work/closed"
 mkdir "$work/schedules"
-echo 'of the listing' >"$work/schedules/listing"
+printf 'of the listing\nand more\n' >"$work/schedules/listing"
 echo 'of the odd one' >"$work/schedules/-odd"
 echo 'of a file' >"$work/schedules/a file"
+# Whoever may not do everything must get there.
+chmod 755 "$work" && chmod -R a+rX "$work/copy" "$work/bin" "$work/schedules"
 for name in replay report explain timeline; do
     wrong_options
     nothing_to_read
@@ -148,5 +148,11 @@ done
 for name in replay report explain timeline; do
     case $name in explain | timeline) viewer_takes ;; *) proved_takes ;; esac
 done
+chmod -R a+rX,a-w "$work/copy"
+for name in replay report explain timeline; do
+    found=$(outcome unprivileged "$work/copy/$name" "$work/schedules/listing" | sed 's/.* //')
+    check "$name: a read-only folder, once it is built" "$found $(wc -c <"$work/said")" '0 0'
+done
+chmod -R u+w "$work/copy"
 chmod 700 "$work/closed"
 finish

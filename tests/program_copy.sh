@@ -38,7 +38,7 @@ said() {
 }
 case $command in
 check)
-    for crate in base $(echo "$*" | sed 's/^base$//'); do
+    for crate in base second $(echo "$*" | sed 's/^base second$//'); do
         said "$crate" >"target/log/$crate.out"
         cat "target/log/$crate.out"
     done
@@ -46,7 +46,7 @@ check)
     chmod +x "target/bin/$crate"
     ;;
 staticlib)
-    said base >&2
+    { said base; said second; } >&2
     : >"target/staticlib/lib$1.a"
     printf 'logic=proved functions=1\nrt: target/staticlib/lib%s.a has the functions of %s that are marked\n' "$1" "$1"
     ;;
@@ -78,7 +78,7 @@ copy() {
     cp "$here/replay" "$here/report" "$here/explain" "$here/timeline" "$work/copy"
     cp "$here/tools/proved.sh" "$here/tools/view.sh" "$work/copy/tools"
     sed 's/^quiet=[0-9]*/quiet=2/' "$here/tools/program.sh" >"$work/copy/tools/program.sh"
-    printf 'base:\nreplay: base io\nreport: base io\nlock_engine_c: base\n' >"$work/copy/crates.txt"
+    printf '%s\n' base: second: 'replay: base second io' 'report: base second io' 'lock_engine_c: base second' >"$work/copy/crates.txt"
     echo source >"$work/copy/crates/replay/src/main.rt"
     echo "$kit" >"$work/version"
     make_rt

@@ -20,6 +20,7 @@ usage() {
 usage: ./$name $options
 
 $about
+
 FILE may be -, which is standard input; behind -- a name may begin with a hyphen. docs/REFERENCE.md has the format.
 
 The first call proves and builds the program; later calls start at once, and build again where a source is newer.
