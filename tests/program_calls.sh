@@ -70,6 +70,8 @@ asked_for_help() {
     for option in --help -h; do
         check "$name: $option" "$(outcome "$work/copy/$name" "$option" | sed 's/ \[.*\]//') $(made)" "usage: ./$name 0 nothing"
     done
+    "$work/copy/$name" --help </dev/null >/dev/full 2>/dev/null
+    check "$name: help that cannot be written" "$? $(made)" '5 nothing'
     check "$name: --help behind a file" "$(outcome "$work/copy/$name" "$listing" --help | sed 's/ \[.*\]//') $(made)" "usage: ./$name 0 nothing"
 }
 

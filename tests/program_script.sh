@@ -42,6 +42,8 @@ statuses() {
     check "$name: and it says what that means" "$(told_early "$1")" "1 1"
     check "$name: endless, sizes out of range" "$({ echo 'L 33 1 0'; yes; } | outcome timeout 20 "$script")" "$2 3"
     check "$name: and it says what that means" "$(told_early "$2")" "1 1"
+    yes | timeout 20 "$script" >/dev/null 2>&-
+    check "$name: no standard error" "$?" 3
     check "$name: a folder" "$(outcome "$script" <"$here")" ' 4'
     check "$name: and it says who could not read" "$(grep -c "^$name: " "$work/said")" 1
     "$script" "$input" >/dev/full 2>"$work/said"

@@ -81,7 +81,10 @@ arguments() {
     svg='' lines='' schedule='' file=- named=''
     while [ $# -gt 0 ]; do
         case $1 in
-        --help | -h) usage && exit 0 ;;
+        --help | -h)
+            usage || exit 5
+            exit 0
+            ;;
         --) shift && break ;;
         --lines=* | --schedule=*) option "${1%%=*}" "${1#*=}" ;;
         --lines | --schedule)

@@ -31,12 +31,13 @@ hand_on() {
     exit 5
 }
 
-# Says what the status alone does not.
-explained() {
+# Ends with the status that was told, and says what it alone does not; where nobody hears that, the status is the same.
+ended_with() {
     case $1 in
     3) say "ended with status 3: $ended_early" ;;
     0) [ -z "$no_header" ] || [ "$(wc -l <"$work/output")" -ne 1 ] || say "$no_header" ;;
     esac
+    exit "$1"
 }
 
 # Runs the program with descriptor 3 open on a file, into which it writes one digit, the status. What it writes is held back only where something is
@@ -53,7 +54,7 @@ start() {
     ended=$?
     [ -z "$no_header" ] || hand_on
     told=$(cat "$work/ending")
-    case $told in [0-9]) explained "$told" && exit "$told" ;; esac
+    case $told in [0-9]) ended_with "$told" ;; esac
     [ "$ended" -eq 0 ] || exit "$ended"
     say 'the program ended and did not say how'
     exit 1
