@@ -47,7 +47,8 @@ said_long() { if [ "$(said "still $1, for [1-9][0-9]* s\$")" -gt 0 ]; then echo 
 # rt is asked for anything.
 from_nothing() {
     rm -rf "$work/copy/target"
-    outcome "$work/copy/$name" "$listing" >/dev/null
+    outcome "$work/copy/$name" "$listing" >/dev/null 3>"$work/third"
+    check "$name: nothing is told to the caller's descriptor 3" "$(cat "$work/third")" ''
     whole_build >"$work/whole"
     check "$name: from nothing, what is said" "$(sed -n '$=' "$work/said")" "$(sed -n '$=' "$work/whole")"
     while IFS= read -r line; do check "$name: from nothing, a line" "$(grep -c "^$line\$" "$work/said")" 1; done <"$work/whole"

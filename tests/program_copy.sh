@@ -44,6 +44,7 @@ check)
     done
     printf '#!/bin/sh\ncat\nprintf 0 >&3\n' >"target/bin/$crate"
     chmod +x "target/bin/$crate"
+    "target/bin/$crate" 2>/dev/null || true
     ;;
 staticlib)
     { said base; said second; } >&2

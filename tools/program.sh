@@ -279,7 +279,8 @@ build() {
     export RT_JOBS="${RT_JOBS:-4}"
     progress $$ &
     watcher=$!
-    make_program >>"$log" 2>&1 </dev/null
+    # rt tries a proved program, which tells on descriptor 3, if that is open, how it ended.
+    make_program >>"$log" 2>&1 </dev/null 3>&-
     built=$?
     if [ "$built" -ne 0 ]; then
         kill "$watcher" 2>/dev/null
