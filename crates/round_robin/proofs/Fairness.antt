@@ -10,7 +10,7 @@ use lib.ListN.{length, length-append}
 use Rattle.laws.specs.Choice.{pick}
 use Rattle.laws.proofs.Choice.{false≢true, equal?}
 use Rattle.round_robin.specs.Dispatch.{Tried, Step, Ran, still, taken, with-step, followed, none, turn, turns, round, run}
-use Rattle.round_robin.specs.Fair.{Served, Prompt, Fair}
+use Rattle.round_robin.specs.Fair.{Served, most-before, Prompt, Fair}
 use Rattle.round_robin.specs.Rounds.{LastIsStill}
 use Rattle.round_robin.proofs.Machine.{IsThread, Ending, Fairly, Along}
 use Rattle.round_robin.proofs.Runs.{turn-along, round-along, run-along}
@@ -149,9 +149,11 @@ module _ {W E : Type 0} {threads : ℕ} {try : ℕ → W → Tried W E} {ready :
                 (inr (inner .0 t away low high (fairly .keeps u (first, within) t (low, high) away w fine r)))
 
             prompt : Prompt ready q threads w (taken u (try u w) ∷ steps)
-            prompt t low high r = ⊎-elim (λ same. served-at-once t ((threads - 1) * q) (taken u (try u w)) steps same)
-                (λ away. served-more t (suc left + gap threads (suc u) t * q) ((threads - 1) * q) (taken u (try u w) ∷ steps)
-                (turns-fit (suc left) q (gap threads (suc u) t) (threads - 1) few (let near = gap-next threads u t away low high within in let most = gap-most threads u t first (omega (arith, within)) low high in omega (arith, near, most)))
+            prompt t low high r = ⊎-elim (λ same. served-at-once t (most-before threads q) (taken u (try u w)) steps same)
+                (λ away. served-more t (suc left + gap threads (suc u) t * q) (most-before threads q) (taken u (try u w) ∷ steps)
+                (let near = gap-next threads u t away low high within in
+                let most = gap-most threads u t first (omega (arith, within)) low high in
+                let fits = turns-fit (suc left) q (gap threads (suc u) t) (threads - 1) few (omega (arith, near, most)) in omega (arith, fits))
                 (others t away low high r)) (equal? u t)
 
         at : (b : Bool) → try u w .stepped ≡ b → let ran = pick b (with-step (taken u (try u w)) (pick (try u w .on) (rest next) (still next))) (still next) in

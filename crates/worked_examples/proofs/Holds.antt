@@ -1,8 +1,10 @@
 -- Every example holds: both sides compute to the same.
 use mathlib.Core.Path.{refl}
+use Rattle.chains.specs.Chain.{members}
+use Rattle.chains.specs.Joining.{last-of, linked}
 use Rattle.lock_word.specs.Read.{read-word, read-flat, read-reserved, fat-of}
 use Rattle.lock_word.specs.Meaning.{owned-by}
-use Rattle.laws.specs.Sequence.{tabulate}
+use Rattle.laws.specs.{Sequence.tabulate, Update.update}
 use Rattle.lock_table.specs.Access.{thread-at, set-thread, object-at, set-object}
 use Rattle.lock_table.specs.Chain.{hang, moved-phase, move-all}
 use Rattle.lock_work.specs.Waiters.{runs-out, waiter-after}
@@ -25,7 +27,7 @@ use Rattle.replay_text.specs.Digits.{digit-byte, digits, places-from, places-of
 use Rattle.replay_text.specs.Text.{field-text, hexadecimal-text, tick-line, answer-line, answer-text}
 use Rattle.replay_text.specs.Row.{share, remainder, five-text, row-text}
 use Rattle.worked_examples.specs.{Words.WordExamples, Records.RecordExamples, Rules.RuleExamples, Ticks.TickExamples, LetOuts.LetOutExamples}
-use Rattle.worked_examples.specs.{Unparks.UnparkExamples, Lines.LineExamples, Rows.RowExamples}
+use Rattle.worked_examples.specs.{Unparks.UnparkExamples, Lines.LineExamples, Rows.RowExamples, Chains.ChainExamples}
 
 pub word-examples : WordExamples
 unfolding read-word read-flat read-reserved fat-of owned-by
@@ -151,3 +153,7 @@ line-examples =
 pub row-examples : RowExamples
 unfolding digit-byte digits places-from places-of decimal field-text share remainder five-text row-text
 row-examples = record { thirds = refl; nothing = refl; largest = refl }
+
+pub chain-examples : ChainExamples
+unfolding update members last-of linked
+chain-examples = record { first = refl; second = refl; whole = refl }

@@ -1,5 +1,6 @@
 -- Worked examples, each a fact with a name.
 pub mod Words
+pub mod Chains
 pub mod Records
 pub mod Rules
 pub mod Ticks

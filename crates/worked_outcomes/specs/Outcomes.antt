@@ -11,16 +11,26 @@ use Rattle.lock_engine.specs.declared.outcome.Reply.{Reply}
 use Rattle.lock_engine.specs.declared.outcome.Reply.the-variants.{Accepted, Refused}
 use Rattle.event_bytes.specs.Answer.{packed-of}
 use Rattle.dispatch_rules.specs.declared.DispatchAnswer.the-variants.{Ended, QuantumOutOfRange}
+use Rattle.lock_table.specs.Access.{object-at, set-object}
+use Rattle.lock_table.specs.Fresh.{sized-request, fresh-of}
+use Rattle.lock_table.specs.Record.{with-word}
 use Rattle.lock_table.specs.declared.record.Table.{Table}
 use Rattle.table_questions.specs.Questions.{kind-number, named-thread, blocker-of}
 use Rattle.lock_engine_c.specs.Calls.{reply-changes}
 use Rattle.lock_engine_c.specs.Dispatch.{run-answer}
-use Rattle.replay_text.specs.declared.answer.Answer.the-variants.{Alone, Ticked}
+use Rattle.replay_text.specs.declared.answer.Answer.the-variants.{Alone, Ticked, Accepted as Printed}
 use Rattle.replay_session.specs.Session.{phase-of, word-of, answer-with, after-event, after-tick}
 
 -- an outcome with this reply
 abbrev pub replied : Outcome → Reply → Outcome
 replied outcome reply = record { table = outcome .table; reply = reply; commits = outcome .commits; unparked = outcome .unparked }
+
+-- of two objects thread 1 owns the second; an event of it there unparked thread 4
+abbrev pub second-owned : Table
+second-owned = let fresh = fresh-of (sized-request 4 2 false) .table in set-object fresh 2 (with-word (object-at fresh 2) 0x000100)
+
+abbrev pub told : Outcome
+told = record { table = second-owned; reply = Accepted; commits = false; unparked = 0x00000008 }
 
 pub record OutcomeExamples : Type 0 where
   -- a begin or a tick that was not refused is stored, a refused event is not
@@ -43,6 +53,7 @@ pub record OutcomeExamples : Type 0 where
   pub printed : (outcome : Outcome) (thread object : ℕ)
       → after-event outcome thread object .answer
       ≡ answer-with (reply-returned (outcome .reply)) (phase-of (outcome .table) thread) (reply-woken (outcome .reply)) (word-of (outcome .table) object) (outcome .unparked)
+  pub printed-there : after-event told 1 2 .answer ≡ Printed 0 0 0 0x000100 0x00000008
   -- an accepted tick prints the set behind its number, a refused one its number alone
   pub ticked : (outcome : Outcome) → after-tick (replied outcome Accepted) .answer ≡ Ticked 0 (outcome .unparked)
   pub tick-refused : (outcome : Outcome) → after-tick (replied outcome (Refused NotSound)) .answer ≡ Alone 11
