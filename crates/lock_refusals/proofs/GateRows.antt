@@ -36,43 +36,28 @@ behind-gate table (Step thread) = rule-rows table thread
 behind-gate table Tick = []
 
 -- what the gate asks of a thread's status, by the number of its phase
-idle-phase : (phase : Phase) → eqb (phase-number phase) 0 ≡ is-idle (thread-status phase)
-unfolding phase-number thread-status
-idle-phase Idle = refl
-idle-phase Look = refl
-idle-phase Store = refl
-idle-phase Cancel = refl
-idle-phase GoIn = refl
-idle-phase (Queued onward) = refl
-idle-phase Check = refl
-idle-phase Try = refl
-idle-phase Contending = refl
-idle-phase Test = refl
-idle-phase Tell = refl
-idle-phase Leave = refl
-idle-phase Inflate = refl
-idle-phase GiveUp = refl
-idle-phase Waiting = refl
-idle-phase Resume = refl
+pub record StatusSo (phase : Phase) : Type 0 where
+  pub idle : eqb (phase-number phase) 0 ≡ is-idle (thread-status phase)
+  pub parked : parked-phase (phase-number phase) ≡ is-parked (thread-status phase)
 
-parked-so : (phase : Phase) → parked-phase (phase-number phase) ≡ is-parked (thread-status phase)
+status-so : (phase : Phase) → StatusSo phase
 unfolding phase-number thread-status
-parked-so Idle = refl
-parked-so Look = refl
-parked-so Store = refl
-parked-so Cancel = refl
-parked-so GoIn = refl
-parked-so (Queued onward) = refl
-parked-so Check = refl
-parked-so Try = refl
-parked-so Contending = refl
-parked-so Test = refl
-parked-so Tell = refl
-parked-so Leave = refl
-parked-so Inflate = refl
-parked-so GiveUp = refl
-parked-so Waiting = refl
-parked-so Resume = refl
+status-so Idle = record { idle = refl; parked = refl }
+status-so Look = record { idle = refl; parked = refl }
+status-so Store = record { idle = refl; parked = refl }
+status-so Cancel = record { idle = refl; parked = refl }
+status-so GoIn = record { idle = refl; parked = refl }
+status-so (Queued onward) = record { idle = refl; parked = refl }
+status-so Check = record { idle = refl; parked = refl }
+status-so Try = record { idle = refl; parked = refl }
+status-so Contending = record { idle = refl; parked = refl }
+status-so Test = record { idle = refl; parked = refl }
+status-so Tell = record { idle = refl; parked = refl }
+status-so Leave = record { idle = refl; parked = refl }
+status-so Inflate = record { idle = refl; parked = refl }
+status-so GiveUp = record { idle = refl; parked = refl }
+status-so Waiting = record { idle = refl; parked = refl }
+status-so Resume = record { idle = refl; parked = refl }
 
 -- and of a limit
 limit-so : (operation limit : ℕ) → both (eqb operation timed-wait) (not (within 1 tick-limit limit)) ≡ not (limit-fits operation limit)
@@ -86,8 +71,8 @@ gate-rows-of table event =
 pub same-rows : (table : Table) (event : Event) → refusals table event ≡ numbered (gate-rows-of table event) ++ behind-gate table event
 unfolding refusal-number
 same-rows table (Begin operation thread object limit) =
-    rw (idle-phase (thread-at table thread .phase), limit-so operation limit) refl
-same-rows table (Step thread) = rw (idle-phase (thread-at table thread .phase), parked-so (thread-at table thread .phase)) refl
+    rw (status-so (thread-at table thread .phase) .idle, limit-so operation limit) refl
+same-rows table (Step thread) = let so = status-so (thread-at table thread .phase) in rw (so .idle, so .parked) refl
 same-rows table Tick = refl
 
 -- the first that applies is the gate's, or one of those behind it
