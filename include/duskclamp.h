@@ -191,8 +191,8 @@ typedef struct duskclamp_event {
  * all events are refused with other numbers than 18 and 19, nothing is stored in it. An accepted tick writes it back also where nobody waits. */
 size_t duskclamp_run(uint8_t *bytes, size_t length, const uint8_t *events, size_t events_length, uint64_t *answers, size_t answers_length);
 
-/* The same for an array of `count` events, with room for as many answers. An event lies in memory as its eight bytes do, which the array type tests: it
- * has a negative length if a compiler lays the struct out in another way. */
+/* The same for an array of `count` events, with room for as many answers. On x86-64 an event lies in memory as its eight bytes do. The array type tests
+ * the offsets: it has a negative length if a compiler lays the struct out in another way. */
 typedef char duskclamp_event_is_its_bytes[sizeof(duskclamp_event) == DUSKCLAMP_EVENT_SIZE && offsetof(duskclamp_event, thread) == 1
                                                   && offsetof(duskclamp_event, operation) == 2 && offsetof(duskclamp_event, object) == 3
                                                   && offsetof(duskclamp_event, limit) == 4

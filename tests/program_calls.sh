@@ -77,10 +77,12 @@ asked_for_help() {
 
 # A folder that may not be written, with and without a target/.
 read_only() {
-    for target in none there; do
+    for target in none there locked; do
         mkdir "$work/read_only" && cp -R "$work/copy/." "$work/read_only"
-        case $target in there) mkdir "$work/read_only/target" ;; esac
+        case $target in there | locked) mkdir "$work/read_only/target" ;; esac
+        case $target in locked) : >"$work/read_only/target/build.lock" ;; esac
         chmod -R a+rX,a-w "$work/read_only"
+        case $target in locked) chmod a+w "$work/read_only/target" ;; esac
         found=$(outcome unprivileged "$work/read_only/$name" "$work/schedules/listing")
         check "$name: a read-only folder, target/ $target" "$found $(said '.*copy the repository to a folder that you may write') $(wc -l <"$work/said")" ' 1 1 1'
         chmod -R u+w "$work/read_only" && rm -r "$work/read_only"

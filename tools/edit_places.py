@@ -251,11 +251,19 @@ def try_all(words, again):
         store(list(tried(places)))
 
 
+def unknown(words):
+    known = {name_of(path) for path in edit_files()} | {path.parent.parent.name for path in edit_files()}
+    return [word for word in words if word not in known]
+
+
 def main():
     words = sys.argv[1:]
     os.environ.setdefault('RT_JOBS', '1')
     if words != ['--check']:
-        try_all([word for word in words if word != '--again'], '--again' in words)
+        names = [word for word in words if word != '--again']
+        if unknown(names):
+            sys.exit(f'edit_places: no crate with edits and no edit: {" ".join(unknown(names))}; the first lines of this file say what it takes')
+        try_all(names, '--again' in words)
     places = [place for path in edit_files() for place in places_of(path)]
     return 0 if report(places, read_stored()) else 1
 

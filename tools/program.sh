@@ -219,7 +219,7 @@ progress() {
 
 # Ends where nothing can be built because nothing can be written.
 writable() {
-    mkdir -p target 2>/dev/null && [ -w target ] && { : >>target/build.lock; } 2>/dev/null && return 0
+    mkdir -p target 2>/dev/null && [ -w target ] && { true >>target/build.lock; } 2>/dev/null && return 0
     say "the program must be built first, and that writes to target/, which cannot be written here: copy the repository to a folder that you may write" \
         "to, and call ./$name there"
     exit 1
@@ -274,7 +274,7 @@ build() {
     alone
     stale || return 0
     announced
-    : >"$log" && : >"$began" || exit 1
+    true >"$log" && true >"$began" || exit 1
     # Crates are checked a layer at a time; more jobs than processors fill the gaps in a layer.
     export RT_JOBS="${RT_JOBS:-4}"
     progress $$ &

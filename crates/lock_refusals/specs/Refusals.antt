@@ -30,6 +30,7 @@ use Rattle.lock_table.specs.declared.record.Table.{Table}
 use Rattle.lock_perform.specs.State.{read-thread}
 use Rattle.lock_perform.specs.Sight.{sight-at}
 use Rattle.lock_soundness.specs.Sound.{sound-of}
+use Rattle.step_bounds.specs.SixSteps.{is-parked-phase}
 use Rattle.dispatch_rules.specs.Dispatch.{quantum-limit, scripts-known}
 use Rattle.dispatch_rules.specs.Claims.{RunInput}
 use Rattle.lock_refusals.specs.Rows.{Row, row}
@@ -38,12 +39,8 @@ use Rattle.lock_refusals.specs.Rows.{Row, row}
 abbrev pub operation-at : Table → ℕ → ℕ
 operation-at table n = operation-number (thread-at table n .operation)
 
-abbrev pub home-at : Table → ℕ → ℕ
-home-at table n = thread-at table n .object
-
--- "(phase 5, 8, 14)"
-abbrev pub parked-phase : ℕ → Bool
-parked-phase phase = either (eqb phase 5) (either (eqb phase 8) (eqb phase 14))
+abbrev pub home-number : Table → ℕ → ℕ
+home-number table n = thread-at table n .object
 
 -- 18: "exit, wait, notify: not the owner". An exit, a wait, timed or not, or either notify is in phase 1, and the object's owner by its word is not the thread.
 abbrev pub not-the-owner : ℕ → ℕ → ℕ → ℕ → Bool
@@ -75,7 +72,7 @@ abbrev pub rule-rows : Table → ℕ → List Row
 rule-rows table thread =
     let phase = phase-number-at table thread in
     let operation = operation-at table thread in
-    let home = home-at table thread in
+    let home = home-number table thread in
     row 18 (not-the-owner thread operation phase (ownership-at table home .thread))
     ∷ row 19 (too-deep thread operation phase (object-at table home .monitor))
     ∷ row 20 (no-rule table thread (object-at table home) (read-thread (thread-at table thread)))
@@ -93,13 +90,13 @@ begin-refusals table operation thread object limit =
     ∷ row 23 (both (eqb operation timed-wait) (not (within 1 tick-limit limit)))
     ∷ []
 
--- "11, 12; .. step then 15, 16, then its rule": after 12, the thread is idle; it is parked
+-- "11, 12; .. step then 15, 16, then its rule": after 12, the thread is idle; it is parked, in 5, 8 or 14
 abbrev pub step-refusals : Table → ℕ → List Row
 step-refusals table n =
     row 11 (not (sound-of table))
     ∷ row 12 (not (within 1 (table .threadcount) n))
     ∷ row 15 (eqb (phase-number-at table n) 0)
-    ∷ row 16 (parked-phase (phase-number-at table n))
+    ∷ row 16 (is-parked-phase (phase-number-at table n))
     ∷ rule-rows table n
 
 -- a tick names no thread and no object
@@ -116,7 +113,8 @@ abbrev pub fresh-refusals : FreshRequest → List Row
 fresh-refusals request =
     row 22 (either (not (within 1 thread-limit (request .threads))) (not (within 1 object-limit (request .objects)))) ∷ []
 
--- a run of the dispatcher: "11, then 25 when q is not 1 to 100, then 26 when the slice has not T records, .." (document 02, L6)
+-- a run of the dispatcher: "11, then 25 when q is not 1 to 100, then 26 when the slice has not T records, .." (document 02, L6); which scripts are known is
+-- said in dispatch_rules, as what is sound in lock_soundness
 abbrev pub dispatch-refusals : RunInput → Table → List Row
 dispatch-refusals given table =
     row 11 (not (sound-of table))

@@ -1,5 +1,5 @@
 -- How often a thread is inside an object, counted from events and answers, is what the plain monitors say of it: after every event, on tables with lists.
-use Prim.Native.Nat.{ℕ, _+_, _-_}
+use Prim.Native.Nat.{ℕ, _+_, _-_, _<_}
 use mathlib.Core.Path.{_≡_, refl, sym, ap, _∙_, subst}
 use mathlib.Core.Logic.{_≢_, _⊎_, inl, inr}
 use mathlib.Core.Bool.{Bool, true, false}
@@ -10,7 +10,8 @@ use borrow.Author.Tests.{eq-eqb, ne-eqb, eqb-true}
 use Rattle.laws.specs.{Choice.pick, Choice.both, Update.update}
 use Rattle.laws.proofs.Choice.{equal?, either-way, by-test, by-equal, split, pick-same, both-second, false≢true}
 use Rattle.laws.proofs.Update.{update-same, update-other}
-use Rattle.lock_word.specs.Depth.{depth-limit}
+use Rattle.lock_word.specs.{Depth.depth-limit, Meaning.owner-of, Meaning.depth-of}
+use Rattle.lock_word.specs.declared.meaning.WordSeen.{WordSeen}
 use Rattle.lock_rules.specs.Operations.{Operation, Enter, Exit, Wait, Notify, NotifyAll, Known}
 use Rattle.lock_rules.specs.Rules.{onward}
 use Rattle.lock_rules.specs.declared.{Limit.Limit, Suspension.Suspension, Doing.Doing, ThreadState.ThreadState, Answer.Answer}
@@ -22,7 +23,7 @@ use Rattle.lock_rules.specs.RunQueue.{own-event}
 use Rattle.lock_rules.specs.PlainMonitor.{PlainMonitor, Committed, owned-by, finished, give-up, resume, wake-first, is-waiting, commit}
 use Rattle.lock_rules.specs.Feed.{OperationLog, Plain, new-log, log-after, fed-step, fed-begin, fed-tick, feed, feed-all, blank, EndsRight}
 use Rattle.lock_rules.specs.Presence.{Times, Presence, absent, comes-in, goes-out, gives-up, takes-back, by-step, by-begin, stepped, presence-after, presence-run}
-use Rattle.lock_rules.proofs.Each.{each-doing, each-state}
+use Rattle.lock_rules.proofs.Each.{each-doing, each-state, each-word}
 use Rattle.lock_rules.proofs.Status.{unparked, unfinished}
 use Rattle.lock_rules.proofs.TableKinds.{TurnOf, by-event}
 use Rattle.lock_rules.proofs.Tables.{ListTable, list-kind, perform-at, step-at, turn, shown, seen-here}
@@ -45,7 +46,7 @@ owned-other t monitor n = rw (ne-eqb (monitor .owner) t n)
 
 -- the count is what a plain monitor says of the thread
 pub record Holds (t : ℕ) (was : Times) (monitor : PlainMonitor) : Type 0 where
-  pub inside : was .inside ≡ owned t monitor
+  pub entered : was .entered ≡ was .left + owned t monitor
   pub aside : was .aside ≡ monitor .saved t .depth
 
 -- by the plain answer of a commit
@@ -77,50 +78,51 @@ module _ (t : ℕ) (real : t ≢ 0) (was : Times) (monitor : PlainMonitor) (hold
   Counts operation committed = Holds t (counted operation (committed .answer) was) (committed .monitor)
 
   -- where the thread owns the monitor, it is inside as often as that is deep
-  inside-own : monitor .owner ≡ t → was .inside ≡ monitor .depth
-  inside-own e = holds .inside ∙ owned-own t monitor e
+  entered-own : monitor .owner ≡ t → was .entered ≡ was .left + monitor .depth
+  entered-own e = holds .entered ∙ ap (λ (n : ℕ). was .left + n) (owned-own t monitor e)
 
-  inside-free : monitor .owner ≡ 0 → was .inside ≡ 0
-  inside-free e = holds .inside ∙ owned-other t monitor (λ q. real (sym q ∙ e))
+  -- and has entered as often as it has left, where nobody does
+  entered-free : monitor .owner ≡ 0 → was .entered ≡ was .left
+  entered-free e = omega (arith, holds .entered, owned-other t monitor (λ q. real (sym q ∙ e)))
 
-  exit-counted : monitor .owner ≡ t → Counts Exit (finished (pick (eqb (monitor .depth) 1) (owned-by monitor 0 0) (owned-by monitor t (monitor .depth - 1))))
-  exit-counted e =
+  exit-counted : 0 < monitor .depth → monitor .owner ≡ t
+      → Counts Exit (finished (pick (eqb (monitor .depth) 1) (owned-by monitor 0 0) (owned-by monitor t (monitor .depth - 1))))
+  exit-counted deep e =
       by-equal (λ (after : PlainMonitor). Counts Exit (finished after)) (monitor .depth) 1
-      (λ one. record { inside = omega (arith, inside-own e, one) ∙ sym (pick-same (eqb 0 t) 0); aside = holds .aside })
+      (λ one. record { entered = omega (arith, entered-own e, one, owned-other t (owned-by monitor 0 0) (λ q. real (sym q))); aside = holds .aside })
       (λ more. record {
-        inside = ap (λ (n : ℕ). n - 1) (inside-own e) ∙ sym (owned-own t (owned-by monitor t (monitor .depth - 1)) refl);
+        entered = omega (arith, entered-own e, deep, owned-own t (owned-by monitor t (monitor .depth - 1)) refl);
         aside = holds .aside;
       })
 
   wait-counted : (limit : Limit) → Counts Wait (commit Wait limit t monitor)
   wait-counted limit =
       by-test (Counts Wait) (both (monitor .woken t) (eqb (monitor .owner) 0))
-      (λ resumes. record { inside = holds .aside ∙ sym (owned-own t (resume t monitor .monitor) refl); aside = holds .aside })
+      (λ resumes. record { entered = omega (arith, holds .aside, owned-own t (resume t monitor .monitor) refl); aside = holds .aside })
       (λ gives. by-equal (Counts Wait) (monitor .owner) t
-      (λ e. record {
-        inside = sym (pick-same (eqb 0 t) 0);
-        aside = inside-own e ∙ sym (ap (λ (saved : Suspension). saved .depth) (update-same (monitor .saved) t (record { depth = monitor .depth; limit = limit })));
-      })
+      (λ e.
+      let saved = ap (λ (saved : Suspension). saved .depth) (update-same (monitor .saved) t (record { depth = monitor .depth; limit = limit })) in
+      record { entered = omega (arith, owned-other t (give-up limit t monitor .monitor) (λ q. real (sym q))); aside = omega (arith, entered-own e, saved) })
       (λ other. holds))
 
   notify-counted : (waiting : List ℕ) → Counts Notify (wake-first monitor waiting)
   notify-counted [] = holds
-  notify-counted (first ∷ rest) = record { inside = holds .inside; aside = holds .aside }
+  notify-counted (first ∷ rest) = record { entered = holds .entered; aside = holds .aside }
 
-  commit-counted : (operation : Operation) (limit : Limit) → Counts operation (commit operation limit t monitor)
-  commit-counted Enter limit =
+  commit-counted : (monitor .owner ≡ t → 0 < monitor .depth) → (operation : Operation) (limit : Limit) → Counts operation (commit operation limit t monitor)
+  commit-counted deep Enter limit =
       by-equal (Counts Enter) (monitor .owner) 0
-      (λ free. record { inside = ap (λ (n : ℕ). n + 1) (inside-free free) ∙ sym (owned-own t (owned-by monitor t 1) refl); aside = holds .aside })
+      (λ free. record { entered = omega (arith, entered-free free, owned-own t (owned-by monitor t 1) refl); aside = holds .aside })
       (λ some. by-equal (Counts Enter) (monitor .owner) t
       (λ e. by-test (Counts Enter) (ltb (monitor .depth) depth-limit)
-      (λ low. record { inside = ap (λ (n : ℕ). n + 1) (inside-own e) ∙ sym (owned-own t (owned-by monitor t (monitor .depth + 1)) refl); aside = holds .aside })
+      (λ low. record { entered = omega (arith, entered-own e, owned-own t (owned-by monitor t (monitor .depth + 1)) refl); aside = holds .aside })
       (λ high. holds))
       (λ other. holds))
-  commit-counted Exit limit = by-equal (Counts Exit) (monitor .owner) t exit-counted (λ other. holds)
-  commit-counted Wait limit = wait-counted limit
-  commit-counted Notify limit = by-equal (Counts Notify) (monitor .owner) t (λ e. notify-counted (monitor .waiting)) (λ other. holds)
-  commit-counted NotifyAll limit =
-      by-equal (Counts NotifyAll) (monitor .owner) t (λ e. record { inside = holds .inside; aside = holds .aside }) (λ other. holds)
+  commit-counted deep Exit limit = by-equal (Counts Exit) (monitor .owner) t (λ e. exit-counted (deep e) e) (λ other. holds)
+  commit-counted deep Wait limit = wait-counted limit
+  commit-counted deep Notify limit = by-equal (Counts Notify) (monitor .owner) t (λ e. notify-counted (monitor .waiting)) (λ other. holds)
+  commit-counted deep NotifyAll limit =
+      by-equal (Counts NotifyAll) (monitor .owner) t (λ e. record { entered = holds .entered; aside = holds .aside }) (λ other. holds)
 
   -- a commit of another thread s
   module _ (s : ℕ) (away : s ≢ t) where
@@ -129,9 +131,9 @@ module _ (t : ℕ) (real : t ≢ 0) (was : Times) (monitor : PlainMonitor) (hold
 
     -- nobody or s owned it, and nobody or s does; what t saved stays
     changes-hands : (after : PlainMonitor) → monitor .owner ≢ t → after .owner ≢ t → after .saved t ≡ monitor .saved t → Holds t was after
-    changes-hands after was now saved =
+    changes-hands after before now saved =
         record {
-          inside = holds .inside ∙ (owned-other t monitor was ∙ sym (owned-other t after now));
+          entered = omega (arith, holds .entered, owned-other t monitor before, owned-other t after now);
           aside = holds .aside ∙ sym (ap (λ (saved : Suspension). saved .depth) saved);
         }
 
@@ -165,8 +167,8 @@ module _ (t : ℕ) (real : t ≢ 0) (was : Times) (monitor : PlainMonitor) (hold
       where
         wakes : (waiting : List ℕ) → Stays (wake-first monitor waiting)
         wakes [] = holds
-        wakes (first ∷ rest) = record { inside = holds .inside; aside = holds .aside }
-    commit-away NotifyAll limit = by-equal Stays (monitor .owner) s (λ is. record { inside = holds .inside; aside = holds .aside }) (λ other. holds)
+        wakes (first ∷ rest) = record { entered = holds .entered; aside = holds .aside }
+    commit-away NotifyAll limit = by-equal Stays (monitor .owner) s (λ is. record { entered = holds .entered; aside = holds .aside }) (λ other. holds)
 
 -- What an operation that goes on has committed, and with which plain answer.
 abbrev Committing : Operation → OperationLog → Type 0
@@ -277,6 +279,17 @@ module _ (plain : Answer) (log : OperationLog) (was : Times) where
   step-same Notify answer commits = λ before now ends. sym (pick-same commits was)
   step-same NotifyAll answer commits = λ before now ends. sym (pick-same commits was)
 
+-- an object that is owned, by its word, is owned at a depth above 0
+owner-deep : (holder depth : ℕ) (word : WordSeen) → owner-of word holder depth ≢ 0 → 0 < depth-of word depth
+owner-deep holder depth =
+    each-word _ (
+      λ some. absurd (some refl),
+      λ some. absurd (some refl),
+      by-equal (λ owner. owner ≢ 0 → 0 < depth) depth 0 (λ none some. absurd (some refl)) (λ deep some. omega (arith, deep)),
+      λ owner c some. omega arith,
+      λ owner c. by-equal (λ x. x ≢ 0 → 0 < c) c 0 (λ none some. absurd (some refl)) (λ deep some. omega (arith, deep)),
+    )
+
 -- the count of thread t at object o is what the plain monitors say, and the operation that it goes by is the one that they log
 pub record Matches (t o : ℕ) (presence : Presence) (plain : Plain) : Type 0 where
   pub operation : presence .operation ≡ plain .logs t .operation
@@ -323,7 +336,7 @@ module _ (threads objects : ℕ) (table : ListTable) (sound : SoundTable threads
         operation = matches .operation;
         object = matches .object;
         holds = record {
-          inside = matches .holds .inside;
+          entered = matches .holds .entered;
           aside = matches .holds .aside
               ∙ by-test (λ (saved : Suspension). monitor .saved t .depth ≡ saved .depth) (is-waiting monitor t) (λ waits. refl) (λ stays. refl);
         };
@@ -390,11 +403,19 @@ module _ (threads objects : ℕ) (table : ListTable) (sound : SoundTable threads
         (subst (Logged (next .threads t .state)) logs (logged-at next (fed-step plain t answer commits) world-after t))))
         (subst (λ (operation : Operation). EndsRight operation answer own-after) same-operation (world-after .ended .0))
 
+    -- who owns an object is inside
+    deep : plain .monitors (own .object) .owner ≡ t → 0 < plain .monitors (own .object) .depth
+    deep e =
+        let home = own .object in
+        let object = table .objects home in
+        subst (λ (monitor : PlainMonitor). monitor .owner ≡ t → 0 < monitor .depth) (sym (world .monitors home))
+        (λ is. owner-deep (object .holder) (object .depth) (object .word) (λ none. real (sym is ∙ none))) e
+
     times-held : o ≡ own .object → Holds t (by-step (own .operation) answer commits (presence .times)) (now t answer commits)
     times-held is =
         subst (λ (held : Times). Holds t held (now t answer commits)) (sym same-times)
         (split commits
-        (λ c. rw c (commit-counted t real (presence .times) (was t answer commits) (held-there t answer commits is) (own .operation) (own .limit)))
+        (λ c. rw c (commit-counted t real (presence .times) (was t answer commits) (held-there t answer commits is) deep (own .operation) (own .limit)))
         (λ quiet. rw quiet (held-there t answer commits is)))
 
     own-matches : Matches t o (pick (eqb (presence .object) o) (stepped answer commits presence) presence) (fed-step plain t answer commits)
@@ -442,4 +463,4 @@ run-matches threads objects (event ∷ rest) table plain t o real presence sound
     (turn-matches threads objects table sound plain world t o real presence matches event)
 
 pub blank-matches : (t o : ℕ) → t ≢ 0 → Matches t o absent blank
-blank-matches t o real = record { operation = refl; object = refl; holds = record { inside = sym (pick-same (eqb 0 t) 0); aside = refl } }
+blank-matches t o real = record { operation = refl; object = refl; holds = record { entered = omega (arith, owned-other t (blank .monitors o) (λ q. real (sym q))); aside = refl } }

@@ -1,6 +1,6 @@
 -- The refusals before any rule, in document 01's order ("Returned first": "Order: 11, 12; begin then 17, 13, 14; step then 15, 16, then its rule"),
 -- with document 02's 23 behind 14.
--- The engine, the tables with lists and demand 1 all use this one list.
+-- The engine and the tables with lists use this list; that it refuses as demand 1's own does is proved (lock_refusals).
 use Prim.Native.Nat.{ℕ}
 use mathlib.Core.Bool.{Bool, true, false, not}
 use mathlib.Core.List.{List, [], _∷_}

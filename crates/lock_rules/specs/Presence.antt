@@ -1,5 +1,5 @@
--- How often a thread is inside an object, from events and answers alone (ours): its enters that returned 1, less its exits that committed. A wait gives up what
--- there is when it first commits, and takes it back when it returns 1. Nothing of a table is looked at.
+-- How often a thread is inside an object, from events and answers alone (ours): its enters that returned 1, less its exits that committed. A wait that commits
+-- before it finishes gives up what there is, and takes it back when it returns 1. Nothing of a table is looked at.
 use Prim.Native.Nat.{ℕ, _+_, _-_}
 use mathlib.Core.Bool.{Bool}
 use mathlib.Core.List.{List, [], _∷_}
@@ -13,13 +13,17 @@ use Rattle.lock_rules.specs.declared.event.Event.{Event}
 use Rattle.lock_rules.specs.declared.event.Event.the-variants.{Begin, Step, Tick}
 use Rattle.lock_rules.specs.Events.{Reply, Accepted, Refused, Answered, Shown}
 
--- of one thread and one object: how often it is inside, and what its last wait there gave up
+-- of one thread and one object: the enters that returned 1 and the exits that committed, and what its last wait there gave up; counted anew from a wait on
 pub record Times : Type 0 where
-  pub inside : ℕ
+  pub entered : ℕ
+  pub left : ℕ
   pub aside : ℕ
 
-abbrev pub times : ℕ → ℕ → Times
-times inside aside = record { inside = inside; aside = aside }
+abbrev pub times : ℕ → ℕ → ℕ → Times
+times entered left aside = record { entered = entered; left = left; aside = aside }
+
+abbrev pub inside : Times → ℕ
+inside was = was .entered - was .left
 
 -- and the thread's last begin that returned 0
 pub record Presence : Type 0 where
@@ -29,19 +33,19 @@ pub record Presence : Type 0 where
 
 -- before any event
 abbrev pub absent : Presence
-absent = record { operation = Enter; object = 0; times = times 0 0 }
+absent = record { operation = Enter; object = 0; times = times 0 0 0 }
 
 abbrev pub comes-in : Times → Times
-comes-in was = times (was .inside + 1) (was .aside)
+comes-in was = times (was .entered + 1) (was .left) (was .aside)
 
 abbrev pub goes-out : Times → Times
-goes-out was = times (was .inside - 1) (was .aside)
+goes-out was = times (was .entered) (was .left + 1) (was .aside)
 
 abbrev pub gives-up : Times → Times
-gives-up was = times 0 (was .inside)
+gives-up was = times 0 0 (inside was)
 
 abbrev pub takes-back : Times → Times
-takes-back was = times (was .aside) (was .aside)
+takes-back was = times (was .aside) 0 (was .aside)
 
 -- an enter that returns 1
 abbrev pub by-enter : Answer → Times → Times
@@ -61,7 +65,7 @@ by-exit NotOwner commits was = was
 by-exit TooDeep commits was = was
 by-exit NoRule commits was = was
 
--- a wait that commits and goes on, and one that returns 1
+-- a wait that commits before it finishes, and one that returns 1
 abbrev pub by-wait : Answer → Bool → Times → Times
 by-wait GoneOn commits was = pick commits (gives-up was) was
 by-wait (Finished woken) commits was = takes-back was
@@ -109,5 +113,8 @@ module _ (t o : ℕ) where
   presence-run presence [] = presence
   presence-run presence (shown ∷ rest) = presence-run (presence-after presence (shown .event) (shown .reply)) rest
 
+  abbrev pub times-of : List Shown → Times
+  times-of shown = presence-run absent shown .times
+
   abbrev pub times-inside : List Shown → ℕ
-  times-inside shown = presence-run absent shown .times .inside
+  times-inside shown = inside (times-of shown)

@@ -1,11 +1,11 @@
 -- Mutual exclusion, from events and answers alone (ours): the enters of a thread that returned 1, less its exits that committed, are a number that is above 0 for
 -- one thread at most. A wait gives it up and takes it back (lock_rules, Presence).
-use Prim.Native.Nat.{ℕ, _≤_, _<_}
+use Prim.Native.Nat.{ℕ, _+_, _≤_, _<_}
 use mathlib.Core.Path.{_≡_}
 use mathlib.Core.List.{List}
 use lib.Dec.{eqb}
 use Rattle.laws.specs.Choice.{pick}
-use Rattle.lock_rules.specs.Presence.{times-inside}
+use Rattle.lock_rules.specs.Presence.{times-of, times-inside}
 use Rattle.lock_rules.specs.declared.event.Event.{Event}
 use Rattle.lock_table.specs.Fresh.{InRange, fresh-of}
 use Rattle.lock_table.specs.Ownership.{ownership-at}
@@ -19,10 +19,12 @@ MutualExclusion =
     → let shown = shown-of (fresh-of request .table) events in
     0 < times-inside t o shown → 0 < times-inside u o shown → t ≡ u
 
--- and it is the depth of the owner by the object's word; who does not own it is not inside
+-- And it is the thread's depth, by the object's word: it has entered as often as it has left, and as much more as it owns the object deep. So no exit commits
+-- at 0.
 abbrev pub InsideIsDepth : Type 0
 InsideIsDepth =
     (request : FreshRequest) → InRange request → (events : List Event) (o t : ℕ) → 1 ≤ o → o ≤ request .objects → 1 ≤ t
     → let table = fresh-of request .table in
+    let was = times-of t o (shown-of table events) in
     let owned = ownership-at (final-of table events) o in
-    times-inside t o (shown-of table events) ≡ pick (eqb (owned .thread) t) (owned .depth) 0
+    was .entered ≡ was .left + pick (eqb (owned .thread) t) (owned .depth) 0

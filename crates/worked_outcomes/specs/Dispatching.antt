@@ -1,4 +1,5 @@
--- Examples of the dispatcher (document 02, L6), on tables that the engine's definition computes with: what a step is, that it is taken from the record as begun, and where it stands in the trace.
+-- Examples of the dispatcher (document 02, L6), on tables that the engine's definition computes with: what a step is, that it is taken from the record as
+-- begun, and where it stands in the trace.
 use Prim.Native.Nat.{ℕ}
 use mathlib.Core.Path.{_≡_}
 use mathlib.Core.Bool.{true, false}

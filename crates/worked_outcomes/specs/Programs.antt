@@ -1,10 +1,11 @@
--- The engine and the replay as programs, and what they give of some schedules; and beside them wrong programs that document 01 shuts out ("Traps" and
+-- The engine and the replay as programs, and what they give of some schedules; and beside them wrong programs that document 01 shuts out ("Three traps" and
 -- "Agreement"). Must-fail edits put a wrong program in the place of the right one, and then an example is false.
 use Prim.Native.Nat.{ℕ, _-_}
 use mathlib.Core.Path.{_≡_}
 use mathlib.Core.Bool.{Bool, true, false}
 use mathlib.Core.List.{List, [], _∷_, _++_}
-use Rattle.laws.specs.Choice.{either}
+use lib.Dec.{eqb}
+use Rattle.laws.specs.Choice.{pick, either}
 use Rattle.lock_rules.specs.Operations.{timed-wait}
 use Rattle.lock_rules.specs.declared.Answer.the-variants.{Finished}
 use Rattle.lock_rules.specs.declared.event.Event.{Event}
@@ -20,7 +21,7 @@ use Rattle.lock_engine.specs.Handle.{handle-trusting, handle}
 use Rattle.lock_engine.specs.Outcome.{reply-returned, reply-woken}
 use Rattle.lock_engine.specs.declared.outcome.Outcome.{Outcome}
 use Rattle.lock_engine.specs.declared.outcome.Reply.the-variants.{Refused, Answered}
-use Rattle.replay_lines.specs.Cutting.{lines-of}
+use Rattle.replay_lines.specs.Cutting.{lines-of, first-line, later-lines}
 use Rattle.replay_parts.specs.Replay.{output-of, replay-of}
 use Rattle.replay_session.specs.Session.{fresh-session, session-replay}
 use Rattle.worked_outcomes.specs.Outcomes.{replied}
@@ -38,11 +39,12 @@ steps-finish table (Begin operation thread object limit) = handle table (Begin o
 steps-finish table (Step thread) = replied (handle table (Step thread)) (Answered (Finished 0))
 steps-finish table Tick = handle table Tick
 
--- The accident: a step leaves the other one of two threads where it was, so that who is at its store stays there when its reservation is cancelled.
-abbrev pub with-other : Table → ℕ → Outcome → Outcome
-with-other table other outcome =
+-- The accident: a step leaves the other one of two threads where it was if that is at its store, in phase 2, so that it stays there when its reservation is
+-- cancelled.
+abbrev pub with-stored : Table → ℕ → Outcome → Outcome
+with-stored table other outcome =
     record {
-      table = set-thread (outcome .table) other (thread-at table other);
+      table = pick (eqb (phase-number-at table other) 2) (set-thread (outcome .table) other (thread-at table other)) (outcome .table);
       reply = outcome .reply;
       commits = outcome .commits;
       unparked = outcome .unparked;
@@ -50,28 +52,24 @@ with-other table other outcome =
 
 abbrev pub stale-stores : Table → Event → Outcome
 stale-stores table (Begin operation thread object limit) = handle table (Begin operation thread object limit)
-stale-stores table (Step thread) = with-other table (3 - thread) (handle table (Step thread))
+stale-stores table (Step thread) = with-stored table (3 - thread) (handle table (Step thread))
 stale-stores table Tick = handle table Tick
 
 -- an event on a table that is taken to be sound where it is, and also where it is not
 abbrev pub sound-or : Bool → Table → Event → Outcome
 sound-or also table event = handle-trusting table event (either (sound-of table) also)
 
--- "a replay that carries out its first event and echoes the rest": for each line behind the header it prints what it printed for the first
-abbrev pub echoed : List ℕ → List (List ℕ) → List ℕ
-echoed text [] = []
-echoed text (line ∷ lines) = text ++ echoed text lines
+-- "a replay that carries out its first event and echoes the rest": behind the answer of the first it prints each line as it came
+abbrev pub echoed : List (List ℕ) → List ℕ
+echoed [] = []
+echoed (line ∷ lines) = line ++ echoed lines
 
-abbrev pub first-of : List (List ℕ) → List (List ℕ)
-first-of [] = []
-first-of (line ∷ lines) = line ∷ []
+abbrev pub rest-echoed : List ℕ → List (List ℕ) → List ℕ
+rest-echoed header [] = []
+rest-echoed header (first ∷ rest) = output-of session-replay fresh-session (header ∷ first ∷ []) ++ echoed rest
 
-abbrev pub behind-echoed : List (List ℕ) → List ℕ
-behind-echoed [] = []
-behind-echoed (header ∷ lines) = echoed (output-of session-replay fresh-session (header ∷ first-of lines)) lines
-
-abbrev pub first-echoed : List ℕ → List ℕ
-first-echoed input = behind-echoed (lines-of input)
+abbrev pub echoes : List ℕ → List ℕ
+echoes input = let lines = lines-of input in rest-echoed (first-line lines) (later-lines lines)
 
 -- ---- the programs
 abbrev pub engine : Table → Event → Outcome

@@ -188,6 +188,15 @@ impl core::error::Error for Refusal {}
 ///     table.step(1);
 /// }
 /// ```
+///
+/// To look at it is none:
+///
+/// ```
+/// #![deny(unused_must_use)]
+/// fn step(table: &mut duskclamp::Table) -> bool {
+///     table.step(1).result.is_ok()
+/// }
+/// ```
 #[derive(Clone, Copy, Debug, PartialEq, Eq, Hash)]
 #[must_use = "it says whether the event was refused, and whom to run again"]
 pub struct Outcome {

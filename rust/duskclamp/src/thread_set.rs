@@ -28,6 +28,16 @@ use core::iter::FusedIterator;
 ///     Ok(())
 /// }
 /// ```
+///
+/// To look at it is none:
+///
+/// ```
+/// #![deny(unused_must_use)]
+/// fn tick(table: &mut duskclamp::Table) -> Result<bool, duskclamp::Refusal> {
+///     let set = table.tick()?;
+///     Ok(set.is_empty())
+/// }
+/// ```
 #[derive(Clone, Copy, Default, PartialEq, Eq, Hash)]
 #[must_use = "the threads in it can run again"]
 pub struct ThreadSet {
