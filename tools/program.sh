@@ -4,7 +4,6 @@
 #     about, options    what --help says of it, and how it is called
 #     takes             the options that it has beside --help
 #     ended_early       what status 3 means
-#     build_time        from nothing
 #     crate, sources    what is proved, and what the program is built from
 #     program, stamp    its file, and the name under which a build is remembered; programs that are built together have one
 #     proves            whether rt has anything to do
@@ -13,6 +12,7 @@
 #     start             runs the program, and ends with its status
 set -u
 kit='rattle-kit-5b-plain logic 097e4c862dff5811' # what `rt version` prints of the kit that the proofs were checked with; it is named nowhere else
+build_time='about five minutes on two processors' # of each program, from nothing
 quiet=30                                         # seconds of a build after which something is said in any case
 
 usage() {

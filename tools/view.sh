@@ -1,6 +1,5 @@
 # What ./explain and ./timeline share, which read this file: they are programs in Rust on the proved library for C, built together. The rest is as for
 # the proved programs: tools/program.sh.
-build_time='some minutes on two processors'
 crate=lock_engine_c
 program=target/view/release/$name
 sources='crates crates.txt rust/*/src rust/*/Cargo.* rust/duskclamp/build.rs'
