@@ -3,9 +3,10 @@
 use Prim.Native.Nat.{ℕ, _<_}
 use mathlib.Core.Path.{_≡_}
 use mathlib.Core.Logic.{_≢_}
-use mathlib.Core.List.{List}
+use mathlib.Core.List.{List, []}
 use native.Mathlib.Omega.{arith}
 use Rattle.laws.specs.Count.{count}
+use Rattle.laws.proofs.Count.{count-none}
 use Rattle.chains.proofs.Chain.{Chain, chain-without-zero}
 
 -- no thread is in two of the lists
@@ -30,6 +31,10 @@ pub chains-aside : (next first : ℕ → ℕ) (list : ℕ → List ℕ) (moved :
     → ((n c : ℕ) → 0 < count n moved → count n (list c) ≡ 0) → Aside next first list moved
 chains-aside next first list moved chains out =
     record { chain = chains .chain; apart = chains .apart; out = out; loose = λ n none also. chains .loose n none }
+
+-- with nobody aside these are all
+pub none-aside : (next first : ℕ → ℕ) (list : ℕ → List ℕ) → Aside next first list [] → Chains next first list
+none-aside next first list aside = record { chain = aside .chain; apart = aside .apart; loose = λ n none. aside .loose n none (count-none n) }
 
 -- what is in list c is in no other
 pub others : (list : ℕ → List ℕ) → Apart list → (c d n : ℕ) → d ≢ c → 0 < count n (list c) → count n (list d) ≡ 0

@@ -5,5 +5,8 @@ pub mod Turn
 pub mod Walk
 pub mod Family
 pub mod Relink
+pub mod Queue
+pub mod Falling
+pub mod Ahead
 pub mod Parting
 pub mod Links

@@ -1,21 +1,21 @@
 -- The links of all chains and the lists that they stand for: threads leave, join, move, part and drop out on both alike.
 -- Every action on the chains of a table is one of these six or a few of them in a row.
-use Prim.Native.Nat.{ℕ, _≤_}
-use mathlib.Core.Path.{_≡_, refl, sym, ap, _∙_, subst, fun-ext}
+use Prim.Native.Nat.{ℕ, suc, _+_, _≤_}
+use mathlib.Core.Path.{_≡_, refl, sym, ap, _∙_, subst}
 use mathlib.Core.Logic.{_≢_}
 use mathlib.Core.Bool.{Bool, true, false}
 use native.Mathlib.Omega.{arith}
-use mathlib.Core.List.{List, [], _∷_, _++_, tail, append-nil}
+use mathlib.Core.List.{List, [], _∷_, tail}
 use lib.ListN.{length, take}
 use Rattle.laws.specs.{Update.update, Count.count}
-use Rattle.laws.proofs.Choice.{either-way, equal?}
-use Rattle.laws.proofs.Update.{update-same, update-other, update-id}
-use Rattle.chains.specs.Joining.{first-with, linked, no-ends}
-use Rattle.chains.proofs.Chain.{by-update, Chain, head, chain-head, linked-none, first-with-none}
+use Rattle.laws.proofs.{Update.update-id, Count.count-none}
+use Rattle.chains.specs.Joining.{no-ends}
+use Rattle.chains.proofs.Chain.{by-update, Chain, head, chain-head}
 use Rattle.chains.proofs.Family.{Chains, chains-zero}
 use Rattle.laws.specs.Filter.{failing}
-use Rattle.laws.proofs.Filter.{passing}
-use Rattle.chains.proofs.Relink.{chains-join, chains-leave, chains-left, chains-move, aside-join-other}
+use Rattle.laws.proofs.Filter.{passing, length-passing}
+use Rattle.chains.proofs.Relink.{chains-leave, chains-left, chains-set-aside}
+use Rattle.chains.proofs.Queue.{Queued, queued, queued-end, queue-by, aside-queue, aside-queue-other, chains-join}
 use Rattle.chains.proofs.Parting.{part, chains-part, chains-part-out}
 
 -- the threads' next indexes, and the first thread of each chain by the chain's number
@@ -38,47 +38,41 @@ leave-links chain-number links =
 abbrev pub leave-lists : ℕ → (ℕ → List ℕ) → ℕ → List ℕ
 leave-lists chain-number list = update list chain-number (tail (list chain-number))
 
--- thread n joins a chain at its end, which `fuel` links are enough to come to
-abbrev pub join-links : ℕ → ℕ → ℕ → Links → Links
-join-links fuel chain-number n links =
-    record {
-      next = linked fuel (links .next) (links .first chain-number) n;
-      first = update (links .first) chain-number (first-with (links .first chain-number) n);
-    }
+-- thread n joins a chain, which `fuel` links are enough to walk along, at its place: `before` says who stays before whom
+abbrev pub join-links : ℕ → (ℕ → ℕ → Bool) → ℕ → ℕ → Links → Links
+join-links fuel before chain-number n links =
+    let q = queued fuel fuel before (links .next) (links .first chain-number) n in
+    record { next = q .next; first = update (links .first) chain-number (q .first) }
 
-abbrev pub join-lists : ℕ → ℕ → (ℕ → List ℕ) → ℕ → List ℕ
-join-lists chain-number n list = update list chain-number (list chain-number ++ (n ∷ []))
+abbrev pub join-lists : (ℕ → ℕ → Bool) → ℕ → ℕ → (ℕ → List ℕ) → ℕ → List ℕ
+join-lists before chain-number n list = update list chain-number (queue-by before (list chain-number) (n ∷ []))
 
--- the first thread of a chain, if there is one, moves to the end of another, or of its own
-abbrev pub shift-links : ℕ → ℕ → ℕ → Links → Links
-shift-links fuel from to links = join-links fuel to (links .first from) (leave-links from links)
+-- the first thread of a chain, if there is one, moves to its place in another, or in its own
+abbrev pub shift-links : ℕ → (ℕ → ℕ → Bool) → ℕ → ℕ → Links → Links
+shift-links fuel before from to links = join-links fuel before to (links .first from) (leave-links from links)
 
-abbrev pub shift-lists : ℕ → ℕ → (ℕ → List ℕ) → ℕ → List ℕ
-shift-lists from to list = update (leave-lists from list) to (leave-lists from list to ++ take 1 (list from))
+abbrev pub shift-lists : (ℕ → ℕ → Bool) → ℕ → ℕ → (ℕ → List ℕ) → ℕ → List ℕ
+shift-lists before from to list = update (leave-lists from list) to (queue-by before (leave-lists from list to) (take 1 (list from)))
 
--- all threads of a chain move, in order, to the end of another, or of its own
-abbrev pub move-links : ℕ → ℕ → ℕ → Links → Links
-move-links fuel from to links =
+-- all threads of a chain move, in order, each to its place in another, or in its own
+abbrev pub move-links : ℕ → (ℕ → ℕ → Bool) → ℕ → ℕ → Links → Links
+move-links fuel before from to links =
     let first = update (links .first) from 0 in
-    record {
-      next = linked fuel (links .next) (first to) (links .first from);
-      first = update first to (first-with (first to) (links .first from));
-    }
+    let q = queued fuel fuel before (links .next) (first to) (links .first from) in
+    record { next = q .next; first = update first to (q .first) }
 
-abbrev pub move-lists : ℕ → ℕ → (ℕ → List ℕ) → ℕ → List ℕ
-move-lists from to list = let rest = update list from [] in update rest to (rest to ++ list from)
+abbrev pub move-lists : (ℕ → ℕ → Bool) → ℕ → ℕ → (ℕ → List ℕ) → ℕ → List ℕ
+move-lists before from to list = let rest = update list from [] in update rest to (queue-by before (rest to) (list from))
 
--- the threads of a chain that pass a test move, in order, to the end of another; the rest stay in order
-abbrev pub part-links : ℕ → (ℕ → Bool) → ℕ → ℕ → Links → Links
-part-links fuel test from to links =
+-- the threads of a chain that pass a test move, in order, each to its place in another; the rest stay in order
+abbrev pub part-links : ℕ → (ℕ → ℕ → Bool) → (ℕ → Bool) → ℕ → ℕ → Links → Links
+part-links fuel before test from to links =
     let p = part fuel true test (links .next) no-ends no-ends (links .first from) in
-    record {
-      next = linked fuel (p .next) (links .first to) (p .taken .first);
-      first = update (update (links .first) from (p .left .first)) to (first-with (links .first to) (p .taken .first));
-    }
+    let q = queued fuel fuel before (p .next) (links .first to) (p .taken .first) in
+    record { next = q .next; first = update (update (links .first) from (p .left .first)) to (q .first) }
 
-abbrev pub part-lists : (ℕ → Bool) → ℕ → ℕ → (ℕ → List ℕ) → ℕ → List ℕ
-part-lists test from to list = update (update list from (failing test (list from))) to (list to ++ passing test (list from))
+abbrev pub part-lists : (ℕ → ℕ → Bool) → (ℕ → Bool) → ℕ → ℕ → (ℕ → List ℕ) → ℕ → List ℕ
+part-lists before test from to list = update (update list from (failing test (list from))) to (queue-by before (list to) (passing test (list from)))
 
 -- the threads of a chain that pass a test drop out of it, and each is in no chain; the rest stay in order
 abbrev pub drop-links : ℕ → (ℕ → Bool) → ℕ → Links → Links
@@ -88,11 +82,6 @@ drop-links fuel test c links =
 
 abbrev pub drop-lists : (ℕ → Bool) → ℕ → (ℕ → List ℕ) → ℕ → List ℕ
 drop-lists test c list = update list c (failing test (list c))
-
--- a place emptied and filled again
-update-back : {A : Type 0} (f : ℕ → A) (place : ℕ) (value : A) → update (update f place value) place (f place) ≡ f
-update-back f place value =
-    fun-ext (λ n. by-update (λ x. x ≡ f n) (update f place value) place (f place) n (λ e. ap f (sym e)) (update-other f place value n))
 
 -- who leaves a chain is no longer in it, and all others are
 tail-count : (n : ℕ) (list : List ℕ) → count n (tail list) ≤ count n list
@@ -137,14 +126,10 @@ module _ (links : Links) (list : ℕ → List ℕ) (represented : LinksRepresent
       same-first = update-id (links .first) c (links .next (links .first c)) (empty ∙ sym ends)
 
   -- nor does joining by thread 0
-  pub join-none : (fuel c : ℕ) → length (list c) ≤ fuel → join-links fuel c 0 links ≡ links
-  join-none fuel c short = λ j. record { next = same-next j; first = same-first j }
-    where
-      same-next : linked fuel (links .next) (links .first c) 0 ≡ links .next
-      same-next = linked-none fuel (links .next) (links .first c) (list c) (represented .chain c) short
-
-      same-first : update (links .first) c (first-with (links .first c) 0) ≡ links .first
-      same-first = update-id (links .first) c (first-with (links .first c) 0) (sym (first-with-none (links .first c)))
+  pub join-none : (fuel : ℕ) (before : ℕ → ℕ → Bool) (c : ℕ) → join-links fuel before c 0 links ≡ links
+  join-none fuel before c =
+      let none = queued-end fuel fuel before (links .next) (links .first c) in
+      λ j. record { next = none j .next; first = (ap (update (links .first) c) (ap (λ (q : Queued). q .first) none) ∙ update-id (links .first) c (links .first c) refl) j }
 
   -- Each action on links stands for the action on lists.
   -- the first of chain c leaves
@@ -156,50 +141,50 @@ module _ (links : Links) (list : ℕ → List ℕ) (represented : LinksRepresent
       at (x ∷ rest) is = rw (first-head c ∙ ap head is) (chains-leave (links .next) (links .first) list represented c x rest is)
 
   -- thread n, in no chain, joins chain c
-  pub represent-join : (fuel c n : ℕ) → length (list c) ≤ fuel → n ≢ 0 → ((d : ℕ) → count n (list d) ≡ 0)
-      → LinksRepresent (join-links fuel c n links) (join-lists c n list)
-  represent-join fuel c n = chains-join (links .next) (links .first) list represented c fuel n
+  pub represent-join : (fuel : ℕ) (before : ℕ → ℕ → Bool) (c n : ℕ) → 1 ≤ fuel → length (list c) ≤ fuel → n ≢ 0 → ((d : ℕ) → count n (list d) ≡ 0)
+      → LinksRepresent (join-links fuel before c n links) (join-lists before c n list)
+  represent-join fuel before c n = chains-join (links .next) (links .first) list represented c fuel fuel before n
 
-  -- the first thread of a chain moves to the end of another
-  pub represent-shift : (fuel from to : ℕ) → length (list to) ≤ fuel → LinksRepresent (shift-links fuel from to links) (shift-lists from to list)
-  represent-shift fuel from to short = at (list from) refl
+  -- the first thread of a chain moves to its place in another
+  pub represent-shift : (fuel : ℕ) (before : ℕ → ℕ → Bool) (from to : ℕ) → 1 ≤ fuel → length (list to) ≤ fuel
+      → LinksRepresent (shift-links fuel before from to links) (shift-lists before from to list)
+  represent-shift fuel before from to some short = at (list from) refl
     where
       brief : length (leave-lists from list to) ≤ fuel
       brief = omega (arith, leave-short list from to, short)
 
       at : (threads : List ℕ) → list from ≡ threads
-          → LinksRepresent (shift-links fuel from to links) (update (leave-lists from list) to (leave-lists from list to ++ take 1 threads))
+          → LinksRepresent (shift-links fuel before from to links) (update (leave-lists from list) to (queue-by before (leave-lists from list to) (take 1 threads)))
       at [] is =
           let empty : links .first from ≡ 0 = first-head from ∙ ap head is in
-          let still : shift-links fuel from to links ≡ links =
-          ap (join-links fuel to (links .first from)) (leave-none from empty)
-          ∙ (ap (λ (n : ℕ). join-links fuel to n links) empty ∙ join-none fuel to short) in
+          let still : shift-links fuel before from to links ≡ links =
+          ap (join-links fuel before to (links .first from)) (leave-none from empty)
+          ∙ (ap (λ (n : ℕ). join-links fuel before to n links) empty ∙ join-none fuel before to) in
           let same : leave-lists from list ≡ list = update-id list from (tail (list from)) (is ∙ sym (ap tail is)) in
-          subst (λ (s : Links). LinksRepresent s (update (leave-lists from list) to (leave-lists from list to ++ []))) (sym still)
-          (rw (same, append-nil (list to), update-id list to (list to) refl) represented)
+          subst (λ (s : Links). LinksRepresent s (update (leave-lists from list) to (leave-lists from list to))) (sym still)
+          (rw (same, update-id list to (list to) refl) represented)
       at (x ∷ rest) is =
           let is-first : links .first from ≡ x = first-head from ∙ ap head is in
-          subst (λ (n : ℕ). LinksRepresent (shift-links fuel from to links) (update (leave-lists from list) to (leave-lists from list to ++ (n ∷ [])))) is-first
-          (chains-join (leave-links from links .next) (leave-links from links .first) (leave-lists from list) (represent-leave from) to fuel (links .first from)
-          brief (rw is-first (head-real from x rest is)) (rw is-first (represent-left from x rest is)))
+          subst (λ (n : ℕ). LinksRepresent (shift-links fuel before from to links) (update (leave-lists from list) to (queue-by before (leave-lists from list to) (n ∷ [])))) is-first
+          (chains-join (leave-links from links .next) (leave-links from links .first) (leave-lists from list) (represent-leave from) to fuel fuel before (links .first from)
+          some brief (rw is-first (head-real from x rest is)) (rw is-first (represent-left from x rest is)))
 
-  -- all threads of a chain move to the end of another
-  pub represent-move : (fuel from to : ℕ) → length (list to) ≤ fuel → LinksRepresent (move-links fuel from to links) (move-lists from to list)
-  unfolding linked
-  represent-move fuel from to short =
-      either-way (equal? from to)
-      (λ e. rw (← e, update-same list from [], update-same (links .first) from 0, update-back list from [], update-back (links .first) from 0) represented)
-      (λ apart. rw (update-other list from [] to (λ e. apart (sym e)), update-other (links .first) from 0 to (λ e. apart (sym e)))
-      (chains-move (links .next) (links .first) list represented from fuel to apart short))
+  -- all threads of a chain move to their places in another
+  pub represent-move : (fuel : ℕ) (before : ℕ → ℕ → Bool) (from to : ℕ) → length (list from) ≤ fuel → length (update list from [] to) + length (list from) ≤ suc fuel
+      → LinksRepresent (move-links fuel before from to links) (move-lists before from to list)
+  represent-move fuel before from to =
+      let aside = chains-set-aside (links .next) (links .first) list represented from (links .next) 0 [] (list from) (λ n. omega (arith, count-none n)) refl (λ n old. refl) in
+      aside-queue (list from) (links .next) (update (links .first) from 0) (update list from []) aside fuel fuel before to (links .first from) (represented .chain from)
 
-  -- those that pass a test move to the end of another chain
-  pub represent-part : (fuel : ℕ) (test : ℕ → Bool) (from to : ℕ) → from ≢ to → length (list from) ≤ fuel → length (list to) ≤ fuel
-      → LinksRepresent (part-links fuel test from to links) (part-lists test from to list)
-  represent-part fuel test from to apart short-from short-to =
+  -- those that pass a test move to their places in another chain
+  pub represent-part : (fuel : ℕ) (before : ℕ → ℕ → Bool) (test : ℕ → Bool) (from to : ℕ) → from ≢ to → length (list from) ≤ fuel
+      → length (list to) + length (list from) ≤ suc fuel → LinksRepresent (part-links fuel before test from to links) (part-lists before test from to list)
+  represent-part fuel before test from to apart few short =
       let p = part fuel true test (links .next) no-ends no-ends (links .first from) in
-      let (aside, leave) = chains-part (links .next) (links .first) list represented from fuel test short-from in
-      aside-join-other (p .next) (links .first) list from (p .left .first) (failing test (list from)) (passing test (list from)) aside fuel to (p .taken .first)
-      leave apart short-to
+      let (aside, leave) = chains-part (links .next) (links .first) list represented from fuel test few in
+      let fewer = length-passing test (list from) in
+      aside-queue-other (p .next) (links .first) list from (p .left .first) (failing test (list from)) (passing test (list from)) aside fuel fuel before to (p .taken .first)
+      leave apart (omega (arith, fewer, few)) (omega (arith, fewer, short))
 
   -- or drop out
   pub represent-drop : (fuel : ℕ) (test : ℕ → Bool) (c : ℕ) → length (list c) ≤ fuel → LinksRepresent (drop-links fuel test c links) (drop-lists test c list)

@@ -1,10 +1,11 @@
 -- Those of a list that pass a test and those that fail it: each member is among the ones or the others, and only what the test says of members counts.
-use Prim.Native.Nat.{ℕ, _+_, _<_}
+use Prim.Native.Nat.{ℕ, suc, _+_, _≤_, _<_}
 use mathlib.Core.Path.{_≡_, refl, sym, ap, _∙_}
 use mathlib.Core.Logic.{_≢_}
 use mathlib.Core.Bool.{Bool, true, false}
 use mathlib.Core.List.{List, [], _∷_}
 use native.Mathlib.Omega.{arith}
+use lib.ListN.{length}
 use Rattle.laws.specs.Choice.{pick}
 use Rattle.laws.specs.{Count.count, Filter.failing}
 use Rattle.laws.proofs.Choice.{equal?, either-way}
@@ -68,3 +69,12 @@ count-failing test list n = at (test n) (count-passing test list n)
     at : (b : Bool) → count n (passing test list) ≡ pick b (count n list) 0 → count n (failing test list) ≡ pick b 0 (count n list)
     at true passed = omega (arith, passed, count-parted test list n)
     at false passed = omega (arith, passed, count-parted test list n)
+
+-- those that pass are no more than all
+pub length-passing : (test : ℕ → Bool) (list : List ℕ) → length (passing test list) ≤ length list
+length-passing test [] = omega arith
+length-passing test (x ∷ rest) = at (test x) (length-passing test rest)
+  where
+    at : (b : Bool) → length (passing test rest) ≤ length rest → length (pick b (x ∷ passing test rest) (passing test rest)) ≤ suc (length rest)
+    at true later = omega (arith, later)
+    at false later = omega (arith, later)

@@ -82,17 +82,17 @@ run-attended threads objects (event ∷ rest) table plain sound world attended =
     run-attended threads objects rest (turned .table) (feed plain event (turned .reply)) (sound-turn threads objects table sound event)
     (world-turn threads objects table plain world event) (turn-attended threads objects table sound plain world attended event)
 
-fresh-attended : (reserved : Bool) → AllAttended (fresh reserved)
-fresh-attended reserved o = record { flag = λ up. false≢true up; fat = λ fat none. absurd (never reserved fat) }
+fresh-attended : (reserved : Bool) (rank : ℕ → ℕ) → AllAttended (fresh reserved rank)
+fresh-attended reserved rank o = record { flag = λ up. false≢true up; fat = λ fat none. absurd (never reserved fat) }
   where
     never : (reserved : Bool) → IsFat (fresh-word reserved) → ⊥
     never true fat = fat
     never false fat = fat
 
 -- after every schedule
-pub schedule-attended : (threads objects : ℕ) (reserved : Bool) (events : List Event) → AllAttended (final threads objects (fresh reserved) events)
-schedule-attended threads objects reserved events =
-    run-attended threads objects events (fresh reserved) blank (sound-fresh threads objects reserved) (world-fresh reserved) (fresh-attended reserved)
+pub schedule-attended : (threads objects : ℕ) (reserved : Bool) (rank : ℕ → ℕ) (events : List Event) → AllAttended (final threads objects (fresh reserved rank) events)
+schedule-attended threads objects reserved rank events =
+    run-attended threads objects events (fresh reserved rank) blank (sound-fresh threads objects reserved rank) (world-fresh reserved rank) (fresh-attended reserved rank)
 
 -- an object as new, but for a reservation
 pub record AsNew (o : ListObject) : Type 0 where

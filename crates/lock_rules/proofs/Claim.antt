@@ -42,8 +42,8 @@ pub record Claim (table : ListTable) (plain : Plain) : Type 0 where
 
 abbrev pub Demand : Type 0
 Demand =
-    (threads objects : ℕ) (reserved : Bool) (events : List Event)
-    → Claim (final threads objects (fresh reserved) events) (feed-all blank (shown threads objects (fresh reserved) events))
+    (threads objects : ℕ) (reserved : Bool) (rank : ℕ → ℕ) (events : List Event)
+    → Claim (final threads objects (fresh reserved rank) events) (feed-all blank (shown threads objects (fresh reserved rank) events))
 
 woken-doing : (doing : Doing) → woken? (phase-row doing .saved) ≡ eqb (phase-of-doing doing) 15
 woken-doing = each-doing _ (search)
@@ -83,4 +83,4 @@ world-claim table plain world =
             inr (u, n, a, b, c)
 
 pub demand : Demand
-demand threads objects reserved events = world-claim _ _ (world-run threads objects events (fresh reserved) blank (world-fresh reserved))
+demand threads objects reserved rank events = world-claim _ _ (world-run threads objects events (fresh reserved rank) blank (world-fresh reserved rank))

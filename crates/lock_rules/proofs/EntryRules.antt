@@ -28,7 +28,7 @@ use Rattle.lock_rules.proofs.Commits.{commit-enter, commit-enter-again,
 use Rattle.lock_rules.proofs.Objects.{ListObject, with-word, with-flag, with-holder, with-entry, sight-of, object-owner}
 use Rattle.lock_rules.proofs.Perform.{enter-queue, count-join}
 use Rattle.lock_rules.proofs.Invariant.{holding, nothing-saved, phase-row, leaving?, InChains, Unreserved, FlatOf, NotOwn, Thin, ReliesOn, Relies}
-use Rattle.lock_rules.proofs.Invariant.{Logged, woken?, SavedIs, MonitorOk, FlagOk, Invariant}
+use Rattle.lock_rules.proofs.Invariant.{Logged, woken?, SavedIs, FlagOk, Invariant}
 use Rattle.lock_rules.proofs.OtherThreads.{others-flag, others-taken, others-joined}
 use Rattle.lock_rules.proofs.SharedFacts.{unstranded-moved, unstranded-held, unstranded-joined, unheld, monitor-handed}
 use Rattle.lock_rules.proofs.SharedFacts.{thin-shallow, owner-shallow, fat-owner, fat-unowned, first-commit, same-monitor}
@@ -57,10 +57,10 @@ module _ (actor : Actor) where
 
   -- another holds it: the thread joins the entry chain
   join-refines : (operation : Operation) (o : ListObject) (carried : OnwardStep) → Invariant (actor .states) o (actor .ghost) → o .holder ≢ 0
-      → Self actor (Queued carried) (with-entry o (enter-queue (o .entry) (actor .thread)))
+      → Self actor (Queued carried) (with-entry o (enter-queue (o .rank) (o .entry) (actor .thread)))
       → Right actor operation o (keep-object (sight-of o) (Join Chain.Entry) (Queued carried) Parked false)
   join-refines operation o carried inv q self =
-      quiet-refines actor operation o (with-entry o (enter-queue (o .entry) (actor .thread))) (Queued carried) Parked inv tt
+      quiet-refines actor operation o (with-entry o (enter-queue (o .rank) (o .entry) (actor .thread))) (Queued carried) Parked inv tt
       (record {
         others = others-joined (actor .thread) (actor .states)
             o (actor .ghost) Chain.Entry (λ t n. inv .threads t);
@@ -68,16 +68,16 @@ module _ (actor : Actor) where
         monitor = inv .whole .monitor;
         empty = λ x. absurd (q x);
         flag = inv .whole .flag;
-        unstranded = unstranded-joined (o .word) (update (actor .states) (actor .thread) (Queued carried)) (actor .thread) (o .holder) (o .entry)
+        unstranded = unstranded-joined (o .word) (update (actor .states) (actor .thread) (Queued carried)) (actor .thread) (o .holder) (o .rank) (o .entry)
             (o .contention) q;
         shows = refl;
       })
 
-  joined : {entry contention waiting : List ℕ} → InChains 0 0 0 (actor .thread) entry contention waiting
-      → InChains 1 0 0 (actor .thread) (enter-queue entry (actor .thread)) contention waiting
-  joined {entry} a =
+  joined : (rank : ℕ → ℕ) {entry contention waiting : List ℕ} → InChains 0 0 0 (actor .thread) entry contention waiting
+      → InChains 1 0 0 (actor .thread) (enter-queue rank entry (actor .thread)) contention waiting
+  joined rank {entry} a =
       record {
-        entry = omega (arith, count-join Chain.Entry (actor .thread) (actor .thread) entry, count-same (actor .thread) [], count-none (actor .thread), a .entry);
+        entry = omega (arith, count-join Chain.Entry (actor .thread) (actor .thread) rank entry, count-same (actor .thread) [], count-none (actor .thread), a .entry);
         contention = a .contention;
         waiting = a .waiting;
       }
@@ -96,7 +96,7 @@ module _ (actor : Actor) where
       by-equal (Right actor (phase-row doing .operation) o) (o .holder) 0 free
       (λ e. by-equal (Right actor (phase-row doing .operation) o) (o .holder) (actor .thread) again
       (λ q. join-refines (phase-row doing .operation) o carried (step .inv) e
-      (record { seated = (q, actor .real); placed = joined (step .self .placed); relies = queued e; logged = logged; saved = saved; woken = woken })))
+      (record { seated = (q, actor .real); placed = joined (o .rank) (step .self .placed); relies = queued e; logged = logged; saved = saved; woken = woken })))
     where
       woken : actor .ghost .woken (actor .thread) ≡ woken? (phase-row (onward carried) .saved)
       woken = rw saves-not (rw saved-not at (step .self .woken))

@@ -138,7 +138,7 @@ module _ (actor : Actor) where
         empty = λ x. absurd (actor .real (sym q ∙ x));
         flag = flag-rest (it .word) first rest (step .inv .whole .flag);
         unstranded = unstranded-joined (it .word) (update (moved-states Chain.Contention First (actor .states) o) (actor .thread) (Running ExitLeave)) first
-            (it .holder) (it .entry) rest (λ x. actor .real (sym q ∙ x));
+            (it .holder) (it .rank) (it .entry) rest (λ x. actor .real (sym q ∙ x));
         shows = refl;
         ended = tt;
       })

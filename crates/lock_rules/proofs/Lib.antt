@@ -44,3 +44,4 @@ pub mod Presence
 pub mod Attended
 pub mod AsNew
 pub mod Simulation
+pub mod InTurn

@@ -290,8 +290,8 @@ world-turn threads objects table plain world =
     doing (stepping table plain t doing z running world)))
     (world-tick table plain world)
 
-inv-fresh : (reserved : Bool) (ghost : Ghost) → ((t : ℕ) → ghost .woken t ≡ false) → Invariant (λ t. Idle) (fresh-object reserved) ghost
-inv-fresh reserved ghost e =
+inv-fresh : (reserved : Bool) (rank : ℕ → ℕ) (ghost : Ghost) → ((t : ℕ) → ghost .woken t ≡ false) → Invariant (λ t. Idle) (fresh-object reserved rank) ghost
+inv-fresh reserved rank ghost e =
     record {
       threads = λ t.
           record {
@@ -305,21 +305,21 @@ inv-fresh reserved ghost e =
       whole = whole reserved;
     }
   where
-    whole : (reserved : Bool) → ObjectOk (λ t. Idle) (fresh-object reserved)
+    whole : (reserved : Bool) → ObjectOk (λ t. Idle) (fresh-object reserved rank)
     whole true = record { nobody = refl; monitor = refl; empty = λ e. refl; flag = refl; unstranded = tt }
     whole false = record { nobody = refl; monitor = refl; empty = λ e. refl; flag = λ e. refl; unstranded = λ c. absurd (c refl) }
 
-pub world-fresh : (reserved : Bool) → World (fresh reserved) blank
-world-fresh reserved =
+pub world-fresh : (reserved : Bool) (rank : ℕ → ℕ) → World (fresh reserved rank) blank
+world-fresh reserved rank =
     record {
       inv = λ o. subst₃ Invariant (fun-ext (λ t. sym (seen-idle o (record { object = 0; state = Idle }) refl))) refl refl
-          (inv-fresh reserved (ghost-at blank o) (λ t. refl));
+          (inv-fresh reserved rank (ghost-at blank o) (λ t. refl));
       monitors = λ o. mons reserved;
       objects = λ t. refl;
       ended = tt;
     }
   where
-    mons : (reserved : Bool) → unowned ≡ monitor-of (fresh-object reserved) (ghost-at blank 0)
+    mons : (reserved : Bool) → unowned ≡ monitor-of (fresh-object reserved rank) (ghost-at blank 0)
     mons true = refl
     mons false = refl
 

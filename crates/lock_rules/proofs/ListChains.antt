@@ -1,16 +1,16 @@
 -- The chains of a sound table, any of the three: their members are threads of the table, at that object, each once;
 -- so no chain is longer than the table has threads.
-use Prim.Native.Nat.{ℕ, _+_, _≤_, _<_}
+use Prim.Native.Nat.{ℕ, _≤_, _<_}
 use mathlib.Core.Path.{_≡_, refl, ap, _∙_}
 use mathlib.Core.Logic.{_≢_, _⊎_, inl, inr}
 use mathlib.Core.Bool.{Bool, true, false}
-use mathlib.Core.List.{List, _++_}
+use mathlib.Core.List.{List}
 use native.Mathlib.Omega.{arith}
 use lib.Dec.{eqb}
 use lib.ListN.{length}
 use Rattle.laws.specs.{Choice.pick, Count.count}
-use Rattle.laws.proofs.Choice.{either-way, equal?, Equal, equal}
-use Rattle.laws.proofs.Count.{count-append, distinct-within}
+use Rattle.laws.proofs.Choice.{equal?, Equal, equal}
+use Rattle.laws.proofs.Count.{distinct-within}
 use Rattle.chains.specs.declared.named.Chain.{Chain}
 use Rattle.lock_rules.specs.declared.ThreadState.{ThreadState}
 use Rattle.lock_rules.specs.declared.ThreadState.the-variants.{Idle}
@@ -85,20 +85,3 @@ module _ (threads objects : ℕ) (table : ListTable) (sound : SoundTable threads
       at : (b : Bool) → times-in chain (pick b (table .threads t .state) Idle) ≡ 0
       at true = e
       at false = idle-out chain
-
--- nobody is queued and contends too
-once-of-two : (state : ThreadState) → in-entry state + in-contention state ≤ 1
-once-of-two = each-state _ (search arith)
-
--- so the two chains together are no longer either
-pub both-short : (threads objects : ℕ) (table : ListTable) → SoundTable threads objects table → (o : ℕ)
-    → length (table .objects o .entry ++ table .objects o .contention) ≤ threads
-both-short threads objects table sound o =
-    distinct-within threads (table .objects o .entry ++ table .objects o .contention)
-    (λ t. omega (arith, counts t, counted threads objects table sound Chain.Entry o t, counted threads objects table sound Chain.Contention o t, once-of-two (states-at table o t)))
-    (λ t h. either-way (equal? (count t (table .objects o .entry)) 0)
-    (λ none. member-in threads objects table sound Chain.Contention o t (omega (arith, h, none, counts t)))
-    (λ some. member-in threads objects table sound Chain.Entry o t (omega (arith, some))))
-  where
-    counts : (t : ℕ) → count t (table .objects o .entry ++ table .objects o .contention) ≡ count t (table .objects o .entry) + count t (table .objects o .contention)
-    counts t = count-append t (table .objects o .entry) (table .objects o .contention)

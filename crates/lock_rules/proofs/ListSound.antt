@@ -3,6 +3,7 @@ use Prim.Native.Nat.{ℕ, _≤_, _<_}
 use mathlib.Core.Path.{_≡_}
 use mathlib.Core.Logic.{_⊎_}
 use mathlib.Core.List.{[]}
+use Rattle.chains.proofs.Falling.{Falling}
 use Rattle.lock_word.specs.{Depth.depth-limit, Layout.count-limit, Ticks.tick-limit}
 use Rattle.lock_rules.specs.Rules.{onward}
 use Rattle.lock_rules.specs.declared.{Limit.Limit, Suspension.Suspension, Doing.Doing, ThreadState.ThreadState}
@@ -66,6 +67,8 @@ pub record SoundObject (threads : ℕ) (states : ℕ → ThreadState) (o : ListO
   -- holder 0 goes with depth 0 and an empty entry chain
   pub shallow : o .holder ≡ 0 → o .depth ≡ 0
   pub empty : o .holder ≡ 0 → o .entry ≡ []
+  -- "its entry chains in falling rank" (document 02, L8)
+  pub ordered : Falling (o .rank) (o .entry)
 
 -- every thread past the table's size is idle, and every other one that is not has an object of the table
 abbrev pub InTable : ℕ → ℕ → ℕ → ListThread → Type 0

@@ -43,7 +43,7 @@ lines threads objects table (event ∷ rest) =
 abbrev line : ℕ → ℕ → ℕ → Line
 line number phase word = record { returned = number; phase = phase; woken = 0; word = word }
 
-listing : lines 2 1 (fresh false)
+listing : lines 2 1 (fresh false (λ t. 0))
     (Begin 1 1 1 0 ∷ Step 1 ∷ Begin 1 2 1 0 ∷ Step 2 ∷ Step 2 ∷ Step 2 ∷ Step 2 ∷ Begin 2 1 1 0 ∷ Step 1 ∷ Step 1 ∷ Step 1 ∷ Step 1 ∷ Step 1 ∷ Step 2 ∷ Step 2 ∷ [])
     ≡ line 0 1 0 ∷ line 1 0 0x100 ∷ line 0 1 0x100 ∷ line 0 4 0x100 ∷ line 0 6 0x100 ∷ line 0 7 0x100 ∷ line 2 8 0x100 ∷ line 0 1 0x100 ∷ line 0 9 0
     ∷ line 0 4 0 ∷ line 0 10 0 ∷ line 0 11 0 ∷ line 1 0 0 ∷ line 0 7 0 ∷ line 1 0 0x101 ∷ []

@@ -76,18 +76,18 @@ module _ (t : ℕ) (state : ThreadState) (o : ListObject) (p : PlacedAt t state 
     where
       at : (chain : Chain) → count t (thread ∷ []) ≡ 0 → PlacedAt t state (joined-object chain thread o)
       at Chain.Entry out =
-          record { entry = omega (arith, count-join Chain.Entry t thread (o .entry), out, p .entry); contention = p .contention; waiting = p .waiting }
+          record { entry = omega (arith, count-join Chain.Entry t thread (o .rank) (o .entry), out, p .entry); contention = p .contention; waiting = p .waiting }
       at Chain.Contention out =
           record {
             entry = p .entry;
-            contention = omega (arith, count-join Chain.Contention t thread (o .contention), out, p .contention);
+            contention = omega (arith, count-join Chain.Contention t thread (o .rank) (o .contention), out, p .contention);
             waiting = p .waiting;
           }
       at Chain.Waiting out =
           record {
             entry = p .entry;
             contention = p .contention;
-            waiting = omega (arith, count-join Chain.Waiting t thread (o .waiting), out, p .waiting);
+            waiting = omega (arith, count-join Chain.Waiting t thread (o .rank) (o .waiting), out, p .waiting);
           }
 
   pub placed-left : count t (taken First (o .entry)) ≡ 0 → PlacedAt t state (handed-object o)
@@ -96,7 +96,7 @@ module _ (t : ℕ) (state : ThreadState) (o : ListObject) (p : PlacedAt t state 
   placed-requeued : (part : Parting (o .entry)) → PlacedAt t state (parted-object Chain.Entry (part .gone) (part .kept) o)
   placed-requeued part =
       record {
-        entry = omega (arith, count-entered-all t (part .kept) (part .gone), part .parted t, p .entry);
+        entry = omega (arith, count-entered-all t (o .rank) (part .kept) (part .gone), part .parted t, p .entry);
         contention = p .contention;
         waiting = p .waiting;
       }
@@ -106,13 +106,13 @@ module _ (t : ℕ) (state : ThreadState) (o : ListObject) (p : PlacedAt t state 
   placed-unmoved Chain.Entry part out = placed-requeued part
   placed-unmoved Chain.Contention part out =
       record {
-        entry = omega (arith, count-entered-all t (o .entry) (part .gone), out, p .entry);
+        entry = omega (arith, count-entered-all t (o .rank) (o .entry) (part .gone), out, p .entry);
         contention = omega (arith, part .parted t, out, p .contention);
         waiting = p .waiting;
       }
   placed-unmoved Chain.Waiting part out =
       record {
-        entry = omega (arith, count-entered-all t (o .entry) (part .gone), out, p .entry);
+        entry = omega (arith, count-entered-all t (o .rank) (o .entry) (part .gone), out, p .entry);
         contention = p .contention;
         waiting = omega (arith, part .parted t, out, p .waiting);
       }
@@ -155,7 +155,7 @@ module _ (thread : ℕ) (states : ℕ → ThreadState) (o : ListObject) (members
           let p′ : PlacedAt t Contending o = rw v at p in
           rw (e, v)
           (record {
-            entry = omega (arith, count-entered-all t (o .entry) (part .gone), p′ .entry, c, e);
+            entry = omega (arith, count-entered-all t (o .rank) (o .entry) (part .gone), p′ .entry, c, e);
             contention = omega (arith, c);
             waiting = p′ .waiting;
           })
@@ -164,7 +164,7 @@ module _ (thread : ℕ) (states : ℕ → ThreadState) (o : ListObject) (members
           let p′ : PlacedAt t (Waiting suspension) o = rw v at p in
           rw (e, v)
           (record {
-            entry = omega (arith, count-entered-all t (o .entry) (part .gone), p′ .entry, c, e);
+            entry = omega (arith, count-entered-all t (o .rank) (o .entry) (part .gone), p′ .entry, c, e);
             contention = p′ .contention;
             waiting = omega (arith, c);
           })

@@ -16,31 +16,33 @@ pub record ListObject : Type 0 where
   pub entry : List ℕ
   pub contention : List ℕ
   pub waiting : List ℕ
+  -- the ranks of the threads, by which they are queued; no event changes them
+  pub rank : ℕ → ℕ
 
-abbrev pub object-of : WordSeen → Bool → ℕ → ℕ → List ℕ → List ℕ → List ℕ → ListObject
-object-of word flag holder depth entry contention waiting =
-    record { word = word; flag = flag; holder = holder; depth = depth; entry = entry; contention = contention; waiting = waiting }
+abbrev pub object-of : (ℕ → ℕ) → WordSeen → Bool → ℕ → ℕ → List ℕ → List ℕ → List ℕ → ListObject
+object-of rank word flag holder depth entry contention waiting =
+    record { word = word; flag = flag; holder = holder; depth = depth; entry = entry; contention = contention; waiting = waiting; rank = rank }
 
 abbrev pub with-word : ListObject → WordSeen → ListObject
-with-word o word = object-of word (o .flag) (o .holder) (o .depth) (o .entry) (o .contention) (o .waiting)
+with-word o word = object-of (o .rank) word (o .flag) (o .holder) (o .depth) (o .entry) (o .contention) (o .waiting)
 
 abbrev pub with-flag : ListObject → Bool → ListObject
-with-flag o flag = object-of (o .word) flag (o .holder) (o .depth) (o .entry) (o .contention) (o .waiting)
+with-flag o flag = object-of (o .rank) (o .word) flag (o .holder) (o .depth) (o .entry) (o .contention) (o .waiting)
 
 abbrev pub with-holder : ListObject → ℕ → ListObject
-with-holder o holder = object-of (o .word) (o .flag) holder (o .depth) (o .entry) (o .contention) (o .waiting)
+with-holder o holder = object-of (o .rank) (o .word) (o .flag) holder (o .depth) (o .entry) (o .contention) (o .waiting)
 
 abbrev pub with-depth : ListObject → ℕ → ListObject
-with-depth o depth = object-of (o .word) (o .flag) (o .holder) depth (o .entry) (o .contention) (o .waiting)
+with-depth o depth = object-of (o .rank) (o .word) (o .flag) (o .holder) depth (o .entry) (o .contention) (o .waiting)
 
 abbrev pub with-entry : ListObject → List ℕ → ListObject
-with-entry o entry = object-of (o .word) (o .flag) (o .holder) (o .depth) entry (o .contention) (o .waiting)
+with-entry o entry = object-of (o .rank) (o .word) (o .flag) (o .holder) (o .depth) entry (o .contention) (o .waiting)
 
 abbrev pub with-contention : ListObject → List ℕ → ListObject
-with-contention o contention = object-of (o .word) (o .flag) (o .holder) (o .depth) (o .entry) contention (o .waiting)
+with-contention o contention = object-of (o .rank) (o .word) (o .flag) (o .holder) (o .depth) (o .entry) contention (o .waiting)
 
 abbrev pub with-waiting : ListObject → List ℕ → ListObject
-with-waiting o waiting = object-of (o .word) (o .flag) (o .holder) (o .depth) (o .entry) (o .contention) waiting
+with-waiting o waiting = object-of (o .rank) (o .word) (o .flag) (o .holder) (o .depth) (o .entry) (o .contention) waiting
 
 -- any of the three chains, and the object with another list for it
 abbrev pub chain-of : Chain → ListObject → List ℕ

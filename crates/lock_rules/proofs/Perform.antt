@@ -1,12 +1,14 @@
 -- An action carried out on an object with lists and on the states of the threads at it.
 use Prim.Native.Nat.{ℕ, _+_}
-use mathlib.Core.Path.{_≡_, refl}
+use mathlib.Core.Path.{_≡_, refl, ap}
 use mathlib.Core.Logic.{_≢_}
 use mathlib.Core.Bool.{Bool, false}
-use mathlib.Core.List.{List, [], _∷_, _++_, cons≢nil}
+use mathlib.Core.List.{List, [], _∷_, _++_}
 use native.Mathlib.Omega.{arith}
 use Rattle.laws.specs.{Choice.pick, Update.update, Count.count, Filter.failing}
-use Rattle.laws.proofs.{Count.count-append, Choice.by-test}
+use Rattle.laws.proofs.{Count.count-append, Count.count-none, Count.count-same, Choice.by-test}
+use Rattle.chains.proofs.Queue.{queue-by, count-queue}
+use Rattle.chains.proofs.Falling.{Falling, by-rank, falling-queue}
 use Rattle.chains.specs.declared.named.Chain.{Chain}
 use Rattle.lock_rules.proofs.Changes.{seen-after, handed, moved, is-queued-exit, let-out-state, sent-back}
 use Rattle.lock_rules.specs.declared.{ThreadState.ThreadState, Taken.Taken, ChainWork.ChainWork, Answer.Answer, Effect.Effect, Action.Action}
@@ -17,32 +19,36 @@ use Rattle.lock_rules.specs.declared.Action.the-variants.{Unruled, Do}
 use Rattle.lock_rules.specs.PlainMonitor.{above-zero}
 use Rattle.lock_rules.proofs.Objects.{ListObject, with-word, with-flag, with-holder, with-depth, with-entry, chain-of, with-chain}
 
--- joining the entry chain, in order. What is proved of it uses only the laws below: who is in it, and that it is not empty.
-unfoldable pub enter-queue-all : List ℕ → List ℕ → List ℕ
-enter-queue-all entry threads = entry ++ threads
+-- joining the entry chain, each at its place by rank, in order. What is proved of it uses only the laws below: who is in it, that it is not empty, and
+-- that it stays in falling rank.
+unfoldable pub enter-queue-all : (ℕ → ℕ) → List ℕ → List ℕ → List ℕ
+enter-queue-all rank entry threads = queue-by (by-rank rank) entry threads
 
-abbrev pub enter-queue : List ℕ → ℕ → List ℕ
-enter-queue entry thread = enter-queue-all entry (thread ∷ [])
+abbrev pub enter-queue : (ℕ → ℕ) → List ℕ → ℕ → List ℕ
+enter-queue rank entry thread = enter-queue-all rank entry (thread ∷ [])
 
-pub count-entered-all : (t : ℕ) (entry threads : List ℕ) → count t (enter-queue-all entry threads) ≡ count t entry + count t threads
+pub count-entered-all : (t : ℕ) (rank : ℕ → ℕ) (entry threads : List ℕ) → count t (enter-queue-all rank entry threads) ≡ count t entry + count t threads
 unfolding enter-queue-all
-count-entered-all t entry threads = count-append t entry threads
+count-entered-all t rank entry threads = count-queue (by-rank rank) entry threads t
 
-pub entered≢nil : (entry : List ℕ) (thread : ℕ) → enter-queue entry thread ≢ []
+pub entered≢nil : (rank : ℕ → ℕ) (entry : List ℕ) (thread : ℕ) → enter-queue rank entry thread ≢ []
+entered≢nil rank entry thread e =
+    omega (arith, ap (count thread) e, count-none thread, count-entered-all thread rank entry (thread ∷ []), count-same thread [])
+
+pub falling-entered : (rank : ℕ → ℕ) (entry threads : List ℕ) → Falling rank entry → Falling rank (enter-queue-all rank entry threads)
 unfolding enter-queue-all
-entered≢nil [] thread e = cons≢nil e
-entered≢nil (first ∷ rest) thread e = cons≢nil e
+falling-entered rank entry threads = falling-queue rank entry threads
 
--- joining any chain
-abbrev pub join : Chain → List ℕ → ℕ → List ℕ
-join Chain.Entry list thread = enter-queue list thread
-join Chain.Contention list thread = list ++ (thread ∷ [])
-join Chain.Waiting list thread = list ++ (thread ∷ [])
+-- joining any chain: the other two at the end
+abbrev pub join : Chain → (ℕ → ℕ) → List ℕ → ℕ → List ℕ
+join Chain.Entry rank list thread = enter-queue rank list thread
+join Chain.Contention rank list thread = list ++ (thread ∷ [])
+join Chain.Waiting rank list thread = list ++ (thread ∷ [])
 
-pub count-join : (chain : Chain) (t thread : ℕ) (list : List ℕ) → count t (join chain list thread) ≡ count t list + count t (thread ∷ [])
-count-join Chain.Entry t thread list = count-entered-all t list (thread ∷ [])
-count-join Chain.Contention t thread list = count-append t list (thread ∷ [])
-count-join Chain.Waiting t thread list = count-append t list (thread ∷ [])
+pub count-join : (chain : Chain) (t thread : ℕ) (rank : ℕ → ℕ) (list : List ℕ) → count t (join chain rank list thread) ≡ count t list + count t (thread ∷ [])
+count-join Chain.Entry t thread rank list = count-entered-all t rank list (thread ∷ [])
+count-join Chain.Contention t thread rank list = count-append t list (thread ∷ [])
+count-join Chain.Waiting t thread rank list = count-append t list (thread ∷ [])
 
 -- who of a chain is taken, and who is left
 abbrev pub taken : Taken → List ℕ → List ℕ
@@ -85,7 +91,7 @@ changed-so R same change changes states list t = by-test (R (states t)) (above-z
 
 -- a thread joins a chain
 abbrev pub joined-object : Chain → ℕ → ListObject → ListObject
-joined-object chain thread o = with-chain chain o (join chain (chain-of chain o) thread)
+joined-object chain thread o = with-chain chain o (join chain (o .rank) (chain-of chain o) thread)
 
 -- hand: the first of the entry chain leaves it and becomes holder at depth 0; with nobody there, holder and depth are 0
 abbrev pub handed-to : ListObject → ℕ → List ℕ → ListObject
@@ -99,7 +105,7 @@ handed-states states o = changed-states handed states (taken First (o .entry))
 
 -- threads of a chain move to the entry chain
 abbrev pub parted-object : Chain → List ℕ → List ℕ → ListObject → ListObject
-parted-object from gone kept o = let rest = with-chain from o kept in with-entry rest (enter-queue-all (rest .entry) gone)
+parted-object from gone kept o = let rest = with-chain from o kept in with-entry rest (enter-queue-all (o .rank) (rest .entry) gone)
 
 abbrev pub moved-object : Chain → Taken → ListObject → ListObject
 moved-object from which o = parted-object from (taken which (chain-of from o)) (left which (chain-of from o)) o

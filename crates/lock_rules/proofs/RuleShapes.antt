@@ -307,8 +307,8 @@ module _ (actor : Actor) where
             (record {
               entry = omega (
                 arith,
-                count-parted (λ t. is-queued-exit (moves t)) (enter-queue-all (o .entry) (o .contention)) (actor .thread),
-                count-entered-all (actor .thread) (o .entry) (o .contention),
+                count-parted (λ t. is-queued-exit (moves t)) (enter-queue-all (o .rank) (o .entry) (o .contention)) (actor .thread),
+                count-entered-all (actor .thread) (o .rank) (o .entry) (o .contention),
                 step .self .placed .entry,
                 step .self .placed .contention,
               );

@@ -81,10 +81,10 @@ pub unstranded-held : (word : WordSeen) (states : ℕ → ThreadState) (thread :
 unstranded-held word states thread state entry contention z stays =
     unstranded-told word (update states thread state) thread entry contention (λ c. inr (z, rw (update-same states thread state) (λ l. absurd (stays l))))
 
-pub unstranded-joined : (word : WordSeen) (states : ℕ → ThreadState) (first holder : ℕ) (entry contention : List ℕ) → holder ≢ 0
-    → Unstranded word states holder (enter-queue entry first) contention
-unstranded-joined word states first holder entry contention z =
-    unstranded-told word states holder (enter-queue entry first) contention (λ c. inr (z, λ k. entered≢nil entry first))
+pub unstranded-joined : (word : WordSeen) (states : ℕ → ThreadState) (first holder : ℕ) (rank : ℕ → ℕ) (entry contention : List ℕ) → holder ≢ 0
+    → Unstranded word states holder (enter-queue rank entry first) contention
+unstranded-joined word states first holder rank entry contention z =
+    unstranded-told word states holder (enter-queue rank entry first) contention (λ c. inr (z, λ k. entered≢nil rank entry first))
 
 pub flag-down : (word : WordSeen) (contention : List ℕ) → FlagOk word false contention → contention ≡ []
 flag-down word contention = each-word (λ w. FlagOk w false contention → contention ≡ []) (search, search, λ x. x .1, search, search) word

@@ -52,7 +52,8 @@ Joins (Move from which) state = InNone state
 Joins MoveAndLetOut state = InNone state
 Joins (SendBack u) state = InNone state
 
--- threads are in the entry chain only while there is a holder, so nobody hands over and joins it; `was` was the holder, `holder` is
+-- threads are in the entry chain only while there is a holder, so nobody hands over and joins it, and nobody moves from there; `was` was the holder,
+-- `holder` is
 abbrev pub EntryHeld : ChainWork → ℕ → ℕ → Type 0
 EntryHeld Stay was holder = holder ≡ 0 → was ≡ 0
 EntryHeld (Join chain) was holder = holder ≢ 0
@@ -60,7 +61,9 @@ EntryHeld (JoinAndHand Chain.Entry) was holder = ⊥
 EntryHeld (JoinAndHand Chain.Contention) was holder = Unit {0}
 EntryHeld (JoinAndHand Chain.Waiting) was holder = Unit {0}
 EntryHeld Hand was holder = Unit {0}
-EntryHeld (Move from which) was holder = holder ≢ 0
+EntryHeld (Move Chain.Entry which) was holder = ⊥
+EntryHeld (Move Chain.Contention which) was holder = holder ≢ 0
+EntryHeld (Move Chain.Waiting which) was holder = holder ≢ 0
 EntryHeld MoveAndLetOut was holder = holder ≢ 0
 EntryHeld (SendBack u) was holder = holder ≡ 0 → was ≡ 0
 
@@ -89,7 +92,8 @@ pub record EffectFine (thread was : ℕ) (effect : Effect) : Type 0 where
   pub shallow : effect .holder ≡ 0 → effect .depth ≡ 0
   pub joins : Joins (effect .work) (effect .state)
   pub entry : EntryHeld (effect .work) was (effect .holder)
-  pub holder : (effect .holder ≡ was) ⊎ (effect .holder ≡ thread)
+  -- a thread makes itself the holder where there is none
+  pub holder : (effect .holder ≡ was) ⊎ ((effect .holder ≡ thread) × (was ≡ 0))
   pub answers : Answers (effect .answer) (effect .state)
 
 abbrev pub ActionFine : ℕ → ℕ → Action → Type 0

@@ -79,6 +79,7 @@ module _ (threads objects : ℕ) (table : ListTable) (sound : SoundTable threads
               deep = s .deep;
               shallow = s .shallow;
               empty = s .empty;
+              ordered = s .ordered;
             };
       }
     where
@@ -111,10 +112,10 @@ module _ (threads objects : ℕ) (table : ListTable) (sound : SoundTable threads
     abbrev result : Performed
     result = perform-at table home t doing
 
-    here : states-at table home t ≡ Running doing
+    pub here : states-at table home t ≡ Running doing
     here = seen-here home (table .threads t) refl ∙ running
 
-    owes : ActionFine t (table .objects home .holder) (decide t (sight-of (table .objects home)) doing)
+    pub owes : ActionFine t (table .objects home .holder) (decide t (sight-of (table .objects home)) doing)
     owes =
         decide-fine threads t (sight-of (table .objects home)) (λ e. omega (arith, real, e)) (sound .sound home .deep) (sound .sound home .shallow) doing
         (rw running at (sound .fine t)) (sound .sound home .word)
@@ -201,8 +202,8 @@ module _ (threads objects : ℕ) (table : ListTable) (sound : SoundTable threads
       sound-begin operation given (given-fine number limit operation given asked fits) t o real low oreal olow idle)
       (λ t doing real low running. sound-step t doing real low running) (sound-tick (λ o. true))
 
-pub sound-fresh : (threads objects : ℕ) (reserved : Bool) → SoundTable threads objects (fresh reserved)
-sound-fresh threads objects reserved =
+pub sound-fresh : (threads objects : ℕ) (reserved : Bool) (rank : ℕ → ℕ) → SoundTable threads objects (fresh reserved rank)
+sound-fresh threads objects reserved rank =
     record {
       range = λ t. inl refl;
       fine = λ t. tt;
@@ -216,6 +217,7 @@ sound-fresh threads objects reserved =
             deep = omega arith;
             shallow = λ e. refl;
             empty = λ e. refl;
+            ordered = tt;
           };
     }
   where

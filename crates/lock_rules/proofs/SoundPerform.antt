@@ -12,6 +12,7 @@ use Rattle.laws.proofs.Update.{update-same, update-other}
 use Rattle.laws.proofs.Count.{count-none, count-same}
 use Rattle.laws.proofs.Filter.{count-parted}
 use Rattle.chains.specs.declared.named.Chain.{Chain}
+use Rattle.chains.proofs.Falling.{Falling, falling-failing}
 use Rattle.lock_word.specs.Depth.{depth-limit}
 use Rattle.lock_rules.proofs.Changes.{seen-after, handed, moved, is-queued-exit, let-out-state, look-again, sent-back}
 use Rattle.lock_rules.specs.declared.Limit.the-variants.{Unlimited, Ticks}
@@ -27,7 +28,7 @@ use Rattle.lock_rules.specs.declared.Action.the-variants.{Unruled, Do}
 use Rattle.lock_rules.proofs.Each.{each-doing, each-state, each-chain}
 use Rattle.lock_rules.proofs.Objects.{ListObject, chain-of, empty}
 use Rattle.lock_rules.proofs.Perform.{count-join, taking, taken, left, count-taken, first-of, changed-states, changed-so, joined-object, handed-object}
-use Rattle.lock_rules.proofs.Perform.{enter-queue-all, count-entered-all, moved-object, moved-states, states-after, object-after, effected, perform}
+use Rattle.lock_rules.proofs.Perform.{enter-queue-all, count-entered-all, falling-entered, moved-object, moved-states, states-after, object-after, effected, perform}
 use Rattle.lock_rules.proofs.Invariant.{InChains, Placed}
 use Rattle.lock_rules.proofs.Membership.{PlacedAt, placed-left, placed-unmoved, members-after}
 use Rattle.lock_rules.proofs.SharedFacts.{idle-changed}
@@ -107,21 +108,21 @@ module _ (thread : ℕ) where
       at : (chain : Chain) → count thread (thread ∷ []) ≡ 1 → Joins (Join chain) state → PlacedAt thread state (joined-object chain thread o)
       at Chain.Entry one (a, b, c) =
           record {
-            entry = omega (arith, count-join Chain.Entry thread thread (o .entry), one, p .entry, a);
+            entry = omega (arith, count-join Chain.Entry thread thread (o .rank) (o .entry), one, p .entry, a);
             contention = p .contention ∙ sym b;
             waiting = p .waiting ∙ sym c;
           }
       at Chain.Contention one (a, b, c) =
           record {
             entry = p .entry ∙ sym a;
-            contention = omega (arith, count-join Chain.Contention thread thread (o .contention), one, p .contention, b);
+            contention = omega (arith, count-join Chain.Contention thread thread (o .rank) (o .contention), one, p .contention, b);
             waiting = p .waiting ∙ sym c;
           }
       at Chain.Waiting one (a, b, c) =
           record {
             entry = p .entry ∙ sym a;
             contention = p .contention ∙ sym b;
-            waiting = omega (arith, count-join Chain.Waiting thread thread (o .waiting), one, p .waiting, c);
+            waiting = omega (arith, count-join Chain.Waiting thread thread (o .rank) (o .waiting), one, p .waiting, c);
           }
 
   own-out : (o : ListObject) (state : ThreadState) → InChains 0 0 0 thread (o .entry) (o .contention) (o .waiting) → InNone state → PlacedAt thread state o
@@ -150,8 +151,8 @@ module _ (thread : ℕ) where
       record {
         entry = omega (
           arith,
-          count-parted (λ t. is-queued-exit (moved-states Chain.Contention All states o t)) (enter-queue-all (o .entry) (o .contention)) thread,
-          count-entered-all thread (o .entry) (o .contention),
+          count-parted (λ t. is-queued-exit (moved-states Chain.Contention All states o t)) (enter-queue-all (o .rank) (o .entry) (o .contention)) thread,
+          count-entered-all thread (o .rank) (o .entry) (o .contention),
           p .entry,
           p .contention,
           a,
@@ -187,10 +188,39 @@ module _ (threads : ℕ) where
   whole-after (JoinAndHand Chain.Contention) thread was states o members queued held word low deep shallow = whole-handed o members word
   whole-after (JoinAndHand Chain.Waiting) thread was states o members queued held word low deep shallow = whole-handed o members word
   whole-after Hand thread was states o members queued held word low deep shallow = whole-handed o members word
-  whole-after (Move from which) thread was states o members queued held word low deep shallow =
-      let unheld : (list : List ℕ) → o .holder ≡ 0 → list ≡ [] = λ list e. absurd (held e) in each-chain (λ c. WholeFine (moved-object c which o)) (search unheld) from
+  whole-after (Move Chain.Entry which) thread was states o members queued held word low deep shallow = absurd held
+  whole-after (Move Chain.Contention which) thread was states o members queued held word low deep shallow = (word, low, deep, shallow, λ e. absurd (held e))
+  whole-after (Move Chain.Waiting which) thread was states o members queued held word low deep shallow = (word, low, deep, shallow, λ e. absurd (held e))
   whole-after MoveAndLetOut thread was states o members queued held word low deep shallow = (word, low, deep, shallow, λ e. absurd (held e))
   whole-after (SendBack u) thread was states o members queued held word low deep shallow = (word, low, deep, shallow, λ e. queued (held e))
+
+-- the entry chain stays in falling rank, whatever is done to it
+pub falling-left : (rank : ℕ → ℕ) (which : Taken) (list : List ℕ) → Falling rank list → Falling rank (left which list)
+falling-left rank First [] falls = tt
+falling-left rank First (first ∷ rest) falls = falls .1
+falling-left rank All list falls = tt
+
+abbrev pub Ordered : ListObject → Type 0
+Ordered o = Falling (o .rank) (o .entry)
+
+ordered-joined : (chain : Chain) (thread : ℕ) (o : ListObject) → Ordered o → Ordered (joined-object chain thread o)
+ordered-joined Chain.Entry thread o falls = falling-entered (o .rank) (o .entry) (thread ∷ []) falls
+ordered-joined Chain.Contention thread o falls = falls
+ordered-joined Chain.Waiting thread o falls = falls
+
+ordered-moved : (from : Chain) (which : Taken) (o : ListObject) → Ordered o → Ordered (moved-object from which o)
+ordered-moved Chain.Entry which o falls = falling-entered (o .rank) (left which (o .entry)) (taken which (o .entry)) (falling-left (o .rank) which (o .entry) falls)
+ordered-moved Chain.Contention which o falls = falling-entered (o .rank) (o .entry) (taken which (o .contention)) falls
+ordered-moved Chain.Waiting which o falls = falling-entered (o .rank) (o .entry) (taken which (o .waiting)) falls
+
+ordered-after : (work : ChainWork) (thread : ℕ) (states : ℕ → ThreadState) (o : ListObject) → Ordered o → Ordered (object-after work thread states o)
+ordered-after Stay thread states o falls = falls
+ordered-after (Join chain) thread states o falls = ordered-joined chain thread o falls
+ordered-after (JoinAndHand chain) thread states o falls = ordered-joined chain thread (handed-object o) (falling-left (o .rank) First (o .entry) falls)
+ordered-after Hand thread states o falls = falling-left (o .rank) First (o .entry) falls
+ordered-after (Move from which) thread states o falls = ordered-moved from which o falls
+ordered-after MoveAndLetOut thread states o falls = falling-failing (o .rank) _ (moved-object Chain.Contention All o .entry) (ordered-moved Chain.Contention All o falls)
+ordered-after (SendBack u) thread states o falls = falls
 
 -- a step of `thread` at an object that is sound
 module _ (threads thread : ℕ) (states : ℕ → ThreadState) (o : ListObject) (sound : SoundObject threads states o) (doing : Doing)
@@ -210,9 +240,9 @@ module _ (threads thread : ℕ) (states : ℕ → ThreadState) (o : ListObject) 
       (effected thread effect o)) thread
       (effect .state) (owes .state) t
 
-  holder-low : (holder : ℕ) → (holder ≡ o .holder) ⊎ (holder ≡ thread) → holder ≤ threads
+  holder-low : (holder : ℕ) → (holder ≡ o .holder) ⊎ ((holder ≡ thread) × (o .holder ≡ 0)) → holder ≤ threads
   holder-low holder (inl e) = omega (arith, e, sound .holder)
-  holder-low holder (inr e) = omega (arith, e, low)
+  holder-low holder (inr (e, free)) = omega (arith, e, low)
 
   pub performed-sound : (action : Action) → ActionFine thread (o .holder) action → ((t : ℕ) → 0 < count t (o .entry) → (0 < t) × (t ≤ threads))
       → SoundObject threads (perform thread states o action .states) (perform thread states o action .object)
@@ -230,6 +260,7 @@ module _ (threads thread : ℕ) (states : ℕ → ThreadState) (o : ListObject) 
         deep = deep;
         shallow = shallow;
         empty = empty;
+        ordered = ordered-after (effect .work) thread states (effected thread effect o) (sound .ordered);
       }
     where
       at : (t : ℕ) → (t ≡ thread) ⊎ (t ≢ thread) → let after = object-after (effect .work) thread states (effected thread effect o) in

@@ -16,13 +16,13 @@ use Rattle.lock_rules.specs.declared.ThreadState.the-variants.{Idle, Wai
 use Rattle.lock_rules.specs.declared.Taken.the-variants.{First}
 use Rattle.lock_rules.proofs.Changes.{moved, handed}
 use Rattle.lock_rules.proofs.Objects.{ListObject, empty}
-use Rattle.lock_rules.proofs.Perform.{taken, count-taken, count-entered-all, handed-object, handed-states}
+use Rattle.lock_rules.proofs.Perform.{taken, count-taken, count-entered-all, falling-entered, handed-object, handed-states}
 use Rattle.lock_rules.proofs.Tick.{Ticked, run-out-in, aged, due, parting, expired, tick-at, by-tick}
 use Rattle.lock_rules.proofs.Reliances.{is-waiting}
 use Rattle.lock_rules.proofs.Membership.{PlacedAt, Members, placed-unmoved, placed-left, members-moved, members-handed}
 use Rattle.lock_rules.proofs.SharedFacts.{idle-changed, expired-idle}
 use Rattle.lock_rules.proofs.ListSound.{LimitFine, LeftFine, WaitingFine, StateFine, SoundObject}
-use Rattle.lock_rules.proofs.SoundPerform.{handed-fine, changed-fine, whole-handed}
+use Rattle.lock_rules.proofs.SoundPerform.{handed-fine, changed-fine, whole-handed, falling-left, Ordered}
 
 -- a limit that has run out, and one that has not
 one-less-left : (limit : Limit) → LimitFine limit → LeftFine (one-less limit)
@@ -100,8 +100,11 @@ module _ (threads : ℕ) (states : ℕ → ThreadState) (o : ListObject) (sound 
     queue-in : (t : ℕ) → 0 < count t (after .object .entry) → (0 < t) × (t ≤ threads)
     queue-in t h =
         either-way (equal? (count t (o .entry)) 0)
-        (λ none. waiting-in t (omega (arith, h, none, count-entered-all t (o .entry) (parting states o .gone), parting states o .parted t)))
+        (λ none. waiting-in t (omega (arith, h, none, count-entered-all t (o .rank) (o .entry) (parting states o .gone), parting states o .parted t)))
         (λ some. entry-in t (omega (arith, some)))
+
+    held-order : Ordered (after .object)
+    held-order = falling-entered (o .rank) (o .entry) (parting states o .gone) (sound .ordered)
 
     held-sound : o .holder ≢ 0 → SoundObject threads (after .states) (after .object)
     held-sound held =
@@ -113,6 +116,7 @@ module _ (threads : ℕ) (states : ℕ → ThreadState) (o : ListObject) (sound 
           deep = sound .deep;
           shallow = sound .shallow;
           empty = λ free. absurd (held free);
+          ordered = held-order;
         }
 
     free-sound : SoundObject threads (handed-states (after .states) (after .object)) (handed-object (after .object))
@@ -130,6 +134,7 @@ module _ (threads : ℕ) (states : ℕ → ThreadState) (o : ListObject) (sound 
           deep = deep;
           shallow = shallow;
           empty = empty;
+          ordered = falling-left (o .rank) First queue held-order;
         }
 
     pub ticked-sound : SoundObject threads (tick-at states o .states) (tick-at states o .object)

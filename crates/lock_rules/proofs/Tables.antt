@@ -111,11 +111,11 @@ abbrev pub fresh-word : Bool → WordSeen
 fresh-word true = Anonymous
 fresh-word false = Free
 
-abbrev pub fresh-object : Bool → ListObject
-fresh-object reserved = object-of (fresh-word reserved) false 0 0 [] [] []
+abbrev pub fresh-object : Bool → (ℕ → ℕ) → ListObject
+fresh-object reserved rank = object-of rank (fresh-word reserved) false 0 0 [] [] []
 
-abbrev pub fresh : Bool → ListTable
-fresh reserved = record { threads = λ t. record { object = 0; state = Idle }; objects = λ o. fresh-object reserved }
+abbrev pub fresh : Bool → (ℕ → ℕ) → ListTable
+fresh reserved rank = record { threads = λ t. record { object = 0; state = Idle }; objects = λ o. fresh-object reserved rank }
 
 -- reading a thread from an object
 pub seen-idle : (o : ℕ) (thread : ListThread) → thread .state ≡ Idle → seen-from o thread ≡ Idle
