@@ -2,12 +2,15 @@
 use Prim.Native.Nat.{ℕ, _<_}
 use mathlib.Core.Path.{_≡_, refl, sym, _∙_}
 use mathlib.Core.Bool.{Bool, true, false}
+use mathlib.Core.List.{List}
 use native.Mathlib.Omega.{arith}
-use lib.Dec.{ltb}
-use borrow.Author.Tests.{ltb-true, lt-ltb, ne-eqb}
-use Rattle.laws.proofs.Choice.{split}
+use lib.Dec.{ltb, leb}
+use borrow.Author.Tests.{ltb-true, lt-leb}
+use Rattle.laws.specs.Choice.{within}
+use Rattle.laws.proofs.Choice.{split, both-no}
 use Rattle.lock_table.specs.Limits.{thread-limit, object-limit}
-use Rattle.lock_table.specs.Fresh.{sized-request, fresh-of}
+use Rattle.lock_table.specs.Fresh.{request-of, in-range, fresh-answer, met-request, fresh-of}
+use Rattle.lock_table.specs.declared.fresh_table.{ThreadGiven.ThreadGiven, FreshTable.FreshTable}
 use Rattle.lock_table.specs.Narrow.{narrow-of}
 use Rattle.lock_table.specs.Access.{thread-at, object-at}
 use Rattle.lock_table.specs.declared.record.Table.{Table}
@@ -28,19 +31,21 @@ narrowed f same n =
     split (ltb 255 n) (λ large. rw (narrow-large n large) (same n (ltb-true 255 n large))) (λ small. rw (narrow-small n small) refl)
 
 -- a fresh table
-threads-past : (objects : ℕ) (reserved : Bool) (n : ℕ) → 255 < n → fresh-of (sized-request 255 objects reserved) ≡ fresh-of (sized-request n objects reserved)
-unfolding fresh-of
-threads-past objects reserved n past = rw (ne-eqb n 0 (λ e. omega (arith, e, past)), lt-ltb thread-limit n (omega (arith, past))) refl
+module _ (reserved : Bool) (tothreads : List ThreadGiven) where
+  abbrev made : ℕ → ℕ → FreshTable
+  made threads objects = fresh-of (request-of threads objects reserved tothreads)
 
-objects-past : (threads : ℕ) (reserved : Bool) (n : ℕ) → 255 < n → fresh-of (sized-request threads 255 reserved) ≡ fresh-of (sized-request threads n reserved)
-unfolding fresh-of
-objects-past threads reserved n past = rw (ne-eqb n 0 (λ e. omega (arith, e, past)), lt-ltb object-limit n (omega (arith, past))) refl
+  threads-past : (objects n : ℕ) → 255 < n → made 255 objects ≡ made n objects
+  unfolding fresh-of fresh-answer met-request in-range
+  threads-past objects n past = rw (lt-leb n thread-limit (omega (arith, past)), both-no (leb 1 n)) refl
 
-pub narrow-fresh : (threads objects : ℕ) (reserved : Bool)
-    → fresh-of (sized-request (narrow-of threads) (narrow-of objects) reserved) ≡ fresh-of (sized-request threads objects reserved)
-narrow-fresh threads objects reserved =
-    narrowed (λ n. fresh-of (sized-request n (narrow-of objects) reserved)) (threads-past (narrow-of objects) reserved) threads
-    ∙ narrowed (λ n. fresh-of (sized-request threads n reserved)) (objects-past threads reserved) objects
+  objects-past : (threads n : ℕ) → 255 < n → made threads 255 ≡ made threads n
+  unfolding fresh-of fresh-answer met-request in-range
+  objects-past threads n past = rw (lt-leb n object-limit (omega (arith, past)), both-no (leb 1 n), both-no (within 1 thread-limit threads)) refl
+
+  pub narrow-fresh : (threads objects : ℕ) → made (narrow-of threads) (narrow-of objects) ≡ made threads objects
+  narrow-fresh threads objects =
+      narrowed (λ n. made n (narrow-of objects)) (threads-past (narrow-of objects)) threads ∙ narrowed (made threads) (objects-past threads) objects
 
 -- access: past the records there is nobody and nothing
 module _ (table : Table) where

@@ -7,12 +7,12 @@ use native.Mathlib.Numerals.{sub-one}
 use native.Mathlib.Omega.{arith}
 use lib.Dec.{eqb}
 use lib.ListN.{getD, set}
-use borrow.Author.Tests.{eq-eqb, ne-eqb}
+use borrow.Author.Tests.{ne-eqb}
 use Rattle.laws.specs.Choice.{pick}
 use Rattle.lock_table.specs.Limits.{thread-limit}
-use Rattle.lock_table.specs.Record.{no-thread, with-next}
+use Rattle.lock_table.specs.Record.{no-thread}
 use Rattle.lock_table.specs.Access.{thread-at, set-thread, next-of}
-use Rattle.lock_table.specs.Chain.{hang, moved, move-all}
+use Rattle.lock_table.specs.Chain.{moved, move-all}
 use Rattle.lock_table.specs.declared.record.{ThreadRecord.ThreadRecord, Table.Table}
 use Rattle.lock_table.proofs.Records.{thread-in, set-thread-in, thread-none, thread-past, set-thread-out}
 
@@ -29,35 +29,17 @@ unfolding move-all
 move-all-step {left = zero} h t first = absurd (not-suc-le-zero h)
 move-all-step {left = suc left} h t first = simp sub-one
 
-pub hang-step : {left : ℕ} → 0 < left → (t : Table) (front back : ℕ)
-    → hang left t front back
-    ≡ pick (eqb front 0) t
-    (pick (eqb (next-of t front) 0) (set-thread t front (with-next (thread-at t front) back)) (hang (left - 1) t (next-of t front) back))
-unfolding hang
-hang-step {left = zero} h t front back = absurd (not-suc-le-zero h)
-hang-step {left = suc left} h t front back = simp sub-one
-
 -- and its end
 pub move-all-end : {left : ℕ} → left ≤ 0 → (t : Table) (first : ℕ) → move-all left t first ≡ t
 unfolding move-all
 move-all-end {left = zero} h t first = refl
 move-all-end {left = suc left} h t first = absurd (not-suc-le-zero h)
 
-pub hang-end : {left : ℕ} → left ≤ 0 → (t : Table) (front back : ℕ) → hang left t front back ≡ t
-unfolding hang
-hang-end {left = zero} h t front back = refl
-hang-end {left = suc left} h t front back = absurd (not-suc-le-zero h)
-
--- of an empty chain nobody moves, and nothing hangs behind it
+-- of an empty chain nobody moves
 pub move-none : (left : ℕ) (t : Table) → move-all left t 0 ≡ t
 unfolding move-all
 move-none zero t = refl
 move-none (suc left) t = refl
-
-pub hang-none : (left : ℕ) (t : Table) (back : ℕ) → hang left t 0 back ≡ t
-unfolding hang
-hang-none zero t back = refl
-hang-none (suc left) t back = refl
 
 -- a number past the end has no thread: nothing is written, and the walk ends
 pub move-all-past : {left : ℕ} → 0 < left → (t : Table) (first : ℕ) → thread-limit < first → move-all left t first ≡ t
@@ -65,12 +47,6 @@ move-all-past {left} h t first past =
     move-all-step h t first
     ∙ rw (ne-eqb first 0 (λ q. omega (arith, q, past)), set-thread-out t first (moved (thread-at t first)) (inr past), next-past t first past)
     (move-none (left - 1) t)
-
-pub hang-past : {left : ℕ} → 0 < left → (t : Table) (front back : ℕ) → thread-limit < front → hang left t front back ≡ t
-hang-past {left} h t front back past =
-    hang-step h t front back
-    ∙ rw (ne-eqb front 0 (λ q. omega (arith, q, past)), next-past t front past)
-    (set-thread-out t front (with-next (thread-at t front) back) (inr past))
 
 -- a number in range: its record is read and written in place
 abbrev written : Table → ℕ → ThreadRecord → Table
@@ -87,18 +63,3 @@ move-all-turn {left} h t first some high =
     ∙ rw (ne-eqb first 0 some)
     (ap (λ (u : Table). move-all (left - 1) u (next-of t first)) (set-thread-in t first (moved (thread-at t first)) some high)
     ∙ ap (λ (thread : ThreadRecord). move-all (left - 1) (written t first (moved thread)) (thread .next)) (thread-in t first some high))
-
-pub hang-turn : {left : ℕ} → 0 < left → (t : Table) (front back : ℕ) → front ≢ 0 → front ≤ thread-limit → read t front .next ≢ 0
-    → hang left t front back ≡ hang (left - 1) t (read t front .next) back
-hang-turn {left} h t front back some high more =
-    let same : next-of t front ≡ read t front .next = ap (λ (thread : ThreadRecord). thread .next) (thread-in t front some high) in
-    hang-step h t front back ∙ rw (ne-eqb front 0 some, same, ne-eqb (read t front .next) 0 more)
-
-pub hang-last : {left : ℕ} → 0 < left → (t : Table) (front back : ℕ) → front ≢ 0 → front ≤ thread-limit → read t front .next ≡ 0
-    → hang left t front back ≡ written t front (with-next (read t front) back)
-hang-last {left} h t front back some high last =
-    let same : next-of t front ≡ 0 = ap (λ (thread : ThreadRecord). thread .next) (thread-in t front some high) ∙ last in
-    hang-step h t front back
-    ∙ rw (ne-eqb front 0 some, eq-eqb (next-of t front) 0 same)
-    (set-thread-in t front (with-next (thread-at t front) back) some high
-    ∙ ap (λ (thread : ThreadRecord). written t front (with-next thread back)) (thread-in t front some high))

@@ -12,13 +12,6 @@ use Rattle.lock_table.specs.declared.phase.Phase.the-variants.{Leave, In
 use Rattle.lock_table.specs.declared.record.ThreadRecord.{ThreadRecord}
 use Rattle.lock_table.specs.declared.record.Table.{Table}
 
--- chain `back` hung behind the chain from `front` on: the next index of the last thread is the first of `back`. Behind an empty chain hangs nothing.
-unfoldable pub hang : ℕ → Table → ℕ → ℕ → Table
-hang zero table front back = table
-hang (suc fuel) table front back =
-    pick (eqb front 0) table
-    (pick (eqb (next-of table front) 0) (set-thread table front (with-next (thread-at table front) back)) (hang fuel table (next-of table front) back))
-
 -- a queued thread that is handed the monitor takes the phase that it carries
 unfoldable pub carried-of : Phase → Phase
 carried-of Idle = Idle

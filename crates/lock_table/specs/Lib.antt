@@ -10,6 +10,5 @@ pub mod Parked
 pub mod Monitor
 pub mod Chain
 pub mod Fresh
-pub mod MetRequest
 pub mod Narrow
 pub mod Ownership

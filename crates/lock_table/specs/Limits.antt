@@ -1,4 +1,4 @@
--- How large a table can be (document 01, "The table").
+-- How large a table can be (document 01, "The table"), and how high a rank.
 use Prim.Native.Nat.{ℕ}
 
 abbrev pub thread-limit : ℕ
@@ -6,3 +6,7 @@ thread-limit = 32
 
 abbrev pub object-limit : ℕ
 object-limit = 64
+
+-- the highest rank (document 02, L8)
+abbrev pub rank-limit : ℕ
+rank-limit = 3

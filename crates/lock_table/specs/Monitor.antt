@@ -1,6 +1,5 @@
 -- What is done to a monitor (document 01, "Steps": going in, handing, inflating and moving each take a monitor and give it back altered).
 use Prim.Native.Nat.{ℕ}
-use Rattle.chains.specs.Joining.{first-with}
 use Rattle.chains.specs.declared.named.Chain.{Chain}
 use Rattle.lock_table.specs.declared.record.Monitor.{Monitor}
 use Rattle.lock_table.specs.declared.monitor.Handed.{Handed}
@@ -32,13 +31,13 @@ with-first m Chain.Contention first =
 with-first m Chain.Waiting first =
     record { depth = m .depth; holder = m .holder; entry = m .entry; contention = m .contention; waiting = first }
 
--- a thread, or a chain from its first thread on, joins a chain at the end
+-- threads have joined a chain: it begins with `first` then
 abbrev pub join : Monitor → Chain → ℕ → Monitor
-join m chain first = with-first m chain (first-with (first-in m chain) first)
+join m chain first = with-first m chain first
 
--- the first of a chain, or all of it, move to the entry chain: the chain that they leave begins with `left` then
-abbrev pub move-to-entry : Monitor → Chain → ℕ → Monitor
-move-to-entry m from left = join (with-first m from left) Chain.Entry (first-in m from)
+-- threads of a chain have moved to the entry chain: that chain begins with `left` then, and the entry chain with `first`
+abbrev pub move-to-entry : Monitor → Chain → ℕ → ℕ → Monitor
+move-to-entry m from left first = join (with-first m from left) Chain.Entry first
 
 -- threads are let out of the entry chain: it begins with `left` then, and the set of them is given back
 abbrev pub let-out-of : Monitor → ℕ → ℕ → LetOut

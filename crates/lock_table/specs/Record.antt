@@ -11,7 +11,7 @@ use Rattle.lock_table.specs.declared.record.ObjectRecord.{ObjectRecord}
 
 -- an idle thread: every field 0
 abbrev pub no-thread : ThreadRecord
-no-thread = record { kept = 0; saved = 0; ticks = 0; object = 0; next = 0; operation = no-operation; phase = Idle }
+no-thread = record { kept = 0; saved = 0; ticks = 0; object = 0; next = 0; rank = 0; operation = no-operation; phase = Idle }
 
 abbrev pub no-monitor : Monitor
 no-monitor = record { depth = 0; holder = 0; entry = 0; contention = 0; waiting = 0 }
@@ -30,7 +30,7 @@ activity thread =
 -- a thread at another activity: what is no part of it stays
 abbrev pub with-activity : ThreadRecord → Activity → ThreadRecord
 with-activity thread other =
-    record { kept = other .kept; saved = other .saved; ticks = other .ticks; object = other .object; next = thread .next; operation = other .operation; phase = other .phase }
+    record { kept = other .kept; saved = other .saved; ticks = other .ticks; object = other .object; next = thread .next; rank = thread .rank; operation = other .operation; phase = other .phase }
 
 -- "thread idle"
 abbrev pub idle : ThreadRecord → ThreadRecord
@@ -43,11 +43,15 @@ with-phase thread phase =
 
 abbrev pub with-ticks : ThreadRecord → ℕ → ThreadRecord
 with-ticks thread ticks =
-    record { kept = thread .kept; saved = thread .saved; ticks = ticks; object = thread .object; next = thread .next; operation = thread .operation; phase = thread .phase }
+    record { kept = thread .kept; saved = thread .saved; ticks = ticks; object = thread .object; next = thread .next; rank = thread .rank; operation = thread .operation; phase = thread .phase }
 
 abbrev pub with-next : ThreadRecord → ℕ → ThreadRecord
 with-next thread next =
-    record { kept = thread .kept; saved = thread .saved; ticks = thread .ticks; object = thread .object; next = next; operation = thread .operation; phase = thread .phase }
+    record { kept = thread .kept; saved = thread .saved; ticks = thread .ticks; object = thread .object; next = next; rank = thread .rank; operation = thread .operation; phase = thread .phase }
+
+abbrev pub with-rank : ThreadRecord → ℕ → ThreadRecord
+with-rank thread rank =
+    record { kept = thread .kept; saved = thread .saved; ticks = thread .ticks; object = thread .object; next = thread .next; rank = rank; operation = thread .operation; phase = thread .phase }
 
 abbrev pub with-word : ObjectRecord → ℕ → ObjectRecord
 with-word object word = record { word = word; monitor = object .monitor; flag = object .flag }

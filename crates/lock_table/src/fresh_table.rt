@@ -1,6 +1,7 @@
-// Fresh tables: every thread idle, every word free or anonymously reserved as asked, all else zero.
+// Fresh tables: every thread idle with what it is given, every word free or anonymously reserved as asked, all else zero.
 use crate::record::OBJECTS;
 use crate::record::ObjectRecord;
+use crate::record::RANKS;
 use crate::record::THREADS;
 use crate::record::Table;
 use crate::record::ThreadRecord;
@@ -10,8 +11,19 @@ ghost use mathlib.Core.Path.{_≡_};
 ghost use Prim.Native.Nat.{_≤_};
 ghost use Rattle.laws.specs.Sequence.{tabulate};
 ghost use Rattle.lock_table.specs.Limits.{thread-limit, object-limit};
-ghost use Rattle.lock_table.specs.Fresh.{sized-request, first-word, fresh-thread, fresh-object, table-of, fresh-of, fresh-returned};
-ghost use Rattle.lock_table.specs.MetRequest.{in-range, met-request, met-answer};
+ghost use Rattle.lock_table.specs.Fresh.{no-thread-given, sized-request, first-word, thread-given, object-given, fresh-thread, fresh-object, thread-from, object-from};
+ghost use Rattle.lock_table.specs.Fresh.{table-of, in-range, ranks-fit, fresh-answer, met-request, fresh-of, refusal-returned, fresh-returned};
+
+// What a thread of a fresh table is given, beside its number. It stays in every phase.
+pub struct ThreadGiven {
+    pub rank: u8,
+}
+
+// What an object is given.
+pub struct ObjectGiven {
+    // an anonymously reserved word, else a free one
+    pub reserved: bool,
+}
 
 // What a fresh table is asked to be.
 pub struct FreshRequest {
@@ -19,12 +31,20 @@ pub struct FreshRequest {
     pub objects: u16,
     // every word anonymously reserved, else free
     pub reserved: bool,
+    // what the threads are given, in order; what stands past T is not looked at
+    pub tothreads: [ThreadGiven; 32],
+}
+
+pub enum FreshRefusal {
+    // 22
+    SizeOutOfRange,
+    // 27
+    RankOutOfRange,
 }
 
 pub enum FreshAnswer {
     Made,
-    // 22
-    SizeOutOfRange,
+    Refused(FreshRefusal),
 }
 
 pub struct FreshTable {
@@ -33,7 +53,14 @@ pub struct FreshTable {
     pub table: Table,
 }
 
-// A request of sizes and of the kind of words.
+// Nothing: every field is 0.
+pub fn no_thread_given() -> ThreadGiven
+    ensures { λ r. ⌜ r ≡ no-thread-given ⌝ }
+{
+    ThreadGiven { rank: 0 }
+}
+
+// A request of sizes and of the kind of words: no thread is given anything.
 pub fn sized_request(threads: u16, objects: u16, reserved: bool) -> FreshRequest
     ensures { λ r. ⌜ r ≡ sized-request threads objects reserved ⌝ }
 {
@@ -41,6 +68,7 @@ pub fn sized_request(threads: u16, objects: u16, reserved: bool) -> FreshRequest
         threads: threads,
         objects: objects,
         reserved: reserved,
+        tothreads: [no_thread_given(); 32],
     }
 }
 
@@ -53,43 +81,69 @@ fn first_word(reserved: bool) -> u32
     lock_word::free_word()
 }
 
-// The record of the thread at a place, which counts from 0. What a request gives a thread goes in here; today that is nothing.
-fn fresh_thread(request: FreshRequest, place: usize) -> ThreadRecord
-    ensures { λ r. ⌜ r ≡ fresh-thread request place ⌝ }
+// What the thread at a place is given, which counts from 0: nothing is read past T.
+fn thread_given(request: FreshRequest, place: usize) -> ThreadGiven
+    ensures { λ r. ⌜ r ≡ thread-given request place ⌝ }
 {
-    no_thread()
+    if place < (request.threads as usize) {
+        if place < 32 {
+            return request.tothreads[place];
+        }
+        return no_thread_given();
+    }
+    no_thread_given()
 }
 
-// The record of the object at a place: an object in use, or the empty record past them.
-fn fresh_object(request: FreshRequest, place: usize) -> ObjectRecord
-    ensures { λ r. ⌜ r ≡ fresh-object request place ⌝ }
+// The same of the object at a place. All are given the same word.
+fn object_given(request: FreshRequest, place: usize) -> ObjectGiven
+    ensures { λ r. ⌜ r ≡ object-given request place ⌝ }
 {
-    let empty = no_object();
     if place < (request.objects as usize) {
-        return empty.with_word(first_word(request.reserved));
+        if place < 64 {
+            return ObjectGiven {
+                reserved: request.reserved,
+            };
+        }
     }
-    empty
+    ObjectGiven { reserved: false }
+}
+
+// An idle thread with what it is given: the empty record where that is nothing.
+fn fresh_thread(given: ThreadGiven) -> ThreadRecord
+    ensures { λ r. ⌜ r ≡ fresh-thread given ⌝ }
+{
+    ThreadRecord {
+        rank: given.rank,
+        ..no_thread()
+    }
+}
+
+// An object with what it is given, which nobody owns.
+fn fresh_object(given: ObjectGiven) -> ObjectRecord
+    ensures { λ r. ⌜ r ≡ fresh-object given ⌝ }
+{
+    no_object().with_word(first_word(given.reserved))
 }
 
 fn fresh_threads(request: FreshRequest) -> [ThreadRecord; 32]
-    ensures { λ r. ⌜ r ≡ tabulate thread-limit (fresh-thread request) ⌝ }
+    ensures { λ r. ⌜ r ≡ tabulate thread-limit (thread-from request) ⌝ }
 {
     let mut threads = [no_thread(); 32];
     let mut place: usize = 0;
     while place < 32 {
-        threads[place] = fresh_thread(request, place);
+        threads[place] = fresh_thread(thread_given(request, place));
         place = place + 1;
     }
     threads
 }
 
 fn fresh_objects(request: FreshRequest) -> [ObjectRecord; 64]
-    ensures { λ r. ⌜ r ≡ tabulate object-limit (fresh-object request) ⌝ }
+    ensures { λ r. ⌜ r ≡ tabulate object-limit (object-from request) ⌝ }
 {
     let mut objects = [no_object(); 64];
     let mut place: usize = 0;
     while place < 64 {
-        objects[place] = fresh_object(request, place);
+        objects[place] = fresh_object(object_given(request, place));
         place = place + 1;
     }
     objects
@@ -114,33 +168,61 @@ fn in_range(request: FreshRequest) -> bool
         & ((1 <= request.objects) & (request.objects <= (OBJECTS as u16)))
 }
 
-// The request, or one of nothing where it cannot be met.
-fn met_request(met: bool, request: FreshRequest) -> FreshRequest
-    ensures { λ r. ⌜ r ≡ met-request met request ⌝ }
+// Whether every rank that is given is 0 to 3.
+fn ranks_fit(request: FreshRequest) -> bool
+    ensures { λ r. ⌜ r ≡ ranks-fit request ⌝ }
 {
-    if met {
-        return request;
+    let mut left: usize = 32;
+    while 0 < left {
+        left = left - 1;
+        let given = thread_given(request, left);
+        if RANKS < given.rank {
+            return false;
+        }
     }
-    sized_request(0, 0, false)
+    true
 }
 
-fn met_answer(met: bool) -> FreshAnswer
-    ensures { λ r. ⌜ r ≡ met-answer met ⌝ }
+// Whether a table is made, or which refusal comes first.
+fn fresh_answer(request: FreshRequest) -> FreshAnswer
+    ensures { λ r. ⌜ r ≡ fresh-answer request ⌝ }
 {
-    if met {
-        return FreshAnswer::Made;
+    if !in_range(request) {
+        return FreshAnswer::Refused(FreshRefusal::SizeOutOfRange);
     }
-    FreshAnswer::SizeOutOfRange
+    if !ranks_fit(request) {
+        return FreshAnswer::Refused(FreshRefusal::RankOutOfRange);
+    }
+    FreshAnswer::Made
 }
 
-// A fresh table as asked, or 22. One table is made either way, so that there is room for no more than one on the stack.
+// The request, or one of nothing where it is refused.
+fn met_request(answer: FreshAnswer, request: FreshRequest) -> FreshRequest
+    ensures { λ r. ⌜ r ≡ met-request answer request ⌝ }
+{
+    match answer {
+        FreshAnswer::Made => request,
+        FreshAnswer::Refused(_) => sized_request(0, 0, false),
+    }
+}
+
+// A fresh table as asked, or the first refusal. One table is made either way, so that there is room for no more than one on the stack.
 pub fn fresh(request: FreshRequest) -> FreshTable
     ensures { λ r. ⌜ r ≡ fresh-of request ⌝ }
 {
-    let met = in_range(request);
+    let answer = fresh_answer(request);
     FreshTable {
-        answer: met_answer(met),
-        table: table_of(met_request(met, request)),
+        answer: answer,
+        table: table_of(met_request(answer, request)),
+    }
+}
+
+fn refusal_returned(refusal: FreshRefusal) -> u8
+    ensures { λ r. ⌜ r ≡ refusal-returned refusal ⌝ }
+{
+    match refusal {
+        FreshRefusal::SizeOutOfRange => 22,
+        FreshRefusal::RankOutOfRange => 27,
     }
 }
 
@@ -150,6 +232,6 @@ pub fn fresh_returned(answer: FreshAnswer) -> u8
 {
     match answer {
         FreshAnswer::Made => 0,
-        FreshAnswer::SizeOutOfRange => 22,
+        FreshAnswer::Refused(refusal) => refusal_returned(refusal),
     }
 }

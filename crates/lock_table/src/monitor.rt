@@ -2,7 +2,6 @@
 // A chain's other threads are reached through the table (chain.rt); a method is told the next index that it needs.
 use crate::record::Monitor;
 use chains::Chain;
-use chains::first_with;
 use lock_word::Depth;
 ghost use mathlib.Core.Path.{_≡_};
 ghost use Rattle.lock_table.specs.Monitor.{held-by, with-depth, hand-of, first-in, with-first, join, move-to-entry, let-out-of};
@@ -79,19 +78,18 @@ impl Monitor {
         }
     }
 
-    // A thread, or a chain from its first thread on, joins a chain at the end. Whoever joins one comes through here.
+    // Threads have joined a chain: it begins with `first` then.
     pub fn join(mut self, chain: Chain, first: u8) -> Monitor
         ensures { λ r. ⌜ r ≡ join self chain first ⌝ }
     {
-        self = self.with_first(chain, first_with(self.first_in(chain), first));
+        self = self.with_first(chain, first);
         self
     }
 
-    // The first of a chain, or all of it, move to the entry chain. `left` is who the chain begins with then: the first's next index, or 0.
-    pub fn move_to_entry(mut self, from: Chain, left: u8) -> Monitor
-        ensures { λ r. ⌜ r ≡ move-to-entry self from left ⌝ }
+    // Threads of a chain have moved to the entry chain: that chain begins with `left` then, and the entry chain with `first`.
+    pub fn move_to_entry(mut self, from: Chain, left: u8, first: u8) -> Monitor
+        ensures { λ r. ⌜ r ≡ move-to-entry self from left first ⌝ }
     {
-        let first = self.first_in(from);
         self = self.with_first(from, left);
         self.join(Chain::Entry, first)
     }

@@ -1,4 +1,5 @@
-// The records of a table, and each record with some of its fields changed. Fields lie widest first, as the compiler keeps their order.
+// The records of a table, and each record with some of its fields changed. Fields lie widest first, as the compiler keeps their order; the rank stands
+// where the soundness test and the events cost least.
 use crate::operation::Operation;
 use crate::phase::Phase;
 use lock_word::Depth;
@@ -12,6 +13,9 @@ pub const THREADS: u8 = 32;
 
 pub const OBJECTS: u8 = 64;
 
+// The highest rank.
+pub const RANKS: u8 = 3;
+
 pub struct ThreadRecord {
     // the reserved word read in phase 1 and about to be stored in phase 2
     pub kept: u32,
@@ -20,6 +24,8 @@ pub struct ThreadRecord {
     // the ticks that a timed wait has left
     pub ticks: Ticks,
     pub object: u8,
+    // 0 to 3, given with the fresh table: the entry chain is kept by falling rank
+    pub rank: u8,
     pub next: u8,
     pub operation: Operation,
     pub phase: Phase,
@@ -68,6 +74,7 @@ pub fn no_thread() -> ThreadRecord
         ticks: 0,
         object: 0,
         next: 0,
+        rank: 0,
         operation: Operation::Idle,
         phase: Phase::Idle,
     }

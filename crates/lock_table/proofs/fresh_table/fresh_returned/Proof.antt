@@ -8,4 +8,5 @@ pub fresh-returned-spec : {M : Type 1} → statement M
 unfolding fresh-returned
 fresh-returned-spec =
     tie.close
-    (tie.spec (λ c. search needs) (λ c. search needs) (λ c. simp (c .enum-told .given .1)) (λ c. simp (c .enum-told2 .given .1)))
+    (tie.spec (λ c. search needs) (λ c. search needs) (λ c κs. tt) (λ c. simp (c .enum-told .given .1))
+    (λ c. simp (c .refusal-returned .ensures, c .before .before .answer .given .1)))

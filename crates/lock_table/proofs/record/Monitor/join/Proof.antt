@@ -5,5 +5,4 @@ use Rattle.lock_table.proofs.record.Monitor.join.Tie as tie
 pub join-spec : {M : Type 1} → statement M
 join-spec =
     tie.close
-    (tie.spec (λ c κs. tt) (λ c κs. tt) (λ c κs. tt)
-    (λ c. simp (c .with-first .ensures, c .before .first-with .ensures, c .before .before .first-in .ensures)))
+    (tie.spec (λ c κs. tt) (λ c. simp (c .with-first .ensures)))
