@@ -1,5 +1,5 @@
 -- A record read and written at its place is that of its number; a number that has none reads as the empty record and writes nothing.
-use Prim.Native.Nat.{ℕ, _-_, _≤_, _<_}
+use Prim.Native.Nat.{ℕ, zero, suc, _-_, _≤_, _<_}
 use mathlib.Core.Path.{_≡_, refl, sym, ap, _∙_}
 use mathlib.Core.Logic.{_≢_}
 use mathlib.Core.Bool.{Bool, true, false}
@@ -8,19 +8,34 @@ use native.Mathlib.Omega.{arith}
 use lib.Dec.{eqb, ltb, leb}
 use lib.ListN.{getD, set}
 use lib.Seq.{set-getD}
-use borrow.Author.Tests.{ne-eqb, ltb-true, ltb-false, leb-true, leb-false}
+use borrow.Author.Tests.{ltb-true, ltb-false, leb-true, leb-false}
 use Rattle.laws.specs.Choice.{pick}
-use Rattle.laws.proofs.Choice.{split, either-way, equal?, Equal, equal, both-first, both-second, false≢true}
+use Rattle.laws.proofs.Choice.{split, both-first, both-second, false≢true}
+use Rattle.chains.specs.declared.named.Chain.{Chain}
 use Rattle.lock_rules.specs.declared.ChainWork.{ChainWork}
 use Rattle.lock_table.specs.Limits.{thread-limit, object-limit}
 use Rattle.lock_table.specs.Record.{no-thread, no-object, with-next, with-monitor}
 use Rattle.lock_table.specs.Access.{thread-at, set-thread, set-object, next-of}
-use Rattle.lock_table.specs.Chain.{hang, moved, move-all}
+use Rattle.lock_table.specs.Monitor.{first-in, with-first}
+use Rattle.lock_table.specs.Chain.{moved, move-all}
 use Rattle.lock_table.specs.Place.{place-within, thread-place, object-place}
 use Rattle.lock_table.specs.declared.record.{ThreadRecord.ThreadRecord, ObjectRecord.ObjectRecord, Monitor.Monitor, Table.Table}
-use Rattle.lock_table.proofs.Walks.{move-all-turn, move-all-end, move-all-past, move-none, hang-turn, hang-last, hang-end, hang-past, hang-none}
-use Rattle.lock_perform.specs.Moving.{CarriedOut, touched, plan, carried-out, relink, after-whole}
-use Rattle.lock_perform.specs.InPlace.{if-record, plan-at, goes-on, hung, own-written, if-object, object-written}
+use Rattle.lock_table.proofs.Walks.{move-all-turn, move-all-end, move-all-past, move-none}
+use Rattle.lock_perform.specs.Moving.{CarriedOut, touched, plan, carried-out, joined-by, relink}
+use Rattle.lock_perform.specs.Queueing.{queue}
+use Rattle.lock_perform.specs.declared.queueing.JoinedChain.{JoinedChain}
+use Rattle.lock_perform.specs.InPlace.{if-record, plan-at, goes-on, own-written, if-object, object-written}
+
+-- where nobody joins a chain, its first stays
+pub queue-none : (into : Chain) (fuel : ℕ) (t : Table) (first : ℕ) → queue into fuel t first 0 ≡ record { table = t; first = first }
+unfolding queue
+queue-none into zero t first = refl
+queue-none into (suc fuel) t first = refl
+
+pub same-first : (m : Monitor) (chain : Chain) → with-first m chain (first-in m chain) ≡ m
+same-first m Chain.Entry = refl
+same-first m Chain.Contention = refl
+same-first m Chain.Waiting = refl
 
 pub read-in-place : (t : Table) (n : ℕ) → if-record n (getD (t .threads) (thread-place n) no-thread) no-thread ≡ thread-at t n
 unfolding place-within if-record thread-at
@@ -96,52 +111,39 @@ set-both-in-place t n o own object monitor =
     set-object-in-place (with-threads t (set (t .threads) (thread-place n) (own-written n own (getD (t .threads) (thread-place n) no-thread)))) o object monitor
     ∙ ap (λ (u : Table). set-object u o (with-monitor object monitor)) (set-own-in-place t n own)
 
--- the one record changed at its place, and a chain hung behind another
+-- the one record changed at its place, and those that join a chain put at theirs
 pub relinked : (t : Table) (m : Monitor) (work : ChainWork) (thread object : ℕ)
     → let place = thread-place (touched work m) in
     let planned = plan-at work m thread object (getD (t .threads) place no-thread) in
-    relink t m work thread object
-    ≡ carried-out (hang thread-limit (with-threads t (set (t .threads) place (planned .changed))) (planned .front) (planned .back)) planned
+    relink t m work thread object ≡ carried-out (joined-by (with-threads t (set (t .threads) place (planned .changed))) planned) planned
 relinked t m work thread object =
     let number = touched work m in
     let planned = plan work m thread object (if-record number (getD (t .threads) (thread-place number) no-thread) no-thread) in
     sym
-    ((λ j. record {
-      table = hang thread-limit (set-in-place t number (planned .changed) j) (planned .front) (planned .back);
-      monitor = planned .monitor;
-      unparked = planned .unparked;
-    })
+    (ap (λ (changed : Table). carried-out (joined-by changed planned) planned) (set-in-place t number (planned .changed))
     ∙ ap
     (λ (before : ThreadRecord).
     let planned = plan work m thread object before in
-    carried-out (hang thread-limit (set-thread t number (planned .changed)) (planned .front) (planned .back)) planned)
+    carried-out (joined-by (set-thread t number (planned .changed)) planned) planned)
     (read-in-place t number))
 
 -- the same of a work by which nobody joins a chain
 pub relinked-alone : (t : Table) (m : Monitor) (work : ChainWork) (thread object : ℕ)
     → let place = thread-place (touched work m) in
     let planned = plan-at work m thread object (getD (t .threads) place no-thread) in
-    planned .front ≡ 0 → carried-out (with-threads t (set (t .threads) place (planned .changed))) planned ≡ relink t m work thread object
+    planned .back ≡ 0
+    → _≡_ {A = CarriedOut} (record { table = with-threads t (set (t .threads) place (planned .changed)); monitor = planned .monitor; unparked = planned .unparked })
+    (relink t m work thread object)
 relinked-alone t m work thread object none =
     let place = thread-place (touched work m) in
     let planned = plan-at work m thread object (getD (t .threads) place no-thread) in
     let changed = with-threads t (set (t .threads) place (planned .changed)) in
+    let first = first-in (planned .monitor) (planned .into) in
     sym
-    (relinked t m work thread object ∙ ap (λ (front : ℕ). carried-out (hang thread-limit changed front (planned .back)) planned) none
-    ∙ ap (λ (after : Table). carried-out after planned) (hang-none thread-limit changed (planned .back)))
-
--- of an empty chain nobody moves, so that the walk may be made of any
-pub after-whole-walk : (t : Table) (whole : ℕ) (m : Monitor) (work : ChainWork) (thread object : ℕ)
-    → after-whole t whole m work thread object ≡ relink (move-all thread-limit t whole) m work thread object
-unfolding after-whole
-after-whole-walk t whole m work thread object = at (eqb whole 0) (equal whole 0)
-  where
-    after : Table → CarriedOut
-    after table = relink table m work thread object
-
-    at : (b : Bool) → Equal b whole 0 → pick b (after t) (after (move-all thread-limit t whole)) ≡ after (move-all thread-limit t whole)
-    at true none = ap after (sym (ap (move-all thread-limit t) none ∙ move-none thread-limit t))
-    at false some = refl
+    (relinked t m work thread object
+    ∙ ap (λ (back : ℕ). carried-out (queue (planned .into) thread-limit changed first back) planned) none
+    ∙ (ap (λ (queued : JoinedChain). carried-out queued planned) (queue-none (planned .into) thread-limit changed first)
+    ∙ λ j. record { table = changed; monitor = same-first (planned .monitor) (planned .into) j; unparked = planned .unparked }))
 
 -- a walk that goes on, and one that has ended
 passing : (at left : ℕ) → goes-on at left ≡ true → (0 < left) × (at ≢ 0) × (at ≤ thread-limit)
@@ -177,21 +179,3 @@ pub move-stops : (at left : ℕ) → goes-on at left ≡ false → (t : Table) �
 move-stops at left test t =
     at-end at left test (λ done. move-all-end done t at) (λ none. ap (move-all left t) none ∙ move-none left t)
     (λ more past. move-all-past more t at past)
-
-pub hang-passes : (at left : ℕ) → goes-on at left ≡ true → (t : Table) (back : ℕ)
-    → hang left t at back
-    ≡ hang (left - 1) (with-threads t (set (t .threads) (at - 1) (hung (getD (t .threads) (at - 1) no-thread) back)))
-    (getD (t .threads) (at - 1) no-thread .next) back
-unfolding hung
-hang-passes at left test t back =
-    let (more, some, high) = passing at left test in
-    either-way (equal? (getD (t .threads) (at - 1) no-thread .next) 0)
-    (λ last. hang-last more t at back some high last ∙ sym (rw (last) (hang-none (left - 1) _ back)))
-    (λ goes.
-    hang-turn more t at back some high goes
-    ∙ sym (rw (ne-eqb _ 0 goes) (ap (λ (threads : List ThreadRecord). hang (left - 1) (with-threads t threads) (getD (t .threads) (at - 1) no-thread .next) back) (set-getD (t .threads) (at - 1) no-thread))))
-
-pub hang-stops : (at left : ℕ) → goes-on at left ≡ false → (t : Table) (back : ℕ) → hang left t at back ≡ t
-hang-stops at left test t back =
-    at-end at left test (λ done. hang-end done t at back) (λ none. ap (λ (n : ℕ). hang left t n back) none ∙ hang-none left t back)
-    (λ more past. hang-past more t at back past)

@@ -3,6 +3,6 @@ pub mod ThreadSets
 pub mod Lengths
 pub mod InPlace
 pub mod PartInPlace
-pub mod LetOutInPlace
+pub mod QueueInPlace
 pub mod Staying
 pub mod Performed

@@ -8,14 +8,16 @@ use Rattle.lock_rules.specs.declared.ChainWork.{ChainWork}
 use Rattle.lock_rules.specs.declared.ChainWork.the-variants.{Stay, Join, JoinAndHand, Hand, Move, MoveAndLetOut, SendBack}
 use Rattle.lock_table.specs.{Limits.thread-limit, Access.thread-at}
 use Rattle.lock_table.specs.declared.record.{Monitor.Monitor, Table.Table}
-use Rattle.lock_table.proofs.{Records.set-thread-out, Walks.hang-none}
+use Rattle.chains.specs.declared.named.Chain.{Chain}
+use Rattle.lock_table.proofs.Records.{set-thread-out}
+use Rattle.lock_perform.proofs.InPlace.{queue-none}
 use Rattle.lock_perform.specs.Moving.{after-whole, carry-out}
 use Rattle.lock_perform.specs.Perform.{stays}
 
 pub carry-out-stay : (table : Table) (monitor : Monitor) (thread object : ℕ)
     → carry-out table monitor Stay thread object ≡ record { table = table; monitor = monitor; unparked = 0 }
 unfolding after-whole
-carry-out-stay table monitor thread object = rw (set-thread-out table 0 (thread-at table 0) (inl refl), hang-none thread-limit table 0)
+carry-out-stay table monitor thread object = rw (set-thread-out table 0 (thread-at table 0) (inl refl), queue-none Chain.Entry thread-limit table (monitor .entry))
 
 -- the same of any work that stays: there is no other
 pub stays-carried : (table : Table) (monitor : Monitor) (thread object : ℕ) (work : ChainWork) → stays work ≡ true

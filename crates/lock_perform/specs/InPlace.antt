@@ -1,20 +1,21 @@
--- Parting.antt, Moving.antt and Perform.antt as the code does them, one record at a time, which it reads and writes at its place. Nothing of this is
+-- Parting.antt, Queueing.antt, Moving.antt and Perform.antt as the code does them, one record at a time, which it reads and writes at its place. Nothing of this is
 -- needed to say what a step does.
 use Prim.Native.Nat.{ℕ}
 use mathlib.Core.Bool.{Bool}
-use lib.Dec.{eqb, ltb}
+use mathlib.Core.List.{List}
+use lib.Dec.{eqb, ltb, leb}
+use lib.ListN.{getD}
 use Rattle.laws.specs.Choice.{pick, both, within}
 use Rattle.lock_rules.specs.declared.ChainWork.{ChainWork}
 use Rattle.lock_table.specs.Limits.{thread-limit, object-limit}
 use Rattle.lock_table.specs.Record.{no-thread, with-next, with-monitor}
+use Rattle.lock_table.specs.Place.{thread-place}
 use Rattle.lock_table.specs.declared.record.ThreadRecord.{ThreadRecord}
 use Rattle.lock_table.specs.declared.record.ObjectRecord.{ObjectRecord}
 use Rattle.lock_table.specs.declared.record.Monitor.{Monitor}
 use Rattle.lock_table.specs.declared.monitor.LetOut.{LetOut}
-use Rattle.lock_table.specs.Monitor.{let-out-of}
 use Rattle.lock_perform.specs.Moving.{touched, plan}
 use Rattle.lock_perform.specs.declared.moving.ChainPlan.{ChainPlan}
-use Rattle.lock_perform.specs.declared.parting.Parting.{Parting}
 
 -- what is read and written for a number: number 0 and numbers past the end have no record
 unfoldable pub if-record : ℕ → ThreadRecord → ThreadRecord → ThreadRecord
@@ -29,30 +30,29 @@ plan-at work monitor thread object there =
       changed = if-record number (planned .changed) there;
       monitor = planned .monitor;
       unparked = planned .unparked;
-      front = planned .front;
       back = planned .back;
+      into = planned .into;
     }
 
 -- a walk along a chain goes on with this thread: there is one, and no more were passed than there are
 abbrev pub goes-on : ℕ → ℕ → Bool
 goes-on at left = both (ltb 0 left) (within 1 thread-limit at)
 
--- a thread of a chain behind which another is hung
-unfoldable pub hung : ThreadRecord → ℕ → ThreadRecord
-hung thread back = pick (eqb (thread .next) 0) (with-next thread back) thread
+-- a record read at the place of a number, from the records alone
+abbrev pub record-in : List ThreadRecord → ℕ → ThreadRecord
+record-in threads n = getD threads (thread-place n) no-thread
+
+-- the walk to the place of one who joins goes on past the thread `there`, who stays before it
+unfoldable pub stays-before : ℕ → ℕ → ThreadRecord → ℕ → Bool
+stays-before here left there rank = both (goes-on here left) (leb rank (there .rank))
 
 -- what is written at the place of the last thread of a chain, where `there` is what stood there
 abbrev pub linked-to : ℕ → ThreadRecord → ℕ → ThreadRecord
 linked-to last there thread = if-record last (with-next there thread) there
 
--- where the walk begins that lets exits out: at the entry chain, or nowhere
-unfoldable pub let-out-from : Bool → Monitor → ℕ
-let-out-from lets monitor = pick lets (monitor .entry) 0
-
--- the monitor after it, and who was unparked
-unfoldable pub let-out-by : Bool → Monitor → ℕ → Parting → LetOut
-let-out-by lets monitor unparked parting =
-    pick lets (let-out-of monitor (parting .left .first) (parting .set)) (record { monitor = monitor; threads = unparked })
+-- a monitor before anybody is let out, and who was unparked
+abbrev pub none-out : Monitor → ℕ → LetOut
+none-out monitor unparked = record { monitor = monitor; threads = unparked }
 
 -- what is written at the places of the two records, where `there` is what stood there after the work
 abbrev pub own-written : ℕ → ThreadRecord → ThreadRecord → ThreadRecord

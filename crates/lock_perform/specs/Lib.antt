@@ -3,6 +3,7 @@ pub mod State
 pub mod Sight
 pub mod ThreadSet
 pub mod Parting
+pub mod Queueing
 pub mod Moving
 pub mod Perform
 pub mod InPlace

@@ -12,8 +12,8 @@ use Rattle.lock_table.specs.Limits.{thread-limit}
 use Rattle.lock_table.specs.Record.{with-next, with-activity, idle}
 use Rattle.lock_table.specs.Phase.{phase-number, carried-number}
 use Rattle.lock_table.specs.Access.{thread-at, set-thread}
-use Rattle.lock_table.specs.Monitor.{hand-of, first-in, with-first, join, move-to-entry, let-out-of}
-use Rattle.lock_table.specs.Chain.{hang, handed-of, moved, move-all}
+use Rattle.lock_table.specs.Monitor.{hand-of, first-in, with-first, join, let-out-of}
+use Rattle.lock_table.specs.Chain.{handed-of, moved, move-all}
 use Rattle.lock_table.specs.Narrow.{narrow-of}
 use Rattle.lock_table.specs.declared.phase.Phase.{Phase}
 use Rattle.lock_table.specs.declared.phase.Phase.the-variants.{Idle, Look, Store, Cancel, GoIn, Queued, Check, Try, Contending, Test, Tell, Leave}
@@ -24,6 +24,9 @@ use Rattle.lock_table.specs.declared.record.Monitor.{Monitor}
 use Rattle.lock_table.specs.declared.record.Table.{Table}
 use Rattle.lock_perform.specs.ThreadSet.{thread-set}
 use Rattle.lock_perform.specs.Parting.{no-parting, part-chain}
+use Rattle.lock_perform.specs.Queueing.{queue}
+use Rattle.lock_perform.specs.declared.queueing.JoinedChain.{JoinedChain}
+use Rattle.lock_perform.specs.declared.parting.PartedChain.{PartedChain}
 use Rattle.lock_perform.specs.declared.moving.ChainPlan.{ChainPlan}
 
 -- cancel: the word's thread, if in phase 2 on this object, goes back to 1; its kept word falls out of use
@@ -68,28 +71,22 @@ touched (SendBack owner) monitor = narrow-of owner
 
 -- the record changes, and nobody joins a chain
 abbrev pub unlinked : ThreadRecord → Monitor → ℕ → ChainPlan
-unlinked changed monitor unparked = record { changed = changed; monitor = monitor; unparked = unparked; front = 0; back = 0 }
+unlinked changed monitor unparked = record { changed = changed; monitor = monitor; unparked = unparked; back = 0; into = Chain.Entry }
 
--- `thread` joins a chain at the end
+-- `thread` joins a chain
 abbrev pub joining : ThreadRecord → Monitor → ℕ → Chain → ℕ → ChainPlan
 joining changed monitor unparked chain thread =
-    record {
-      changed = changed;
-      monitor = join monitor chain thread;
-      unparked = unparked;
-      front = first-in monitor chain;
-      back = thread;
-    }
+    record { changed = changed; monitor = monitor; unparked = unparked; back = thread; into = chain }
 
--- the first of a chain, or the whole of it, moves to the end of the entry chain; `left` is who its chain begins with then
+-- the first of a chain, or the whole of it, moves to the entry chain; `left` is who its chain begins with then
 abbrev pub moving : ThreadRecord → Monitor → Chain → ℕ → ChainPlan
 moving changed monitor from left =
     record {
       changed = changed;
-      monitor = move-to-entry monitor from left;
+      monitor = with-first monitor from left;
       unparked = 0;
-      front = with-first monitor from left .entry;
       back = first-in monitor from;
+      into = Chain.Entry;
     }
 
 -- What each work does, by `thread` at `object`; `before` is the record that it changes.
@@ -120,16 +117,21 @@ pub record CarriedOut : Type 0 where
   pub monitor : Monitor
   pub unparked : ℕ
 
--- a table, and what of the plan goes with it
-abbrev pub carried-out : Table → ChainPlan → CarriedOut
-carried-out table planned = record { table = table; monitor = planned .monitor; unparked = planned .unparked }
+-- a table in which threads have joined the plan's chain, and what of the plan goes with it
+abbrev pub carried-out : JoinedChain → ChainPlan → CarriedOut
+carried-out queued planned =
+    record { table = queued .table; monitor = join (planned .monitor) (planned .into) (queued .first); unparked = planned .unparked }
 
--- one record changed, and one chain hung behind another
+-- who joins, in a table
+abbrev pub joined-by : Table → ChainPlan → JoinedChain
+joined-by table planned = queue (planned .into) thread-limit table (first-in (planned .monitor) (planned .into)) (planned .back)
+
+-- one record changed, and those that join a chain put at their places
 abbrev pub relink : Table → Monitor → ChainWork → ℕ → ℕ → CarriedOut
 relink table monitor work thread object =
     let number = touched work monitor in
     let planned = plan work monitor thread object (thread-at table number) in
-    carried-out (hang thread-limit (set-thread table number (planned .changed)) (planned .front) (planned .back)) planned
+    carried-out (joined-by (set-thread table number (planned .changed)) planned) planned
 
 -- the first of a chain that moves whole, 0 for none
 abbrev pub whole-move : Monitor → Chain → Taken → ℕ
@@ -158,10 +160,13 @@ queued-exit thread = eqb (carried-number (thread .phase)) (phase-number Tell)
 unfoldable pub let-out : ThreadRecord → Bool → ThreadRecord
 let-out thread goes = let after = with-next thread 0 in pick goes (idle after) after
 
+abbrev pub exits-parted : Table → ℕ → PartedChain
+exits-parted table first = part-chain queued-exit let-out false thread-limit table no-parting first
+
 -- the others stay in order; those that were let out are unparked, and nobody was by the move before
 abbrev pub let-outs : Table → Monitor → CarriedOut
 let-outs table monitor =
-    let parted = part-chain queued-exit let-out false thread-limit table no-parting (monitor .entry) in
+    let parted = exits-parted table (monitor .entry) in
     let left = let-out-of monitor (parted .parting .left .first) (parted .parting .set) in
     record { table = parted .table; monitor = left .monitor; unparked = left .threads }
 

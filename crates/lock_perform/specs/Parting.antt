@@ -13,6 +13,7 @@ use Rattle.lock_table.specs.declared.record.ThreadRecord.{ThreadRecord}
 use Rattle.lock_table.specs.declared.record.Table.{Table}
 use Rattle.lock_perform.specs.ThreadSet.{thread-set}
 use Rattle.lock_perform.specs.declared.parting.Parting.{Parting}
+use Rattle.lock_perform.specs.declared.parting.PartedChain.{PartedChain}
 
 -- the chain of those that stay, that of those that go, and who goes
 abbrev pub no-parting : Parting
@@ -31,11 +32,6 @@ passed together parting goes thread =
     pick goes
     (record { left = parting .left; taken = taken-with together (parting .taken) thread; set = bitOr (parting .set) (thread-set thread) })
     (record { left = grown (parting .left) thread; taken = parting .taken; set = parting .set })
-
--- a table, and what a chain of it was parted into
-pub record PartedChain : Type 0 where
-  pub table : Table
-  pub parting : Parting
 
 -- from `at` on, each thread joins the end of its chain, if it joins one; `after` gives its record with no thread behind it
 unfoldable pub part-chain : (ThreadRecord → Bool) → (ThreadRecord → Bool → ThreadRecord) → Bool → ℕ → Table → Parting → ℕ → PartedChain

@@ -1,6 +1,5 @@
 // Exits let out of the entry chain by an inflating rule (document 02, L2). No table is looked at: who has it in a local goes along the chain and asks
 // here what becomes of each record.
-use crate::parting::Parting;
 use lock_rules::ChainWork;
 use lock_table::LetOut;
 use lock_table::Monitor;
@@ -11,7 +10,7 @@ use lock_table::no_activity;
 use lock_table::phase_number;
 ghost use mathlib.Core.Path.{_≡_};
 ghost use Rattle.lock_perform.specs.Moving.{queued-exit, let-out, lets-out};
-ghost use Rattle.lock_perform.specs.InPlace.{let-out-from, let-out-by};
+ghost use Rattle.lock_perform.specs.InPlace.{none-out};
 
 // Whether a thread is a queued exit: it carries 10.
 pub fn queued_exit(thread: ThreadRecord) -> bool
@@ -47,23 +46,10 @@ pub fn lets_out(work: ChainWork) -> bool
     }
 }
 
-// Where the walk begins: at the entry chain, or nowhere.
-pub fn let_out_from(lets: bool, monitor: Monitor) -> u8
-    ensures { λ r. ⌜ r ≡ let-out-from lets monitor ⌝ }
+// The monitor before anybody is let out, and the set of threads that the work has unparked.
+pub fn none_out(monitor: Monitor, unparked: u32) -> LetOut
+    ensures { λ r. ⌜ r ≡ none-out monitor unparked ⌝ }
 {
-    if lets {
-        return monitor.entry;
-    }
-    0
-}
-
-// The monitor after the walk, and the set of threads that the work unparked.
-pub fn let_out_by(lets: bool, monitor: Monitor, unparked: u32, parting: Parting) -> LetOut
-    ensures { λ r. ⌜ r ≡ let-out-by lets monitor unparked parting ⌝ }
-{
-    if lets {
-        return monitor.let_out(parting.left.first, parting.set);
-    }
     LetOut {
         monitor: monitor,
         threads: unparked,

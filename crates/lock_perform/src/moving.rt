@@ -15,16 +15,16 @@ use lock_table::no_thread;
 ghost use mathlib.Core.Path.{_≡_};
 ghost use Rattle.lock_perform.specs.Moving.{look-again, back-from, sent-back-of, touched-by-move, touched, unlinked, joining, moving};
 ghost use Rattle.lock_perform.specs.Moving.{plan-hand, plan-join-and-hand, plan-move, plan, whole-move, moved-whole};
-ghost use Rattle.lock_perform.specs.InPlace.{if-record, plan-at, goes-on, hung};
+ghost use Rattle.lock_perform.specs.InPlace.{if-record, plan-at, goes-on};
 
-// What a work does: the record that it changes as it is then, the monitor after it, whom it unparks, and which chain is hung behind which; 0 for
-// nobody.
+// What a work does: the record that it changes as it is then, the monitor before anybody joins a chain of it, whom it unparks, and who joins which
+// chain: a thread, or a chain from its first thread on, 0 for nobody.
 pub struct ChainPlan {
     pub changed: ThreadRecord,
     pub monitor: Monitor,
     pub unparked: u32,
-    pub front: u8,
     pub back: u8,
+    pub into: Chain,
 }
 
 fn look_again(thread: ThreadRecord) -> ThreadRecord
@@ -102,8 +102,8 @@ fn unlinked(changed: ThreadRecord, monitor: Monitor, unparked: u32) -> ChainPlan
         changed: changed,
         monitor: monitor,
         unparked: unparked,
-        front: 0,
         back: 0,
+        into: Chain::Entry,
     }
 }
 
@@ -118,23 +118,23 @@ fn joining(
 {
     ChainPlan {
         changed: changed,
-        monitor: monitor.join(chain, thread),
+        monitor: monitor,
         unparked: unparked,
-        front: monitor.first_in(chain),
         back: thread,
+        into: chain,
     }
 }
 
 fn moving(changed: ThreadRecord, monitor: Monitor, from: Chain, left: u8) -> ChainPlan
     ensures { λ r. ⌜ r ≡ moving changed monitor from left ⌝ }
 {
-    let rest = monitor.with_first(from, left);
+    let first = monitor.first_in(from);
     ChainPlan {
         changed: changed,
-        monitor: monitor.move_to_entry(from, left),
+        monitor: monitor.with_first(from, left),
         unparked: 0,
-        front: rest.entry,
-        back: monitor.first_in(from),
+        back: first,
+        into: Chain::Entry,
     }
 }
 
@@ -248,14 +248,4 @@ pub fn goes_on(at: u8, left: u8) -> bool
     ensures { λ r. ⌜ r ≡ goes-on at left ⌝ }
 {
     (0 < left) & ((1 <= at) & (at <= THREADS))
-}
-
-// A thread of a chain behind which another is hung: the last one's next index is the first of the other chain.
-pub fn hung(thread: ThreadRecord, back: u8) -> ThreadRecord
-    ensures { λ r. ⌜ r ≡ hung thread back ⌝ }
-{
-    if thread.next == 0 {
-        return thread.with_next(back);
-    }
-    thread
 }

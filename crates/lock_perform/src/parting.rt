@@ -4,6 +4,7 @@ use crate::moving::if_record;
 use crate::thread_set::thread_set;
 use chains::Ends;
 use chains::no_ends;
+use lock_table::Table;
 use lock_table::ThreadRecord;
 ghost use mathlib.Core.Path.{_≡_};
 ghost use Rattle.lock_perform.specs.Parting.{no-parting, last-behind, taken-with, passed};
@@ -14,6 +15,12 @@ pub struct Parting {
     pub left: Ends,
     pub taken: Ends,
     pub set: u32,
+}
+
+// A table, and what a chain of it was parted into.
+pub struct PartedChain {
+    pub table: Table,
+    pub parting: Parting,
 }
 
 pub fn no_parting() -> Parting

@@ -1,34 +1,39 @@
 -- The work on the chains done in place: what the code's locals are when it is done gives what the definitions say.
 use Prim.Native.Nat.{ℕ}
-use mathlib.Core.Path.{_≡_, sym, ap, _∙_}
-use mathlib.Core.Bool.{Bool, false}
+use mathlib.Core.Path.{_≡_, refl, sym, ap, _∙_}
+use mathlib.Core.Bool.{Bool, true, false}
+use lib.Dec.{eqb}
 use lib.ListN.{getD, set}
 use Rattle.laws.specs.Choice.{pick}
 use Rattle.lock_rules.specs.declared.ChainWork.{ChainWork}
 use Rattle.lock_table.specs.Limits.{thread-limit}
 use Rattle.lock_table.specs.Record.{no-thread, no-object, with-next, with-monitor}
 use Rattle.lock_table.specs.Access.{set-thread, set-object, next-of}
-use Rattle.lock_table.specs.Chain.{hang, move-all}
+use Rattle.lock_table.specs.Monitor.{join}
+use Rattle.lock_table.specs.Chain.{move-all}
 use Rattle.lock_table.specs.Place.{thread-place, object-place}
 use Rattle.lock_table.specs.declared.monitor.LetOut.{LetOut}
-use Rattle.lock_table.specs.declared.record.{ThreadRecord.ThreadRecord, ObjectRecord.ObjectRecord, Table.Table}
-use Rattle.lock_perform.specs.Parting.{PartedChain, no-parting, part-chain}
-use Rattle.lock_perform.specs.Moving.{CarriedOut, touched, moved-whole, carried-out, queued-exit, let-out, let-outs, lets-out, carry-out}
-use Rattle.lock_perform.specs.InPlace.{plan-at, let-out-from, let-out-by, own-written, object-written}
+use Rattle.lock_table.specs.declared.record.{ThreadRecord.ThreadRecord, ObjectRecord.ObjectRecord, Monitor.Monitor, Table.Table}
+use Rattle.lock_perform.specs.declared.queueing.JoinedChain.{JoinedChain}
+use Rattle.lock_perform.specs.Moving.{CarriedOut, touched, moved-whole, carried-out, joined-by, relink, after-whole, let-outs, lets-out, carry-out}
+use Rattle.lock_perform.specs.InPlace.{plan-at, own-written, object-written}
 use Rattle.lock_perform.specs.declared.moving.ChainPlan.{ChainPlan}
-use Rattle.lock_perform.proofs.InPlace.{with-threads, set-both-in-place, relinked, after-whole-walk}
-use Rattle.lock_perform.proofs.LetOutInPlace.{let-out-walk, let-out-after, let-out-in-place}
+use Rattle.lock_perform.proofs.InPlace.{with-threads, set-both-in-place, relinked}
 use Rattle.lock_work.specs.Work.{chains-done}
 use Rattle.lock_work.specs.declared.settling.WorkDone.{WorkDone}
 
--- the whole chain moved, one record changed, and one chain hung behind another
-abbrev relinked-in : Table → ChainPlan → ℕ → Table
-relinked-in t planned place = hang thread-limit (with-threads t (set (t .threads) place (planned .changed))) (planned .front) (planned .back)
+-- the whole chain moved, one record changed, and those that join a chain put at their places
+abbrev relinked-in : Table → ChainPlan → ℕ → JoinedChain
+relinked-in t planned place = joined-by (with-threads t (set (t .threads) place (planned .changed))) planned
 
 -- and both records written
 abbrev both-in : Table → ℕ → ℕ → ThreadRecord → ObjectRecord → Table
 both-in t place home own object =
     record { threadcount = t .threadcount; objectcount = t .objectcount; threads = set (t .threads) place own; objects = set (t .objects) home object }
+
+-- exits let out, by a work that does so
+abbrev pub after-joining : ChainWork → CarriedOut → CarriedOut
+after-joining work carried = pick (lets-out work) (let-outs (carried .table) (carried .monitor)) carried
 
 module _ (t : Table) (thread number : ℕ) (own : ThreadRecord) (object : ObjectRecord) (work : ChainWork) where
   abbrev first : ℕ
@@ -40,19 +45,25 @@ module _ (t : Table) (thread number : ℕ) (own : ThreadRecord) (object : Object
   abbrev plan-in : Table → ChainPlan
   plan-in moved = plan-at work (object .monitor) thread number (getD (moved .threads) spot no-thread)
 
-  -- before exits are let out, and after
-  abbrev hung-in : CarriedOut
-  hung-in = let moved = move-all thread-limit t first in carried-out (relinked-in moved (plan-in moved) spot) (plan-in moved)
+  -- the threads of a chain that moves whole changed first
+  abbrev moved-in : Table
+  moved-in = pick (eqb first 0) t (move-all thread-limit t first)
 
   abbrev out-in : CarriedOut
-  out-in = let-out-after (lets-out work) hung-in (let-out-walk (lets-out work) hung-in)
+  out-in = after-joining work (carried-out (relinked-in moved-in (plan-in moved-in) spot) (plan-in moved-in))
+
+  whole-in : after-whole t first (object .monitor) work thread number ≡ relink moved-in (object .monitor) work thread number
+  unfolding after-whole
+  whole-in = at (eqb first 0)
+    where
+      at : (none : Bool)
+          → pick none (relink t (object .monitor) work thread number) (relink (move-all thread-limit t first) (object .monitor) work thread number)
+          ≡ relink (pick none t (move-all thread-limit t first)) (object .monitor) work thread number
+      at true = refl
+      at false = refl
 
   carried : carry-out t (object .monitor) work thread number ≡ out-in
-  carried =
-      ap (λ (carried : CarriedOut). pick (lets-out work) (let-outs (carried .table) (carried .monitor)) carried)
-      (after-whole-walk t first (object .monitor) work thread number
-      ∙ relinked (move-all thread-limit t first) (object .monitor) work thread number)
-      ∙ let-out-in-place (lets-out work) hung-in
+  carried = ap (after-joining work) (whole-in ∙ relinked moved-in (object .monitor) work thread number)
 
   done : _≡_ {A = WorkDone}
       (record {
@@ -72,15 +83,15 @@ module _ (t : Table) (thread number : ℕ) (own : ThreadRecord) (object : Object
       })
       (sym carried)
 
-  pub work-in-place : {whole touches place from own-place home : ℕ} {moved hung : Table} {planned : ChainPlan} {lets : Bool} {walked : PartedChain} {out : LetOut}
+  pub work-in-place : {whole touches place own-place home : ℕ} {moved after : Table} {planned : ChainPlan} {joined : JoinedChain} {monitor : Monitor} {out : LetOut}
       {own-after : ThreadRecord} {object-after : ObjectRecord}
-      → whole ≡ first → moved ≡ move-all thread-limit t whole → touches ≡ touched work (object .monitor) → place ≡ thread-place touches
+      → whole ≡ first → moved ≡ pick (eqb whole 0) t (move-all thread-limit t whole) → touches ≡ touched work (object .monitor) → place ≡ thread-place touches
       → planned ≡ plan-at work (object .monitor) thread number (getD (moved .threads) place no-thread)
-      → hung ≡ relinked-in moved planned place → lets ≡ lets-out work → from ≡ let-out-from lets (planned .monitor)
-      → walked ≡ part-chain queued-exit let-out false thread-limit hung no-parting from
-      → out ≡ let-out-by lets (planned .monitor) (planned .unparked) (walked .parting) → own-place ≡ thread-place thread
-      → own-after ≡ own-written thread own (getD (walked .table .threads) own-place no-thread) → home ≡ object-place number
-      → object-after ≡ object-written number object (out .monitor) (getD (walked .table .objects) home no-object)
-      → record { table = both-in (walked .table) own-place home own-after object-after; unparked = out .threads } ≡ chains-done t thread number own object work
-  work-in-place whole-is moved-is touches-are place-is planned-is hung-is lets-is from-is walked-is out-is own-place-is own-is home-is object-is =
-      rw (object-is, home-is, own-is, own-place-is, out-is, walked-is, from-is, lets-is, hung-is, planned-is, place-is, touches-are, moved-is, whole-is) done
+      → joined ≡ relinked-in moved planned place → monitor ≡ join (planned .monitor) (planned .into) (joined .first)
+      → (let carried = after-joining work (record { table = joined .table; monitor = monitor; unparked = planned .unparked }) in
+      (after ≡ carried .table) × (out ≡ record { monitor = carried .monitor; threads = carried .unparked }))
+      → own-place ≡ thread-place thread → own-after ≡ own-written thread own (getD (after .threads) own-place no-thread) → home ≡ object-place number
+      → object-after ≡ object-written number object (out .monitor) (getD (after .objects) home no-object)
+      → record { table = both-in after own-place home own-after object-after; unparked = out .threads } ≡ chains-done t thread number own object work
+  work-in-place whole-is moved-is touches-are place-is planned-is joined-is monitor-is (after-is, out-is) own-place-is own-is home-is object-is =
+      rw (object-is, home-is, own-is, own-place-is, out-is, after-is, monitor-is, joined-is, planned-is, place-is, touches-are, moved-is, whole-is) done

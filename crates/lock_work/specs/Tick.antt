@@ -9,19 +9,14 @@ use Rattle.lock_rules.specs.declared.ChainWork.the-variants.{Hand, Stay}
 use Rattle.lock_table.specs.Limits.{thread-limit, object-limit}
 use Rattle.lock_table.specs.Record.{with-monitor}
 use Rattle.lock_table.specs.Access.{object-at, set-object}
-use Rattle.lock_table.specs.Monitor.{with-first, join}
-use Rattle.lock_table.specs.Chain.{hang}
+use Rattle.lock_table.specs.Monitor.{move-to-entry}
 use Rattle.lock_table.specs.declared.record.Monitor.{Monitor}
 use Rattle.lock_table.specs.declared.record.Table.{Table}
 use Rattle.lock_perform.specs.Moving.{CarriedOut, relink}
 use Rattle.lock_perform.specs.Parting.{no-parting}
-use Rattle.lock_perform.specs.declared.parting.Parting.{Parting}
+use Rattle.lock_perform.specs.Queueing.{queue}
 use Rattle.lock_work.specs.Waiters.{part-waiters}
 use Rattle.lock_work.specs.declared.settling.WorkDone.{WorkDone}
-
--- those that ran out join the entry chain; the waiting chain is left to the others
-abbrev pub moved-monitor : Monitor → Parting → Monitor
-moved-monitor monitor parting = join (with-first monitor Chain.Waiting (parting .left .first)) Chain.Entry (parting .taken .first)
 
 -- a monitor that nobody holds is handed as a step hands it
 unfoldable pub handing : Monitor → ChainWork
@@ -30,14 +25,15 @@ handing monitor = pick (eqb (monitor .holder) 0) Hand Stay
 unfoldable pub hand-if-free : Table → Monitor → CarriedOut
 hand-if-free table monitor = relink table monitor (handing monitor) 0 0
 
--- an object on which somebody waits; whom the hand unparks is passed up
+-- an object on which somebody waits: those that run out join the entry chain, and the waiting chain is left to the others; whom the hand unparks is
+-- passed up
 abbrev pub tick-waited : Table → ℕ → WorkDone
 tick-waited table number =
     let object = object-at table number in
     let monitor = object .monitor in
     let parted = part-waiters thread-limit table no-parting (monitor .waiting) in
-    let hung = hang thread-limit (parted .table) (monitor .entry) (parted .parting .taken .first) in
-    let after = hand-if-free hung (moved-monitor monitor (parted .parting)) in
+    let queued = queue Chain.Entry thread-limit (parted .table) (monitor .entry) (parted .parting .taken .first) in
+    let after = hand-if-free (queued .table) (move-to-entry monitor Chain.Waiting (parted .parting .left .first) (queued .first)) in
     record { table = set-object (after .table) number (with-monitor object (after .monitor)); unparked = after .unparked }
 
 -- nobody is unparked

@@ -10,7 +10,8 @@ use Rattle.lock_table.specs.declared.operation.Operation.{Operation}
 use Rattle.lock_table.specs.declared.operation.Operation.the-variants.{Idle, Enter, Exit, Wait, Notify, NotifyAll, TimedWait}
 use Rattle.lock_table.specs.declared.record.ThreadRecord.{ThreadRecord}
 use Rattle.lock_table.specs.declared.record.Table.{Table}
-use Rattle.lock_perform.specs.Parting.{PartedChain, part-chain}
+use Rattle.lock_perform.specs.Parting.{part-chain}
+use Rattle.lock_perform.specs.declared.parting.PartedChain.{PartedChain}
 use Rattle.lock_perform.specs.declared.parting.Parting.{Parting}
 
 -- "loses one"; a wait without a limit has none to lose

@@ -3,6 +3,7 @@
 mod settling;
 mod ticking;
 mod waiters;
+mod walking;
 
 pub use settling::Work;
 pub use settling::WorkDone;

@@ -1,21 +1,20 @@
 // What an event leaves to be done to the table besides its two records, done. A rule's work is on the chains of its object: the table stands in one
-// local, the chains are walked and the records written there, and functions of records say what becomes of each. A tick's is on every waiting chain.
+// local, and functions of records say what becomes of each record; only what is rare, a whole chain that moves and exits that are let out, has a function
+// that takes the table and gives it back. A tick's is on every waiting chain.
 use crate::ticking::tick;
+use crate::walking::move_all;
+use crate::walking::part_exits;
+use lock_perform::first_at;
 use lock_perform::goes_on;
-use lock_perform::hung;
-use lock_perform::last_behind;
-use lock_perform::let_out;
-use lock_perform::let_out_by;
-use lock_perform::let_out_from;
+use lock_perform::joining_rank;
 use lock_perform::lets_out;
 use lock_perform::linked_to;
 use lock_perform::moved_whole;
-use lock_perform::no_parting;
+use lock_perform::none_out;
 use lock_perform::object_written;
 use lock_perform::own_written;
-use lock_perform::passed;
+use lock_perform::place_for;
 use lock_perform::plan_at;
-use lock_perform::queued_exit;
 use lock_perform::stays;
 use lock_perform::touched;
 use lock_rules::ChainWork;
@@ -23,7 +22,6 @@ use lock_table::ObjectRecord;
 use lock_table::THREADS;
 use lock_table::Table;
 use lock_table::ThreadRecord;
-use lock_table::moved;
 use lock_table::object_place;
 use lock_table::thread_place;
 ghost use mathlib.Core.Path.{_≡_};
@@ -51,7 +49,7 @@ pub struct WorkDone {
 }
 
 // The work done, and both records written: the thread's with the next index and the object's with the chains that the work gave. First the threads of a
-// chain that moves whole are changed, then one record is and the chain that joins another is hung behind its last thread; at last exits are let out.
+// chain that moves whole are changed, then one record is, and those that join a chain are put at their places; at last exits are let out.
 fn chains_done(
     table: Table,
     thread: u8,
@@ -63,51 +61,40 @@ fn chains_done(
     ensures { λ r. ⌜ r ≡ chains-done table thread number own object work ⌝ }
 {
     let mut changed = table;
-    let start = object.monitor;
-    let mut at = moved_whole(work, start);
+    let whole = moved_whole(work, object.monitor);
+    if whole != 0 {
+        changed = move_all(changed, whole);
+    }
+    let place = thread_place(touched(work, object.monitor));
+    let planned = plan_at(work, object.monitor, thread, number, changed.threads[place]);
+    let replaced = planned.changed;
+    changed.threads[place] = replaced;
+    let into = planned.into;
+    let mut first = planned.monitor.first_in(into);
+    let mut at = planned.back;
     let mut left = THREADS;
     while goes_on(at, left) {
         let spot = (at as usize) - 1;
-        let passed = changed.threads[spot];
-        changed.threads[spot] = moved(passed);
-        at = passed.next;
+        let joining = changed.threads[spot];
+        let place = place_for(changed.threads, first, joining_rank(into, joining));
+        changed.threads[spot] = joining.with_next(place.here);
+        let behind = thread_place(place.last);
+        changed.threads[behind] = linked_to(place.last, changed.threads[behind], at);
+        first = first_at(place.last, first, at);
+        at = joining.next;
         left = left - 1;
     }
-    let place = thread_place(touched(work, start));
-    let planned = plan_at(work, start, thread, number, changed.threads[place]);
-    let replaced = planned.changed;
-    changed.threads[place] = replaced;
-    at = planned.front;
-    left = THREADS;
-    while goes_on(at, left) {
-        let spot = (at as usize) - 1;
-        let passed = changed.threads[spot];
-        changed.threads[spot] = hung(passed, planned.back);
-        at = passed.next;
-        left = left - 1;
+    let mut out = none_out(planned.monitor.join(into, first), planned.unparked);
+    if lets_out(work) {
+        let parted = part_exits(changed, out.monitor.entry);
+        changed = parted.table;
+        out = out.monitor
+            .let_out(parted.parting.left.first, parted.parting.set);
     }
-    let lets = lets_out(work);
-    let mut parting = no_parting();
-    at = let_out_from(lets, planned.monitor);
-    left = THREADS;
-    while goes_on(at, left) {
-        let spot = (at as usize) - 1;
-        let queued = changed.threads[spot];
-        let goes = queued_exit(queued);
-        changed.threads[spot] = let_out(queued, goes);
-        let last = last_behind(parting, goes);
-        let behind = thread_place(last);
-        changed.threads[behind] = linked_to(last, changed.threads[behind], at);
-        parting = passed(false, parting, goes, at);
-        at = queued.next;
-        left = left - 1;
-    }
-    let out = let_out_by(lets, planned.monitor, planned.unparked, parting);
     let place = thread_place(thread);
     changed.threads[place] = own_written(thread, own, changed.threads[place]);
     let home = object_place(number);
-    let there = changed.objects[home];
-    changed.objects[home] = object_written(number, object, out.monitor, there);
+    changed.objects[home] = object_written(number, object, out.monitor, changed.objects[home]);
     WorkDone {
         table: changed,
         unparked: out.threads,

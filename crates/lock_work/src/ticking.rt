@@ -2,10 +2,9 @@
 use crate::settling::WorkDone;
 use crate::waiters::runs_out;
 use crate::waiters::waiter_after;
+use crate::walking::queue;
 use chains::Chain;
-use lock_perform::Parting;
 use lock_perform::goes_on;
-use lock_perform::hung;
 use lock_perform::last_behind;
 use lock_perform::linked_to;
 use lock_perform::no_parting;
@@ -19,18 +18,7 @@ use lock_table::THREADS;
 use lock_table::Table;
 use lock_table::thread_place;
 ghost use mathlib.Core.Path.{_≡_};
-ghost use Rattle.lock_work.specs.Tick.{moved-monitor, handing, tick};
-
-// Those that ran out join the entry chain; the waiting chain is left to the others.
-fn moved_monitor(monitor: Monitor, parting: Parting) -> Monitor
-    ensures { λ r. ⌜ r ≡ moved-monitor monitor parting ⌝ }
-{
-    let left = parting.left;
-    let taken = parting.taken;
-    monitor
-        .with_first(Chain::Waiting, left.first)
-        .join(Chain::Entry, taken.first)
-}
+ghost use Rattle.lock_work.specs.Tick.{handing, tick};
 
 // The work that hands a monitor which nobody holds.
 fn handing(monitor: Monitor) -> ChainWork
@@ -42,8 +30,9 @@ fn handing(monitor: Monitor) -> ChainWork
     ChainWork::Stay
 }
 
-// All objects, rising. Where nobody waits nobody moves, and a monitor that nobody holds has nobody to be handed to. The table stands in this function
-// alone: the waiters are parted, those that go are hung behind the entry chain, and its first is handed the monitor. Only the hand unparks anybody.
+// All objects, rising. Where nobody waits nobody moves, and a monitor that nobody holds has nobody to be handed to. The waiters are parted in this
+// function's own table; those that run out, if there are any, join the entry chain, and its first is handed a monitor that nobody holds. Only the hand
+// unparks anybody.
 pub(crate) fn tick(table: Table) -> WorkDone
     ensures { λ r. ⌜ r ≡ tick table ⌝ }
 {
@@ -70,24 +59,22 @@ pub(crate) fn tick(table: Table) -> WorkDone
                 at = waiter.next;
                 left = left - 1;
             }
-            at = object.monitor.entry;
-            left = THREADS;
-            while goes_on(at, left) {
-                let spot = (at as usize) - 1;
-                let queued = changed.threads[spot];
-                changed.threads[spot] = hung(queued, parting.taken.first);
-                at = queued.next;
-                left = left - 1;
+            let mut first = object.monitor.entry;
+            if parting.taken.first != 0 {
+                let joined = queue(changed, Chain::Entry, first, parting.taken.first);
+                changed = joined.table;
+                first = joined.first;
             }
-            let monitor = moved_monitor(object.monitor, parting);
+            let monitor = object
+                .monitor
+                .move_to_entry(Chain::Waiting, parting.left.first, first);
             let work = handing(monitor);
             let place = thread_place(touched(work, monitor));
             let planned = plan_at(work, monitor, 0, 0, changed.threads[place]);
             let heir = planned.changed;
             changed.threads[place] = heir;
             unparked = unparked | planned.unparked;
-            let handed = planned.monitor;
-            changed.objects[home] = object.with_monitor(handed);
+            changed.objects[home] = object.with_monitor(planned.monitor);
         }
     }
     WorkDone {

@@ -5,5 +5,4 @@ use Rattle.lock_perform.proofs.moving.moving.Tie as tie
 pub moving-spec : {M : Type 1} → statement M
 moving-spec =
     tie.close
-    (tie.spec (λ c κs. tt) (λ c κs. tt) (λ c κs. tt)
-    (λ c. simp (c .first-in .ensures, c .before .move-to-entry .ensures, c .before .before .with-first .ensures)))
+    (tie.spec (λ c κs. tt) (λ c κs. tt) (λ c. simp (c .with-first .ensures, c .before .first-in .ensures)))
