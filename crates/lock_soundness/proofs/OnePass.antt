@@ -25,7 +25,7 @@ use Rattle.lock_table.proofs.{Records.thread-none, Walks.next-none}
 use Rattle.sound_records.specs.Records.{used-object-fits, empty-object}
 use Rattle.sound_records.specs.OnePass.{thread-passes}
 use Rattle.sound_records.proofs.Reading.{Within, ObjectFits, ThreadFits, chain-kinds, parked-busy, no-object-fits, no-thread-fits}
-use Rattle.sound_records.proofs.Reading.{reads-object, reads-thread, reads-names, reads-empty-thread, reads-empty-object}
+use Rattle.sound_records.proofs.Reading.{reads-object, reads-thread, reads-falls, reads-names, reads-empty-thread, reads-empty-object}
 use Rattle.lock_soundness.specs.Sound.{sound-of}
 use Rattle.lock_soundness.specs.OnePass.{thread-in, next-in, member-fits, chain-passes, chains-pass, chain-marks, chains-marks, object-passes}
 use Rattle.lock_soundness.specs.OnePass.{object-turn, objects-marks, thread-turn, one-pass}
@@ -52,13 +52,20 @@ each-three P one two three (suc (suc zero)) low high = two
 each-three P one two three (suc (suc (suc zero))) low high = three
 each-three P one two three (suc (suc (suc (suc k)))) low high = absurd (omega (arith, high))
 
--- what soundness says of a chain, of an object's three, and of a thread that is in the chain of its object which its phase names
+-- what soundness says of a thread in a chain, of the chain, of an object's three, and of a thread that is in the chain of its object which its phase
+-- names
 module _ (t : Table) where
+  -- nobody of a higher rank stands behind it, if it is queued
+  abbrev Falls : ℕ → Type 0
+  Falls n = thread-chain (thread-at t n) ≡ 1 → thread-at t (next-of t n) .rank ≤ thread-at t n .rank
+
+  abbrev MemberSays : ℕ → ℕ → ℕ → Type 0
+  MemberSays o chain n = ((thread-at t n .object ≡ o) × (thread-chain (thread-at t n) ≡ chain)) × Falls n
+
   abbrev ChainSays : ℕ → ℕ → ℕ → Type 0
   ChainSays o chain first =
       (follow (t .threadcount) (next-of t) first ≡ 0)
-      × ((n : ℕ) → 0 < count n (members (t .threadcount) (next-of t) first)
-      → Within 1 (t .threadcount) n × ((thread-at t n .object ≡ o) × (thread-chain (thread-at t n) ≡ chain)))
+      × ((n : ℕ) → 0 < count n (members (t .threadcount) (next-of t) first) → Within 1 (t .threadcount) n × MemberSays o chain n)
 
   abbrev ChainsSay : ℕ → Type 0
   ChainsSay o = Each 3 (λ chain. ChainSays o chain (chain-first t o chain))
@@ -79,12 +86,13 @@ module _ (t : Table) where
 -- each is what the code asks of the record
 module _ (t : Table) (few : t .threadcount ≤ thread-limit) (fewer : t .objectcount ≤ object-limit) where
   member : (o chain n : ℕ)
-      → Reads (member-fits (t .threads) (t .threadcount) o chain n)
-      ((n ≤ t .threadcount) × ((n ≤ thread-limit) × ((thread-at t n .object ≡ o) × (thread-chain (thread-at t n) ≡ chain))))
+      → Reads (member-fits (t .threads) (t .threadcount) o chain n) ((n ≤ t .threadcount) × ((n ≤ thread-limit) × MemberSays t o chain n))
   unfolding member-fits thread-in thread-at
-  member o chain n = reads-guard (t .threadcount) n (reads-guard thread-limit n (reads-names o chain (thread-at t n)))
+  member o chain n =
+      reads-guard (t .threadcount) n
+      (reads-guard thread-limit n (reads-both (reads-names o chain (thread-at t n)) (reads-falls (thread-at t n) (thread-at t (next-of t n) .rank))))
 
-  -- one walk finds out what two clauses ask of a chain
+  -- one walk finds out what three clauses ask of a chain
   walked : (o chain first : ℕ) → Reads (chain-passes (t .threads) (t .threadcount) o chain first) (ChainSays t o chain first)
   unfolding chain-passes thread-in thread-at
   walked o chain first =
@@ -161,7 +169,7 @@ module _ (t : Table) (few : t .threadcount ≤ thread-limit) (fewer : t .objectc
       where
         own : ChainsSay t o → (chain : ℕ) → 1 ≤ chain → chain ≤ 3 → 0 < count n (threads-in-chain t o chain) → Placed t n × (thread-at t n .object ≡ o)
         own say chain first last inside =
-            let (here, names) = say chain first last .1 n inside .1 in
+            let (here, names) = say chain first last .1 n inside .1 .0 in
             (rw (here, names) inside, here)
 
         there : ChainsSay t o → ((0 < count n (threads-in-chain t o 1)) ⊎ (0 < count n (threads-in-chain t o 2))) ⊎ (0 < count n (threads-in-chain t o 3))
@@ -306,14 +314,20 @@ one-pass-reads t =
       chains-end = λ o low high chain first last. objects o low high .1 chain first last .0;
       chains-inside = λ o low high chain first last n h. objects o low high .1 chain first last .1 n h .0;
       parked = λ n low high. threads n low high .1;
-      no-others = λ o low high chain first last n h. objects o low high .1 chain first last .1 n h .1;
+      no-others = λ o low high chain first last n h. objects o low high .1 chain first last .1 n h .1 .0;
+      falling = λ n low high queued.
+          let parked : thread-chain (thread-at t n) ≢ 0 = λ none. omega (arith, none, queued) in
+          let (first, last) = threads n low high .0 .operation (parked-busy (phase-number-at t n) parked) .0 in
+          objects (thread-at t n .object) first last .1 1 (omega arith) (omega arith) .1 n (rw queued at (threads n low high .1 parked)) .1 .1 queued;
       threads-past = threads-past;
       objects-past = objects-past;
     })
     (λ s.
     let chains : Each (t .objectcount) (ChainsSay t) = λ o low high chain first last. (
       s .chains-end o low high chain first last,
-      λ n h. (s .chains-inside o low high chain first last n h, s .no-others o low high chain first last n h),
+      λ n h.
+          let (one, highest) = s .chains-inside o low high chain first last n h in
+          ((one, highest), (s .no-others o low high chain first last n h, s .falling n one highest)),
     ) in (
       s .sizes,
       (

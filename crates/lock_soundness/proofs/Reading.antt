@@ -16,7 +16,7 @@ use Rattle.lock_table.specs.Parked.{thread-chain, first-in, home-at, chain-firs
 use Rattle.lock_table.specs.declared.record.{Monitor.Monitor, Table.Table}
 use Rattle.lock_table.proofs.Walks.{next-none}
 use Rattle.sound_records.proofs.Reading.{Within, ObjectFits, ThreadFits, reads-names, reads-empty-thread, reads-empty-object, reads-object}
-use Rattle.sound_records.proofs.Reading.{reads-thread}
+use Rattle.sound_records.proofs.Reading.{reads-thread, reads-falls}
 use Rattle.lock_soundness.specs.Sound.{sizes-fit, found-in, every-chain, sound-of}
 use Rattle.lock_soundness.proofs.Chained.{follow, reads-chain}
 
@@ -41,6 +41,7 @@ pub record Sound (t : Table) : Type 0 where
   pub no-others :
       Each (t .objectcount)
       (λ o. Each 3 (λ chain. (n : ℕ) → 0 < count n (threads-in-chain t o chain) → (thread-at t n .object ≡ o) × (thread-chain (thread-at t n) ≡ chain)))
+  pub falling : Each (t .threadcount) (λ n. thread-chain (thread-at t n) ≡ 1 → thread-at t (next-of t n) .rank ≤ thread-at t n .rank)
   pub threads-past : Each thread-limit (λ n. t .threadcount < n → thread-at t n ≡ no-thread)
   pub objects-past : Each object-limit (λ o. t .objectcount < o → object-at t o ≡ no-object)
 
@@ -80,9 +81,10 @@ module _ (t : Table) where
       (reads-both (chained _ (λ o chain n. reads-within 1 (t .threadcount) n))
       (reads-both (reads-all (t .threadcount) _ (λ n. reads-found (t .threadcount) (next-of t) n (thread-chain (thread-at t n)) (home-at t n .monitor)))
       (reads-both (chained _ (λ o chain n. reads-names o chain (thread-at t n)))
+      (reads-both (reads-all (t .threadcount) _ (λ n. reads-falls (thread-at t n) (thread-at t (next-of t n) .rank)))
       (reads-both (reads-all thread-limit _ (λ n. reads-past n (t .threadcount) (reads-empty-thread (thread-at t n))))
-      (reads-all object-limit _ (λ o. reads-past o (t .objectcount) (reads-empty-object (object-at t o)))))))))))
-      (λ (sizes, (objects, (threads, (links, (parked, (named, (threads-past, objects-past))))))).
+      (reads-all object-limit _ (λ o. reads-past o (t .objectcount) (reads-empty-object (object-at t o))))))))))))
+      (λ (sizes, (objects, (threads, (links, (parked, (named, (falling, (threads-past, objects-past)))))))).
       record {
         sizes = sizes;
         objects = objects;
@@ -91,6 +93,7 @@ module _ (t : Table) where
         chains-inside = λ o low high chain first last. links o low high chain first last .1;
         parked = parked;
         no-others = λ o low high chain first last. named o low high chain first last .1;
+        falling = falling;
         threads-past = threads-past;
         objects-past = objects-past;
       })
@@ -99,7 +102,7 @@ module _ (t : Table) where
       (s .chains-end o low high chain first last, s .chains-inside o low high chain first last) in
       let named : Chained (λ o chain n. (thread-at t n .object ≡ o) × (thread-chain (thread-at t n) ≡ chain)) = λ o low high chain first last.
       (s .chains-end o low high chain first last, s .no-others o low high chain first last) in
-      (s .sizes, (s .objects, (s .threads, (links, (s .parked, (named, (s .threads-past, s .objects-past))))))))
+      (s .sizes, (s .objects, (s .threads, (links, (s .parked, (named, (s .falling, (s .threads-past, s .objects-past)))))))))
 
   pub sound-reads : sound-of t ≡ true → Sound t
   sound-reads = sound-is .read

@@ -15,8 +15,8 @@ use Rattle.lock_table.specs.declared.record.ThreadRecord.{ThreadRecord}
 use Rattle.lock_table.specs.declared.record.Monitor.{Monitor}
 use Rattle.lock_table.specs.declared.record.ObjectRecord.{ObjectRecord}
 use Rattle.lock_table.specs.declared.record.Table.{Table}
-use Rattle.sound_records.specs.Records.{used-object-fits, names-chain, empty-object}
-use Rattle.sound_records.specs.OnePass.{thread-passes}
+use Rattle.sound_records.specs.Records.{used-object-fits, empty-object}
+use Rattle.sound_records.specs.OnePass.{member-passes, thread-passes}
 use Rattle.lock_soundness.specs.Sound.{sizes-fit}
 
 -- the walks take the thread records alone
@@ -26,9 +26,11 @@ thread-in threads n = pick (eqb n 0) no-thread (pick (ltb thread-limit n) no-thr
 abbrev pub next-in : List ThreadRecord → ℕ → ℕ
 next-in threads n = thread-in threads n .next
 
--- one of the table's threads, parked in this chain of object o
+-- one of the table's threads, parked in this chain of object o; in an entry chain it has no lower rank than who stands behind it
 unfoldable pub member-fits : List ThreadRecord → ℕ → ℕ → ℕ → ℕ → Bool
-member-fits threads count o chain n = pick (ltb count n) false (pick (ltb thread-limit n) false (names-chain o chain (thread-in threads n)))
+member-fits threads count o chain n =
+    pick (ltb count n) false
+    (pick (ltb thread-limit n) false (member-passes o chain (thread-in threads n) (thread-in threads (next-in threads n) .rank)))
 
 unfoldable pub chain-passes : List ThreadRecord → ℕ → ℕ → ℕ → ℕ → Bool
 chain-passes threads count o chain first = chain-test count (next-in threads) (member-fits threads count o chain) first

@@ -3,11 +3,13 @@
 use lock_table::Monitor;
 use lock_table::THREADS;
 use lock_table::ThreadRecord;
-use sound_records::names_chain;
+use lock_table::thread_place;
+use sound_records::member_passes;
+use sound_records::rank_there;
 ghost use mathlib.Core.Path.{_≡_};
 ghost use Rattle.lock_soundness.specs.OnePass.{chain-passes, chains-pass, chain-marks, chains-marks};
 
-// The chain ends in time, and all of its threads are parked in it.
+// The chain ends in time, all of its threads are parked in it, and an entry chain falls in rank.
 fn walk_passes(
     threads: [ThreadRecord; 32],
     threadcount: u8,
@@ -33,8 +35,10 @@ fn walk_passes(
         }
         let place = (at as usize) - 1;
         let thread = threads[place];
-        let names = names_chain(object, chain, thread);
-        if !names {
+        let spot = thread_place(thread.next);
+        let behind = rank_there(thread.next, threads[spot]);
+        let passes = member_passes(object, chain, thread, behind);
+        if !passes {
             return false;
         }
         met[place] = true;

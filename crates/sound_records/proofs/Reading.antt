@@ -7,6 +7,8 @@ use mathlib.Core.Bool.{Bool, true, false}
 use native.Mathlib.Omega.{arith}
 use lib.Dec.{eqb}
 use borrow.Author.Tests.{le-leb}
+use Rattle.laws.proofs.Choice.{both-of}
+use Rattle.lock_table.specs.Limits.{rank-limit}
 use Rattle.laws.specs.Choice.{pick, both, implies}
 use Rattle.lock_word.specs.{Layout.count-limit, Depth.depth-limit, Ticks.tick-limit}
 use Rattle.lock_word.specs.Read.{read-word, read-flat}
@@ -15,7 +17,7 @@ use Rattle.lock_word.specs.declared.reading.Decoded.{Decoded}
 use Rattle.lock_word.specs.declared.reading.Decoded.the-variants.{Valid, Invalid}
 use Rattle.lock_table.specs.Operation.{operation-number}
 use Rattle.lock_table.specs.Phase.{phase-number, carried-number}
-use Rattle.lock_table.specs.Record.{no-thread, no-monitor, no-object, with-activity, with-next, with-word, with-flag, with-monitor}
+use Rattle.lock_table.specs.Record.{no-thread, no-monitor, no-object, with-activity, with-next, with-word, with-flag, with-monitor, with-rank}
 use Rattle.lock_table.specs.Parked.{chain-named, thread-chain}
 use Rattle.lock_table.specs.declared.operation.Operation.{Operation}
 use Rattle.lock_table.specs.declared.operation.Operation.the-variants.{Idle, Enter, Exit, Wait, Notify, NotifyAll, TimedWait}
@@ -24,8 +26,8 @@ use Rattle.lock_table.specs.declared.phase.Phase.the-variants.{Idle as idle-pha
 use Rattle.lock_table.specs.declared.phase.Phase.the-variants.{Tell, Leave, Inflate, GiveUp, Waiting, Resume}
 use Rattle.lock_table.specs.declared.record.{ThreadRecord.ThreadRecord, Activity.Activity, Monitor.Monitor, ObjectRecord.ObjectRecord}
 use Rattle.sound_records.specs.Records.{word-fits, uses-phase, carries-phase, operation-fits, kept-count-fits, reserved-for, kept-fits}
-use Rattle.sound_records.specs.Records.{saves-depth, saved-fits, unheld-fits, names-chain, unused-fits, used-object-fits, used-thread-fits}
-use Rattle.sound_records.specs.Records.{ticks-allowed, ticks-fit, empty-thread, empty-monitor, empty-object}
+use Rattle.sound_records.specs.Records.{saves-depth, saved-fits, unheld-fits, names-chain, unused-fits, used-object-fits, activity-fits, used-thread-fits}
+use Rattle.sound_records.specs.Records.{ticks-allowed, ticks-fit, falls-behind, empty-thread, empty-monitor, empty-object}
 use Rattle.laws.proofs.Facts.{Reads, reads-map, reads-never, reads-always, reads-not, reads-eqb, reads-leb, reads-both, reads-within, reads-either}
 use Rattle.laws.proofs.Facts.{reads-unless, reads-implies}
 
@@ -95,6 +97,7 @@ pub record ObjectFits (threads o : ℕ) (object : ObjectRecord) : Type 0 where
   pub unheld : UnheldFits (object .monitor)
 
 pub record ThreadFits (objects n : ℕ) (thread : ThreadRecord) : Type 0 where
+  pub rank : thread .rank ≤ rank-limit
   pub operation : phase-number (thread .phase) ≢ 0
       → OperationFits objects (phase-number (thread .phase)) (carried-number (thread .phase)) thread
   pub kept : phase-number (thread .phase) ≡ 2 → ReservedFor n (thread .operation) (read-word (thread .kept))
@@ -236,10 +239,11 @@ reads-empty-thread thread =
     (reads-both (reads-eqb (thread .saved) 0)
     (reads-both (reads-eqb (thread .ticks) 0)
     (reads-both (reads-eqb (thread .object) 0)
-    (reads-both (reads-eqb (thread .next) 0) (reads-both (reads-no-operation (thread .operation)) (reads-no-phase (thread .phase))))))))
-    (λ (kept, (saved, (ticks, (object, (next, (operation, phase)))))).
-    λ j. record { kept = kept j; saved = saved j; ticks = ticks j; object = object j; next = next j; operation = operation j; phase = phase j })
-    (λ e. rw e (refl, (refl, (refl, (refl, (refl, (refl, refl)))))))
+    (reads-both (reads-eqb (thread .next) 0)
+    (reads-both (reads-eqb (thread .rank) 0) (reads-both (reads-no-operation (thread .operation)) (reads-no-phase (thread .phase)))))))))
+    (λ (kept, (saved, (ticks, (object, (next, (rank, (operation, phase))))))).
+    λ j. record { kept = kept j; saved = saved j; ticks = ticks j; object = object j; next = next j; rank = rank j; operation = operation j; phase = phase j })
+    (λ e. rw e (refl, (refl, (refl, (refl, (refl, (refl, (refl, refl))))))))
 
 reads-empty-monitor : (monitor : Monitor) → Reads (empty-monitor monitor) (monitor ≡ no-monitor)
 unfolding empty-monitor
@@ -285,26 +289,28 @@ reads-thread objects n thread =
     let phase = phase-number (thread .phase) in
     let carried = carried-number (thread .phase) in
     reads-map
+    (reads-both (reads-leb (thread .rank) rank-limit)
     (reads-both (reads-operation objects phase carried thread)
     (reads-both (reads-kept n phase thread)
-    (reads-both (reads-saved phase carried thread) (reads-both (reads-ticks phase carried thread) (reads-unused phase carried thread)))))
-    (λ (operation, (kept, (saved, (ticks, unused)))).
-    record { operation = operation; kept = kept; saved = saved; ticks = ticks; unused = unused })
-    (λ fits. (fits .operation, (fits .kept, (fits .saved, (fits .ticks, fits .unused)))))
+    (reads-both (reads-saved phase carried thread) (reads-both (reads-ticks phase carried thread) (reads-unused phase carried thread))))))
+    (λ (rank, (operation, (kept, (saved, (ticks, unused))))).
+    record { rank = rank; operation = operation; kept = kept; saved = saved; ticks = ticks; unused = unused })
+    (λ fits. (fits .rank, (fits .operation, (fits .kept, (fits .saved, (fits .ticks, fits .unused))))))
 
--- What is written into a record that fits leaves what stands beside it, of which the clauses above ask nothing yet. So a thread's record fits where the
--- clauses that go by its phase pass,
+-- behind a queued thread
+pub reads-falls : (thread : ThreadRecord) (behind : ℕ) → Reads (falls-behind thread behind) (thread-chain thread ≡ 1 → behind ≤ thread .rank)
+unfolding falls-behind
+reads-falls thread behind = reads-implies (reads-eqb (thread-chain thread) 1) (reads-leb behind (thread .rank))
+
+-- What is written into a record that fits leaves what stands beside it, the rank. So a thread's record fits where the clauses that go by its phase pass,
 abbrev pub activity-fits? : ℕ → ℕ → ThreadRecord → Bool
 activity-fits? objects n thread =
-    let phase = phase-number (thread .phase) in
-    let carried = carried-number (thread .phase) in
-    both (operation-fits objects phase carried thread)
-    (both (kept-fits n phase thread)
-    (both (saved-fits phase carried thread) (both (ticks-fit phase carried thread) (unused-fits phase carried thread))))
+    activity-fits objects n (phase-number (thread .phase)) (carried-number (thread .phase)) thread
 
 pub written-thread-fits : (objects n : ℕ) (given : ThreadRecord) (next : ℕ) (activity : Activity) → ThreadFits objects n given
     → let thread = with-activity (with-next given next) activity in activity-fits? objects n thread ≡ true → ThreadFits objects n thread
-written-thread-fits objects n given next activity fits = reads-thread objects n (with-activity (with-next given next) activity) .read
+written-thread-fits objects n given next activity fits passes =
+    reads-thread objects n (with-activity (with-next given next) activity) .read (both-of (le-leb (given .rank) rank-limit (fits .rank)) passes)
 
 -- and an object's where its word and its monitor fit
 pub written-object-fits : (threads o : ℕ) (given : ObjectRecord) (word : ℕ) (monitor : Monitor) (flag : Bool) → ObjectFits threads o given
@@ -325,3 +331,17 @@ no-object-fits threads o = word-alone-fits threads o 0 refl
 pub no-thread-fits : (objects n : ℕ) → ThreadFits objects n no-thread
 unfolding operation-fits kept-fits saves-depth saved-fits ticks-fit unused-fits chain-named phase-number carried-number operation-number
 no-thread-fits objects n = reads-thread objects n no-thread .read refl
+
+-- an idle thread with a rank in range is as soundness asks
+pub ranked-thread-fits : (objects n rank : ℕ) → rank ≤ rank-limit → ThreadFits objects n (with-rank no-thread rank)
+ranked-thread-fits objects n rank low =
+    let fits = no-thread-fits objects n in
+    let unused = fits .unused in
+    record {
+      rank = low;
+      operation = fits .operation;
+      kept = fits .kept;
+      saved = fits .saved;
+      ticks = fits .ticks;
+      unused = record { operation = unused .operation; kept = unused .kept; next = unused .next; saved = unused .saved };
+    }

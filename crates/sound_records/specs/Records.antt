@@ -1,5 +1,5 @@
 -- What soundness asks of one record (document 01, "Lock words", the sentence "Sound means"): the clauses that are about one thread or one object, in
--- its order and words, each a test that computes. The clause about ticks is document 02's, L1. The others are in lock_soundness/specs/Sound.antt.
+-- its order and words, each a test that computes. The clause about ticks is document 02's, L1, that about ranks L8. The others are in lock_soundness/specs/Sound.antt.
 -- Phases are document 01's numbers, `threads` its T and `objects` its N; n is a thread, o an object, and a chain 1 entry, 2 contention or 3 waiting.
 use Prim.Native.Nat.{ℕ, _-_}
 use mathlib.Core.Bool.{Bool, true, false, not}
@@ -11,6 +11,7 @@ use Rattle.lock_word.specs.declared.reading.LockWord.the-variants.{Free, Flat, 
 use Rattle.lock_word.specs.declared.reading.Decoded.{Decoded}
 use Rattle.lock_word.specs.declared.reading.Decoded.the-variants.{Valid, Invalid}
 use Rattle.lock_word.specs.{Depth.depth-limit, Ticks.tick-limit}
+use Rattle.lock_table.specs.Limits.{rank-limit}
 use Rattle.lock_table.specs.Operation.{operation-number}
 use Rattle.lock_table.specs.Phase.{phase-number}
 use Rattle.lock_table.specs.Parked.{chain-named, thread-chain}
@@ -121,6 +122,10 @@ unheld-fits monitor = implies (eqb (monitor .holder) 0) (both (eqb (monitor .dep
 unfoldable pub names-chain : ℕ → ℕ → ThreadRecord → Bool
 names-chain o chain thread = both (eqb (thread .object) o) (eqb (thread-chain thread) chain)
 
+-- "its entry chains in falling rank" (document 02, L8): behind a queued thread stands nobody of a higher rank; `behind` is the rank of who stands there
+unfoldable pub falls-behind : ThreadRecord → ℕ → Bool
+falls-behind thread behind = implies (eqb (thread-chain thread) 1) (leb behind (thread .rank))
+
 -- ".. and fields of a thread that its phase does not use, are 0. Operation and object are used when not idle, kept word in phase 2, next in a chain,
 -- saved depth as just said."
 unfoldable pub unused-fits : ℕ → ℕ → ThreadRecord → Bool
@@ -136,7 +141,8 @@ empty-thread thread =
     (both (eqb (thread .saved) 0)
     (both (eqb (thread .ticks) 0)
     (both (eqb (thread .object) 0)
-    (both (eqb (thread .next) 0) (both (eqb (operation-number (thread .operation)) 0) (eqb (phase-number (thread .phase)) 0))))))
+    (both (eqb (thread .next) 0)
+    (both (eqb (thread .rank) 0) (both (eqb (operation-number (thread .operation)) 0) (eqb (phase-number (thread .phase)) 0)))))))
 
 unfoldable pub empty-monitor : Monitor → Bool
 empty-monitor monitor =
@@ -151,8 +157,15 @@ abbrev pub used-object-fits : ℕ → ℕ → ObjectRecord → Bool
 used-object-fits threads o object =
     both (word-fits threads o (read-word (object .word))) (both (holder-fits threads (object .monitor)) (unheld-fits (object .monitor)))
 
-abbrev pub used-thread-fits : ℕ → ℕ → ℕ → ℕ → ThreadRecord → Bool
-used-thread-fits objects n phase carried thread =
+abbrev pub activity-fits : ℕ → ℕ → ℕ → ℕ → ThreadRecord → Bool
+activity-fits objects n phase carried thread =
     both (operation-fits objects phase carried thread)
     (both (kept-fits n phase thread)
     (both (saved-fits phase carried thread) (both (ticks-fit phase carried thread) (unused-fits phase carried thread))))
+
+-- "a rank, 0 to 3 .. A sound table now has every field that a request adds within its range" (document 02, L8); ticks have their clause above
+abbrev pub rank-fits : ThreadRecord → Bool
+rank-fits thread = leb (thread .rank) rank-limit
+
+abbrev pub used-thread-fits : ℕ → ℕ → ℕ → ℕ → ThreadRecord → Bool
+used-thread-fits objects n phase carried thread = both (rank-fits thread) (activity-fits objects n phase carried thread)

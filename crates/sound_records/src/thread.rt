@@ -2,6 +2,8 @@
 use crate::choice::implies;
 use crate::choice::within;
 use lock_table::Operation;
+use lock_table::RANKS;
+use lock_table::THREADS;
 use lock_table::ThreadRecord;
 use lock_table::carried_number;
 use lock_table::operation_number;
@@ -14,9 +16,9 @@ use lock_word::TICK_LIMIT;
 ghost use mathlib.Core.Path.{_≡_};
 ghost use Rattle.lock_table.specs.Parked.{chain-named, thread-chain};
 ghost use Rattle.sound_records.specs.Records.{uses-phase, carries-phase, operation-fits, kept-count-fits, reserved-for, kept-fits, empty-thread};
-ghost use Rattle.sound_records.specs.Records.{saves-depth, saved-fits, unused-fits, used-thread-fits, names-chain};
+ghost use Rattle.sound_records.specs.Records.{saves-depth, saved-fits, unused-fits, used-thread-fits, names-chain, falls-behind};
 ghost use Rattle.sound_records.specs.Records.{wait-uses, wait-carries, resumes, ticks-fit};
-ghost use Rattle.sound_records.specs.OnePass.{thread-passes};
+ghost use Rattle.sound_records.specs.OnePass.{rank-there, member-passes, thread-passes};
 
 // The largest counts of a kept word: storing it adds one for enter and takes one off for exit.
 const ENTER_COUNT_LIMIT: u8 = COUNT_LIMIT - 1;
@@ -184,10 +186,37 @@ fn thread_chain(thread: ThreadRecord) -> u8
 }
 
 // The thread is parked in this chain of the object.
-pub fn names_chain(object: u8, chain: u8, thread: ThreadRecord) -> bool
+fn names_chain(object: u8, chain: u8, thread: ThreadRecord) -> bool
     ensures { λ r. ⌜ r ≡ names-chain object chain thread ⌝ }
 {
     (thread.object == object) & (thread_chain(thread) == chain)
+}
+
+// Whether nobody of a higher rank stands behind a queued thread: `behind` is the rank of who stands there, 0 for nobody.
+fn falls_behind(thread: ThreadRecord, behind: u8) -> bool
+    ensures { λ r. ⌜ r ≡ falls-behind thread behind ⌝ }
+{
+    implies(thread_chain(thread) == 1, behind <= thread.rank)
+}
+
+// A thread that a walk meets in a chain of the object.
+pub fn member_passes(object: u8, chain: u8, thread: ThreadRecord, behind: u8) -> bool
+    ensures { λ r. ⌜ r ≡ member-passes object chain thread behind ⌝ }
+{
+    names_chain(object, chain, thread) & falls_behind(thread, behind)
+}
+
+// The rank of a thread, by the record at its place: 0 where there is none.
+pub fn rank_there(number: u8, there: ThreadRecord) -> u8
+    ensures { λ r. ⌜ r ≡ rank-there number there ⌝ }
+{
+    if number == 0 {
+        return 0;
+    }
+    if THREADS < number {
+        return 0;
+    }
+    there.rank
 }
 
 // Every field that the phase does not use is 0.
@@ -214,7 +243,8 @@ fn used_thread_fits(objects: u8, number: u8, phase: u8, carried: u8, thread: Thr
     let saved = saved_fits(phase, carried, thread);
     let ticks = ticks_fit(phase, carried, thread);
     let unused = unused_fits(phase, carried, thread);
-    operation & (kept & (saved & (ticks & unused)))
+    let ranked = thread.rank <= RANKS;
+    ranked & (operation & (kept & (saved & (ticks & unused))))
 }
 
 fn empty_thread(thread: ThreadRecord) -> bool
@@ -225,7 +255,8 @@ fn empty_thread(thread: ThreadRecord) -> bool
     let idle = (operation_number(operation) == 0) & (phase_number(phase) == 0);
     (thread.kept == 0)
         & ((thread.saved == 0)
-            & ((thread.ticks == 0) & ((thread.object == 0) & ((thread.next == 0) & idle))))
+            & ((thread.ticks == 0)
+                & ((thread.object == 0) & ((thread.next == 0) & ((thread.rank == 0) & idle)))))
 }
 
 // An empty record passes at once, and most are. Any other is one of a thread in use, which was met in a walk if it is parked.

@@ -8,4 +8,4 @@ unfolding empty-thread
 empty-thread-spec =
     tie.close
     (tie.spec (λ c κs. tt) (λ c κs. tt)
-    (λ c. simp (c .before .before .before .before .before .phase-number .ensures, c .before .before .before .before .before .before .operation-number .ensures)))
+    (λ c. simp (c .before .before .before .before .before .before .phase-number .ensures, c .before .before .before .before .before .before .before .operation-number .ensures)))

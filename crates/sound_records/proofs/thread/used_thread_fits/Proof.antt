@@ -6,4 +6,4 @@ pub used-thread-fits-spec : {M : Type 1} → statement M
 used-thread-fits-spec =
     tie.close
     (tie.spec (λ c κs. tt) (λ c κs. tt) (λ c κs. tt) (λ c κs. tt) (λ c κs. tt)
-    (λ c. simp (c .unused-fits .ensures, c .before .ticks-fit .ensures, c .before .before .saved-fits .ensures, c .before .before .before .kept-fits .ensures, c .before .before .before .before .operation-fits .ensures)))
+    (λ c. simp (c .before .unused-fits .ensures, c .before .before .ticks-fit .ensures, c .before .before .before .saved-fits .ensures, c .before .before .before .before .kept-fits .ensures, c .before .before .before .before .before .operation-fits .ensures)))
