@@ -1,5 +1,5 @@
 -- The work on chains, on records: the threads that it writes are those of the table with lists, and its links stand for the lists.
-use Prim.Native.Nat.{ℕ, _≤_, _<_}
+use Prim.Native.Nat.{ℕ, suc, _+_, _≤_, _<_}
 use mathlib.Core.Path.{_≡_, refl, sym, ap, _∙_, subst}
 use mathlib.Core.Logic.{_⊎_, inl, inr}
 use mathlib.Core.Bool.{Bool, true, false}
@@ -7,14 +7,15 @@ use mathlib.Core.List.{List, [], _∷_}
 use native.Mathlib.Omega.{arith}
 use lib.Dec.{eqb}
 use lib.ListN.{length}
-use Rattle.laws.specs.{Update.update, Count.count}
-use Rattle.laws.proofs.Choice.{by-test, by-equal, either-way, equal?}
-use Rattle.laws.proofs.Count.{count-none, count-same}
-use Rattle.chains.specs.Joining.{first-with, linked}
+use Rattle.laws.specs.{Choice.pick, Update.update, Count.count}
+use Rattle.laws.proofs.Choice.{by-equal, either-way, equal?}
+use Rattle.laws.proofs.Count.{count-none, count-same, count-other}
+use Rattle.laws.proofs.Update.{update-same}
 use Rattle.chains.specs.declared.{named.Chain.Chain, ends.Ends.Ends}
-use Rattle.chains.proofs.Chain.{Chain as ChainOf, head}
+use Rattle.chains.proofs.Chain.{by-update, Chain as ChainOf, head}
 use Rattle.chains.proofs.Walk.{walk}
-use Rattle.chains.proofs.Links.{Links, leave-links, leave-lists, move-links, drop-links, leave-within, leave-short, represent-leave, represent-move}
+use Rattle.chains.proofs.Links.{Links, leave-links, leave-lists, move-links, drop-links, leave-within, leave-short, represent-leave, represent-left, represent-move}
+use Rattle.chains.proofs.{Family.others, Queue.queued, Queue.length-queue}
 use Rattle.lock_rules.proofs.Changes.{handed, moved, is-queued-exit}
 use Rattle.lock_rules.specs.declared.{ThreadState.ThreadState, ChainWork.ChainWork, Effect.Effect}
 use Rattle.lock_rules.specs.declared.ThreadState.the-variants.{Idle}
@@ -22,25 +23,31 @@ use Rattle.lock_rules.specs.declared.Taken.the-variants.{First, All}
 use Rattle.lock_rules.specs.declared.ChainWork.the-variants.{Stay, Join, JoinAndHand, Hand, Move, MoveAndLetOut, SendBack}
 use Rattle.lock_rules.proofs.{Each.each-chain, ListSound.SoundTable}
 use Rattle.lock_rules.proofs.Objects.{ListObject, chain-of, with-chain}
-use Rattle.lock_rules.proofs.Perform.{count-entered-all, taken, left as left-list, first-of, changed-states, handed-object, moved-object, moved-states, let-out-states}
+use Rattle.lock_rules.proofs.Perform.{count-entered-all, taken, count-taken, left as left-list, first-of, changed-states, handed-object, moved-object, moved-states, let-out-states}
 use Rattle.lock_rules.proofs.Perform.{is-handed, states-after, unparks, object-after, effected}
 use Rattle.lock_rules.proofs.{Invariant.in-entry, LetOut.exit-is, LetOut.moved-from}
 use Rattle.lock_rules.proofs.Tables.{ListThread, ListTable}
-use Rattle.lock_rules.proofs.ListChains.{member-at, member-in, short, both-short}
+use Rattle.lock_rules.proofs.ListChains.{member-at, member-in, short}
 use Rattle.lock_table.specs.{Limits.thread-limit, Record.with-next, Narrow.narrow-of}
 use Rattle.lock_table.specs.Access.{thread-at, set-thread}
-use Rattle.lock_table.specs.Monitor.{hand-of, first-in, with-first, join}
-use Rattle.lock_table.specs.Chain.{hang, handed-of, moved as moved-record, move-all}
+use Rattle.lock_table.specs.Monitor.{hand-of, first-in, with-first}
+use Rattle.lock_table.specs.Chain.{handed-of, moved as moved-record, move-all}
 use Rattle.lock_table.specs.declared.record.{ThreadRecord.ThreadRecord, Monitor.Monitor, Table.Table}
 use Rattle.lock_table.proofs.{Records.set-thread-out, Narrowed.narrowed}
-use Rattle.lock_table.proofs.Walks.{move-none, hang-none}
+use Rattle.lock_table.proofs.Walks.{move-none}
 use Rattle.lock_perform.specs.State.{write-thread}
-use Rattle.lock_perform.specs.Moving.{CarriedOut, sent-back-of, relink, after-whole, let-outs, carry-out}
+use Rattle.lock_perform.specs.Moving.{CarriedOut, unlinked, carried-out, joined-by, sent-back-of, relink, after-whole, let-outs, carry-out}
+use Rattle.lock_perform.specs.Queueing.{queue as queue-of}
+use Rattle.lock_perform.specs.declared.queueing.JoinedChain.{JoinedChain}
+use Rattle.lock_perform.proofs.InPlace.{queue-none}
+use Rattle.lock_records.proofs.QueueWalk.{moves-queue}
+use Rattle.lock_records.proofs.Shorts.{both-brief}
+use Rattle.lock_records.proofs.Numbering.{Room, order, chains-differ}
 use Rattle.lock_records.proofs.Numbering.{number, place-of, lists-of, list-at, update-number, work-links, first-is-head, entered-all, all-moved as lists-moved}
 use Rattle.lock_records.proofs.Written.{handed-written, moved-written}
 use Rattle.lock_records.proofs.Represents.{monitor-record, Represents, next-is}
 use Rattle.lock_records.proofs.Readings.{nobody, past-idle, first-is, chained as chained-in}
-use Rattle.lock_records.proofs.Moves.{change, Moves, Inside, moves-hang, moves-first, moves-send, moves-all}
+use Rattle.lock_records.proofs.Moves.{change, Moves, Inside, moves-first, moves-send, moves-all}
 use Rattle.lock_perform.specs.ThreadSet.{thread-set, has-thread}
 use Rattle.lock_perform.proofs.ThreadSets.{has-none}
 use Rattle.lock_records.proofs.HandNames.{hand-names}
@@ -53,6 +60,7 @@ pub record SameScalars (old new : ListObject) : Type 0 where
   pub flag : new .flag ≡ old .flag
   pub holder : new .holder ≡ old .holder
   pub depth : new .depth ≡ old .depth
+  pub rank : new .rank ≡ old .rank
 
 scalars-with : (chain : Chain) (o : ListObject) (list : List ℕ) → SameScalars o (with-chain chain o list)
 scalars-with = each-chain _ (search)
@@ -67,6 +75,16 @@ word-kept Hand thread states o = (refl, refl)
 word-kept (Move from which) thread states o = let same = scalars-with from o _ in (same .word, same .flag)
 word-kept MoveAndLetOut thread states o = (refl, refl)
 word-kept (SendBack owner) thread states o = (refl, refl)
+
+-- nor the ranks
+pub rank-kept : (work : ChainWork) (thread : ℕ) (states : ℕ → ThreadState) (o : ListObject) → object-after work thread states o .rank ≡ o .rank
+rank-kept Stay thread states o = refl
+rank-kept (Join chain) thread states o = scalars-with chain o _ .rank
+rank-kept (JoinAndHand chain) thread states o = scalars-with chain (handed-object o) _ .rank
+rank-kept Hand thread states o = refl
+rank-kept (Move from which) thread states o = scalars-with from o _ .rank
+rank-kept MoveAndLetOut thread states o = refl
+rank-kept (SendBack owner) thread states o = refl
 
 -- after a work at object o on table t: its threads are in these states, written with these links, its monitor has these chains, holder and depth, and
 -- these are whom it names as unparked
@@ -85,11 +103,6 @@ module _ (o : ℕ) (links : Links) (holder depth : ℕ) where
       → with-first (monitor-record o links holder depth) chain first
       ≡ monitor-record o (record { next = links .next; first = update (links .first) (number o chain) first }) holder depth
   left-recorded = each-chain _ (λ first. simp update-number, λ first. simp update-number, λ first. simp update-number)
-
-  pub joined-recorded : (chain : Chain) (n : ℕ)
-      → join (monitor-record o links holder depth) chain n
-      ≡ monitor-record o (record { next = links .next; first = update (links .first) (number o chain) (first-with (links .first (number o chain)) n) }) holder depth
-  joined-recorded chain n = rw (first-recorded chain) (left-recorded chain (first-with (links .first (number o chain)) n))
 
   pub handed-recorded : (next : ℕ)
       → hand-of (monitor-record o links holder depth) next .monitor
@@ -164,47 +177,109 @@ module _ (threads objects : ℕ) (t : Table) (lists : ListTable) (represents : R
           (λ real. law (first from) (lists .threads (first from) .object) (lists .threads (first from) .state)
           (with-next (represents .given .thread (first from)) (represents .links .next (first from)))))
 
-      -- and a chain is hung behind one of those that it leaves
-      hung-left : (from to : Chain) (back : ℕ) (table : Table) (after : ℕ → ListThread)
+      -- the ranks by which threads are queued
+      abbrev ranks : ℕ → ℕ
+      ranks = lists .objects o .rank
+
+      -- threads join a chain, each at its place
+      joins : (into : Chain) (movers members : List ℕ) (table : Table) (next : ℕ → ℕ) (front back : ℕ) (after : ℕ → ListThread)
+          → Moves (represents .given .thread) t table after next → ChainOf next front members → ChainOf next back movers → Inside members → Inside movers
+          → length movers ≤ thread-limit → length members + length movers ≤ suc thread-limit → ((n : ℕ) → 0 < count n movers → count n members ≡ 0)
+          → let q = queue-of into thread-limit table front back in
+          let p = queued thread-limit thread-limit (order ranks into) next front back in
+          Moves (represents .given .thread) t (q .table) after (p .next) × (q .first ≡ p .first)
+      joins into movers members table next front back after =
+          rw (represents .ranked o) (moves-queue (represents .given .thread) t after into movers members thread-limit table next front back)
+
+      -- one joins a chain when the first of a chain has left it
+      joined-left : (from to : Chain) (back : ℕ) (movers : List ℕ) (table : Table) (after : ℕ → ListThread)
           → let left = leave-links (number o from) (represents .links) in
-          Moves (represents .given .thread) t table after (left .next)
-          → Moves (represents .given .thread) t (hang thread-limit table (left .first (number o to)) back) after (linked thread-limit (left .next) (left .first (number o to)) back)
-      hung-left from to back table after moves =
+          let all = leave-lists (number o from) (lists-of (lists .objects)) in
+          Moves (represents .given .thread) t table after (left .next) → ChainOf (left .next) back movers → Inside movers → length movers ≤ 1
+          → ((n : ℕ) → 0 < count n movers → count n (all (number o to)) ≡ 0)
+          → let q = queue-of to thread-limit table (left .first (number o to)) back in
+          let p = queued thread-limit thread-limit (order ranks to) (left .next) (left .first (number o to)) back in
+          Moves (represents .given .thread) t (q .table) after (p .next) × (q .first ≡ p .first)
+      joined-left from to back movers table after moves waits movers-in few apart =
           let left = leave-links (number o from) (represents .links) in
           let all = lists-of (lists .objects) in
           let same : all (number o to) ≡ list to = list-at (lists .objects) o to in
-          moves-hang (represents .given .thread) t table after (left .next) moves (leave-lists (number o from) all (number o to)) (left .first (number o to)) back
-          (represent-leave (represents .links) all (represents .chains) (number o from) .chain (number o to))
-          (omega (arith, leave-short all (number o from) (number o to), ap length same, brief to))
-          (λ n h. inside to n (omega (arith, h, leave-within all (number o from) (number o to) n, ap (count n) same)))
+          let brief-left = leave-short all (number o from) (number o to) in
+          joins to movers (leave-lists (number o from) all (number o to)) table (left .next) (left .first (number o to)) back after moves
+          (represent-leave (represents .links) all (represents .chains) (number o from) .chain (number o to)) waits
+          (λ n h. inside to n (omega (arith, h, leave-within all (number o from) (number o to) n, ap (count n) same))) movers-in (omega (arith, few))
+          (omega (arith, few, brief-left, ap length same, brief to)) apart
 
-      -- all of a chain move to the end of the entry chain
+      -- the first of a chain, when it has left it, is a chain of its own
+      alone : (from : Chain) → let left = leave-links (number o from) (represents .links) in ChainOf (left .next) (first from) (taken First (list from))
+      alone from = at (list from) (chained from)
+        where
+          at : (members : List ℕ) → ChainOf (represents .links .next) (first from) members
+              → ChainOf (leave-links (number o from) (represents .links) .next) (first from) (taken First members)
+          at [] chain = chain
+          at (x ∷ rest) chain = (chain .0, chain .1, rw (chain .0) (update-same (represents .links .next) x 0))
+
+      taken-one : (members : List ℕ) → length (taken First members) ≤ 1
+      taken-one [] = omega arith
+      taken-one (x ∷ rest) = omega arith
+
+      taken-in : (from : Chain) → Inside (taken First (list from))
+      taken-in from n h = inside from n (omega (arith, h, count-taken First (list from) n))
+
+      -- and in no chain
+      taken-out : (from to : Chain) (n : ℕ) → 0 < count n (taken First (list from)) → count n (leave-lists (number o from) (lists-of (lists .objects)) (number o to)) ≡ 0
+      taken-out from to n = at (list from) (list-at (lists .objects) o from)
+        where
+          at : (members : List ℕ) → lists-of (lists .objects) (number o from) ≡ members → 0 < count n (taken First members)
+              → count n (leave-lists (number o from) (lists-of (lists .objects)) (number o to)) ≡ 0
+          at [] is h = absurd (omega (arith, h, count-none n))
+          at (x ∷ rest) is h =
+              either-way (equal? n x) (λ e. rw e (represent-left (represents .links) (lists-of (lists .objects)) (represents .chains) (number o from) x rest is (number o to)))
+              (λ away. absurd (omega (arith, h, count-other n x [] away, count-none n)))
+
+      -- all of a chain move to the entry chain
       all-moved : (from : Chain)
           → let front = update (represents .links .first) (number o from) 0 (number o Chain.Entry) in
-          Moves (represents .given .thread) t (hang thread-limit (move-all thread-limit t (first from)) front (first from))
-          (placed o (lists .threads) (changed-states moved (sees o (lists .threads)) (list from)))
-          (linked thread-limit (represents .links .next) front (first from))
+          let q = queue-of Chain.Entry thread-limit (move-all thread-limit t (first from)) front (first from) in
+          let p = queued thread-limit thread-limit (order ranks Chain.Entry) (represents .links .next) front (first from) in
+          Moves (represents .given .thread) t (q .table) (placed o (lists .threads) (changed-states moved (sees o (lists .threads)) (list from))) (p .next) × (q .first ≡ p .first)
       all-moved from =
           rw (
             ← (placed-all o (lists .threads) moved (represents .links .next) (list from) thread-limit (first from) (chained from) (brief from) (home from)),
             update-number (represents .links .first) o from Chain.Entry 0,
           )
-          (by-test
-          (λ front. Moves (represents .given .thread) t (hang thread-limit (move-all thread-limit t (first from)) front (first from))
-          (walk thread-limit (represents .links .next) (change moved) (lists .threads) (first from))
-          (linked thread-limit (represents .links .next) front (first from))) (eqb (place-of Chain.Entry) (place-of from))
-          (λ e. moves-hang (represents .given .thread) t _ _ (represents .links .next) moves [] 0 (first from) refl (omega arith)
-          (λ n h. absurd (omega (arith, h, count-none n))))
-          (λ e. moves-hang (represents .given .thread) t _ _ (represents .links .next) moves (list Chain.Entry) (first Chain.Entry) (first from)
-          (chained Chain.Entry) (brief Chain.Entry) (inside Chain.Entry)))
+          (joins Chain.Entry (list from) (pick (eqb (place-of Chain.Entry) (place-of from)) [] (list Chain.Entry)) (move-all thread-limit t (first from))
+          (represents .links .next) (pick (eqb (place-of Chain.Entry) (place-of from)) 0 (first Chain.Entry)) (first from) _ moves
+          (at (eqb (place-of Chain.Entry) (place-of from))) (chained from) (members-in (eqb (place-of Chain.Entry) (place-of from))) (inside from) (brief from)
+          (omega (arith, both-brief threads objects lists sound o from, represents .thread-room)) (apart from))
         where
           moves : Moves (represents .given .thread) t (move-all thread-limit t (first from)) (walk thread-limit (represents .links .next) (change moved) (lists .threads) (first from))
               (represents .links .next)
           moves =
               moves-all (represents .given .thread) t (represents .links .next) (list from) thread-limit (first from) t (lists .threads) begun (chained from) (brief from) (inside from)
 
+          at : (b : Bool) → ChainOf (represents .links .next) (pick b 0 (first Chain.Entry)) (pick b [] (list Chain.Entry))
+          at true = refl
+          at false = chained Chain.Entry
+
+          members-in : (b : Bool) → Inside (pick b [] (list Chain.Entry))
+          members-in true n h = absurd (omega (arith, h, count-none n))
+          members-in false n h = inside Chain.Entry n h
+
+          -- nobody is in two chains
+          apart : (chain : Chain) (n : ℕ) → 0 < count n (list chain) → count n (pick (eqb (place-of Chain.Entry) (place-of chain)) [] (list Chain.Entry)) ≡ 0
+          apart Chain.Entry n h = count-none n
+          apart Chain.Contention n h =
+              rw (list-at (lists .objects) o Chain.Entry) at
+              (others (lists-of (lists .objects)) (represents .chains .apart) (number o Chain.Contention) (number o Chain.Entry) n (chains-differ o Chain.Contention (λ e. omega (arith, e)))
+              (rw (list-at (lists .objects) o Chain.Contention) h))
+          apart Chain.Waiting n h =
+              rw (list-at (lists .objects) o Chain.Entry) at
+              (others (lists-of (lists .objects)) (represents .chains .apart) (number o Chain.Waiting) (number o Chain.Entry) n (chains-differ o Chain.Waiting (λ e. omega (arith, e)))
+              (rw (list-at (lists .objects) o Chain.Waiting) h))
+
       -- an effect of thread i with any work
-      module _ (i : ℕ) (effect : Effect) where
+      module _ (i : ℕ) (effect : Effect) (room : Room i (lists-of (lists .objects))) (small : i ≤ thread-limit) where
         abbrev now : ListObject
         now = effected i effect (lists .objects o)
 
@@ -260,9 +335,24 @@ module _ (threads objects : ℕ) (t : Table) (lists : ListTable) (represents : R
         handed-names : (n : ℕ) → has-thread (thread-set (first Chain.Entry)) n ≡ is-handed now n
         handed-names n = rw (headed Chain.Entry) (hand-names (list Chain.Entry) (inside Chain.Entry) n)
 
+        -- a plan by which nobody joins a chain
+        none-joins : (table : Table) (m : Monitor) (changed : ThreadRecord) (unparked : ℕ)
+            → carried-out (joined-by table (unlinked changed m unparked)) (unlinked changed m unparked) ≡ record { table = table; monitor = m; unparked = unparked }
+        none-joins table m changed unparked = ap (λ (q : JoinedChain). carried-out q (unlinked changed m unparked)) (queue-none Chain.Entry thread-limit table (m .entry))
+
+        -- the thread itself, in no chain
+        self-in : Inside (i ∷ [])
+        self-in n h = either-way (equal? n i) (λ e. rw e (omega (arith, room .real), small)) (λ away. absurd (omega (arith, h, count-other n i [] away, count-none n)))
+
+        self-alone : ChainOf (represents .links .next) i (i ∷ [])
+        self-alone = (refl, room .real, represents .chains .loose i (room .out))
+
+        self-out : (c n : ℕ) → 0 < count n (i ∷ []) → count n (lists-of (lists .objects) c) ≡ 0
+        self-out c n h = either-way (equal? n i) (λ e. rw e (room .out c)) (λ away. absurd (omega (arith, h, count-other n i [] away, count-none n)))
+
         -- all of a chain have moved to the entry chain
         acted-all : (from : Chain)
-            → Acted (represents .given .thread) t lists o (move-links thread-limit (number o from) (number o Chain.Entry) (represents .links))
+            → Acted (represents .given .thread) t lists o (move-links thread-limit (order ranks Chain.Entry) (number o from) (number o Chain.Entry) (represents .links))
             (after-whole t (first-in monitor from) monitor (Move from All) i o) (moved-states from All seen now) (effect .holder) (effect .depth) (λ n. false)
         acted-all from =
             let recorded = first-recorded o (represents .links) (effect .holder) (effect .depth) from in
@@ -270,12 +360,14 @@ module _ (threads objects : ℕ) (t : Table) (lists : ListTable) (represents : R
             let rest : with-first monitor from 0 ≡ monitor-record o left (effect .holder) (effect .depth) =
             left-recorded o (represents .links) (effect .holder) (effect .depth) from 0 in
             let queued = move-all thread-limit t (first from) in
+            let step = all-moved from in
             subst
-            (λ (after : CarriedOut). Acted (represents .given .thread) t lists o (move-links thread-limit (number o from) (number o Chain.Entry) (represents .links)) after
+            (λ (after : CarriedOut). Acted (represents .given .thread) t lists o (move-links thread-limit (order ranks Chain.Entry) (number o from) (number o Chain.Entry) (represents .links)) after
             (moved-states from All seen now) (effect .holder) (effect .depth) (λ n. false)) (sym (moved-first from))
             (record {
-              moves = rw (recorded, unwritten queued (thread-at queued 0), rest, same-list from) (all-moved from);
-              monitor = rw (recorded, rest) (joined-recorded o left (effect .holder) (effect .depth) Chain.Entry (first from));
+              moves = rw (recorded, unwritten queued (thread-at queued 0), rest, same-list from) (step .0);
+              monitor = rw (recorded, unwritten queued (thread-at queued 0), rest)
+                  (ap (with-first (monitor-record o left (effect .holder) (effect .depth)) Chain.Entry) (step .1) ∙ left-recorded o left (effect .holder) (effect .depth) Chain.Entry _);
               names = has-none;
             })
 
@@ -284,23 +376,25 @@ module _ (threads objects : ℕ) (t : Table) (lists : ListTable) (represents : R
         queue = moved-object Chain.Contention All now
 
         abbrev queue-links : Links
-        queue-links = move-links thread-limit (number o Chain.Contention) (number o Chain.Entry) (represents .links)
+        queue-links = move-links thread-limit (order ranks Chain.Entry) (number o Chain.Contention) (number o Chain.Entry) (represents .links)
 
         queue-chained : ChainOf (queue-links .next) (queue-links .first (number o Chain.Entry)) (queue .entry)
         queue-chained =
             rw (lists-moved (lists .objects) seen i o effect Chain.Contention Chain.Entry) at
-            (represent-move (represents .links) (lists-of (lists .objects)) (represents .chains) thread-limit (number o Chain.Contention) (number o Chain.Entry)
-            (rw (list-at (lists .objects) o Chain.Entry) (brief Chain.Entry)) .chain (number o Chain.Entry))
+            (represent-move (represents .links) (lists-of (lists .objects)) (represents .chains) thread-limit (order ranks Chain.Entry) (number o Chain.Contention) (number o Chain.Entry)
+            (room .short _) (omega (arith, room .both-short o Chain.Contention)) .chain (number o Chain.Entry))
 
         -- who is in it was queued or contended
         queue-from : (P : Type 0) (n : ℕ) → 0 < count n (queue .entry) → ((chain : Chain) → 0 < count n (list chain) → P) → P
         queue-from P n h each =
             either-way (equal? (count n (list Chain.Entry)) 0)
-            (λ none. each Chain.Contention (omega (arith, h, none, count-entered-all n (list Chain.Entry) (list Chain.Contention))))
+            (λ none. each Chain.Contention (omega (arith, h, none, count-entered-all n ranks (list Chain.Entry) (list Chain.Contention))))
             (λ some. each Chain.Entry (omega (arith, some)))
 
         queue-short : length (queue .entry) ≤ thread-limit
-        queue-short = rw (entered-all (list Chain.Entry) (list Chain.Contention)) (omega (arith, both-short threads objects lists sound o, represents .thread-room))
+        queue-short =
+            rw (entered-all ranks (list Chain.Entry) (list Chain.Contention))
+            (omega (arith, length-queue (order ranks Chain.Entry) (list Chain.Entry) (list Chain.Contention), both-brief threads objects lists sound o Chain.Contention, represents .thread-room))
 
         -- a queued exit was one before the contenders moved, and so was in the entry chain
         exit-queued : (n : ℕ) → is-queued-exit (moved-states Chain.Contention All seen now n) ≡ true → 0 < count n (queue .entry)
@@ -308,7 +402,7 @@ module _ (threads objects : ℕ) (t : Table) (lists : ListTable) (represents : R
             let was = exit-is (seen n) (moved-from seen n (list Chain.Contention) (rw exits tt)) in
             omega (
               arith,
-              count-entered-all n (list Chain.Entry) (list Chain.Contention),
+              count-entered-all n ranks (list Chain.Entry) (list Chain.Contention),
               sound .sound o .placed n .entry,
               ap in-entry was,
             )
@@ -335,36 +429,40 @@ module _ (threads objects : ℕ) (t : Table) (lists : ListTable) (represents : R
             })
 
         pub acted : (work : ChainWork)
-            → Acted (represents .given .thread) t lists o (work-links (λ n. is-queued-exit (moved-states Chain.Contention All seen now n)) i o work (represents .links))
+            → Acted (represents .given .thread) t lists o (work-links ranks (λ n. is-queued-exit (moved-states Chain.Contention All seen now n)) i o work (represents .links))
             (carry-out t monitor work i o) (states-after work seen now) (object-after work i seen now .holder) (object-after work i seen now .depth)
             (unparks work seen now)
         unfolding after-whole
         acted Stay =
-            record { moves = rw (unwritten t (thread-at t 0), hang-none thread-limit t 0, ← (placed-none o (lists .threads))) begun; monitor = refl; names = has-none }
+            rw (unwritten t (thread-at t 0), none-joins t monitor (thread-at t 0) 0)
+            (record { moves = rw (← (placed-none o (lists .threads))) begun; monitor = refl; names = has-none })
         acted (Join chain) =
             let same : SameScalars now (object-after (Join chain) i seen now) = scalars-with chain now _ in
+            let recorded = first-recorded o (represents .links) (effect .holder) (effect .depth) chain in
+            let step = joins chain (i ∷ []) (list chain) t (represents .links .next) (first chain) i (lists .threads) begun (chained chain) self-alone (inside chain) self-in
+            (omega arith) (omega (arith, brief chain)) (λ n h. rw (list-at (lists .objects) o chain) at (self-out (number o chain) n h)) in
             record {
-              moves = rw (unwritten t (thread-at t 0), first-recorded o (represents .links) (effect .holder) (effect .depth) chain, ← (placed-none o (lists .threads)))
-                  (moves-hang (represents .given .thread) t t (lists .threads) (represents .links .next) begun (list chain) (first chain) i (chained chain) (brief chain) (inside chain));
-              monitor = rw (same .holder, same .depth) (joined-recorded o (represents .links) (effect .holder) (effect .depth) chain i);
+              moves = rw (unwritten t (thread-at t 0), recorded, ← (placed-none o (lists .threads))) (step .0);
+              monitor = rw (same .holder, same .depth, unwritten t (thread-at t 0), recorded)
+                  (ap (with-first monitor chain) (step .1) ∙ left-recorded o (represents .links) (effect .holder) (effect .depth) chain _);
               names = has-none;
             }
         acted (JoinAndHand chain) =
             let same : SameScalars (handed-object now) (object-after (JoinAndHand chain) i seen now) = scalars-with chain (handed-object now) _ in
+            let left = leave-links (number o Chain.Entry) (represents .links) in
+            let recorded = first-recorded o left (first Chain.Entry) 0 chain in
+            let step = joined-left Chain.Entry chain i (i ∷ []) _ _ (leaves Chain.Entry handed-of handed refl handed-written)
+            (refl, room .real, by-update (λ m. m ≡ 0) (represents .links .next) (first Chain.Entry) 0 i (λ e. refl) (λ away. self-alone .2)) self-in (omega arith)
+            (λ n h. omega (arith, leave-within (lists-of (lists .objects)) (number o Chain.Entry) (number o chain) n, self-out (number o chain) n h)) in
             record {
-              moves = rw (after-hand, first-recorded o (leave-links (number o Chain.Entry) (represents .links)) (first Chain.Entry) 0 chain)
-                  (hung-left Chain.Entry chain i _ _ (leaves Chain.Entry handed-of handed refl handed-written));
-              monitor = rw (same .holder, same .depth, ← holds, after-hand)
-                  (joined-recorded o (leave-links (number o Chain.Entry) (represents .links)) (first Chain.Entry) 0 chain i);
+              moves = rw (after-hand, recorded) (step .0);
+              monitor = rw (same .holder, same .depth, ← holds, after-hand, recorded)
+                  (ap (with-first (monitor-record o left (first Chain.Entry) 0) chain) (step .1) ∙ left-recorded o left (first Chain.Entry) 0 chain _);
               names = handed-names;
             }
         acted Hand =
-            record {
-              moves = rw (hang-none thread-limit (set-thread t (first Chain.Entry) (handed-of (thread-at t (first Chain.Entry)))) 0)
-                  (leaves Chain.Entry handed-of handed refl handed-written);
-              monitor = rw (← holds) after-hand;
-              names = handed-names;
-            }
+            rw (none-joins (set-thread t (first Chain.Entry) (handed-of (thread-at t (first Chain.Entry)))) _ (handed-of (thread-at t (first Chain.Entry))) (thread-set (first Chain.Entry)))
+            (record { moves = leaves Chain.Entry handed-of handed refl handed-written; monitor = rw (← holds) after-hand; names = handed-names })
         acted (Move from First) =
             let same : SameScalars now (with-chain from now (left-list First (chain-of from now))) = scalars-with from now _ in
             let recorded = first-recorded o (represents .links) (effect .holder) (effect .depth) from in
@@ -372,12 +470,12 @@ module _ (threads objects : ℕ) (t : Table) (lists : ListTable) (represents : R
             let rest : with-first monitor from (thread-at t (first from) .next) ≡ monitor-record o left (effect .holder) (effect .depth) =
             rw (next-at (first from))
             (left-recorded o (represents .links) (effect .holder) (effect .depth) from (represents .links .next (first from))) in
+            let step = joined-left from Chain.Entry (first from) (taken First (list from)) _ _
+            (leaves from (λ (thread : ThreadRecord). with-next (moved-record thread) 0) moved refl moved-alone) (alone from) (taken-in from) (taken-one (list from)) (taken-out from Chain.Entry) in
             record {
-              moves = rw (recorded, rest, same-list from)
-                  (hung-left from Chain.Entry (first from) _ _
-                  (leaves from (λ (thread : ThreadRecord). with-next (moved-record thread) 0) moved refl moved-alone));
+              moves = rw (recorded, rest, same-list from) (step .0);
               monitor = rw (same .holder, same .depth, recorded, rest)
-                  (joined-recorded o left (effect .holder) (effect .depth) Chain.Entry (first from));
+                  (ap (with-first (monitor-record o left (effect .holder) (effect .depth)) Chain.Entry) (step .1) ∙ left-recorded o left (effect .holder) (effect .depth) Chain.Entry _);
               names = has-none;
             }
         acted (Move from All) =
@@ -385,12 +483,9 @@ module _ (threads objects : ℕ) (t : Table) (lists : ListTable) (represents : R
             rw (same .holder, same .depth) (acted-all from)
         acted MoveAndLetOut = acted-out
         acted (SendBack owner) =
-            record {
-              moves = rw (
-                narrow-sent owner,
-                hang-none thread-limit (set-thread t owner (sent-back-of o (thread-at t owner))) 0,
-                ← (placed-sent o (lists .threads) owner),
-              ) (moves-send (represents .given .thread) t t (lists .threads) (represents .links .next) begun o owner outside);
+            rw (narrow-sent owner, none-joins (set-thread t owner (sent-back-of o (thread-at t owner))) monitor _ 0)
+            (record {
+              moves = rw (← (placed-sent o (lists .threads) owner)) (moves-send (represents .given .thread) t t (lists .threads) (represents .links .next) begun o owner outside);
               monitor = refl;
               names = has-none;
-            }
+            })

@@ -14,12 +14,13 @@ use Rattle.lock_rules.specs.Numbers.{phase-of-doing, phase-of}
 use Rattle.lock_word.specs.Meaning.{owner-of, depth-of, ownership-of}
 use Rattle.lock_word.proofs.Ownership.{owned-both}
 use Rattle.lock_word.specs.declared.meaning.{Ownership.Ownership, WordSeen.WordSeen}
+use Rattle.lock_table.proofs.FreshTables.{fresh-rank}
 use Rattle.lock_rules.proofs.Each.{each-suspension, each-doing, each-state}
 use Rattle.lock_rules.proofs.Status.{is-woken, parked-for-entry, unparked, unfinished}
 use Rattle.lock_rules.specs.declared.event.Event.{Event}
 use Rattle.lock_rules.specs.Feed.{Plain, feed-all, blank}
 use Rattle.lock_rules.specs.declared.{Doing.Doing, ThreadState.ThreadState}
-use Rattle.lock_rules.specs.declared.ThreadState.the-variants.{Idle, Waiting}
+use Rattle.lock_rules.specs.declared.ThreadState.the-variants.{Idle}
 use Rattle.lock_word.specs.declared.meaning.WordSeen.the-variants.{Free, Anonymous, Fat, Flat, Reserved}
 use Rattle.lock_rules.proofs.Objects.{object-owner, owned-depth}
 use Rattle.lock_rules.proofs.Tables.{ListTable, seen-from, final, shown, fresh}
@@ -214,7 +215,7 @@ module _ (request : FreshRequest) (in-range : InRange request) (events : List Ev
   fresh-records = fresh-of request .table
 
   abbrev fresh-lists : ListTable
-  fresh-lists = fresh (request .reserved)
+  fresh-lists = fresh (request .reserved) (fresh-rank request)
 
   -- a schedule on records goes on representing the same schedule on lists, which stays sound, and the same is shown
   pub schedule-represents :
@@ -223,7 +224,7 @@ module _ (request : FreshRequest) (in-range : InRange request) (events : List Ev
       × (shown-on record-kind threads objects fresh-records events ≡ shown threads objects fresh-lists events)
   schedule-represents =
       simulated-run record-kind threads objects (Represents threads objects) (SoundTable threads objects)
-      (sound-simulates threads objects) events fresh-records fresh-lists (fresh-represents request in-range) (sound-fresh threads objects (request .reserved))
+      (sound-simulates threads objects) events fresh-records fresh-lists (fresh-represents request in-range) (sound-fresh threads objects (request .reserved) (fresh-rank request))
 
   -- demand 3 for every schedule from any fresh table; 11, which no sound table gives, is not asked here
   pub schedule-agrees :
@@ -233,4 +234,4 @@ module _ (request : FreshRequest) (in-range : InRange request) (events : List Ev
       rw same
       (represents-agrees threads objects (final-on record-kind threads objects fresh-records events) (final threads objects fresh-lists events)
       represents sound (feed-all blank (shown threads objects fresh-lists events))
-      (world-run threads objects events fresh-lists blank (world-fresh (request .reserved))))
+      (world-run threads objects events fresh-lists blank (world-fresh (request .reserved) (fresh-rank request))))

@@ -8,6 +8,8 @@ pub mod Moves
 pub mod Placing
 pub mod HandNames
 pub mod PartWalk
+pub mod QueueWalk
+pub mod Shorts
 pub mod LetOuts
 pub mod Actions
 pub mod Replaced

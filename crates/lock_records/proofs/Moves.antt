@@ -12,18 +12,17 @@ use Rattle.laws.specs.{Choice.pick, Update.update, Count.count}
 use Rattle.laws.proofs.Choice.{either-way, split, equal?, pick-same}
 use Rattle.laws.proofs.Update.{update-same, update-other, update-id}
 use Rattle.laws.proofs.Count.{count-same}
-use Rattle.chains.specs.Joining.{linked}
-use Rattle.chains.proofs.Chain.{Chain, last, chain-some, last-member, linked-last}
+use Rattle.chains.proofs.Chain.{Chain, chain-some}
 use Rattle.chains.proofs.Walk.{walk}
 use Rattle.lock_rules.proofs.Changes.{moved, sent-back}
 use Rattle.lock_rules.specs.declared.ThreadState.{ThreadState}
 use Rattle.lock_rules.specs.declared.ThreadState.the-variants.{Idle}
 use Rattle.lock_rules.proofs.Tables.{ListThread}
 use Rattle.lock_table.specs.{Limits.thread-limit, Record.with-next}
-use Rattle.lock_table.specs.Access.{thread-at, set-thread, next-of}
-use Rattle.lock_table.specs.Chain.{hang, moved as moved-record, move-all}
+use Rattle.lock_table.specs.Access.{thread-at, set-thread}
+use Rattle.lock_table.specs.Chain.{moved as moved-record, move-all}
 use Rattle.lock_table.proofs.Records.{BesideThreads, thread-set, thread-beside, set-thread-out}
-use Rattle.lock_table.proofs.Walks.{next-none, hang-none}
+use Rattle.lock_table.proofs.Walks.{next-none}
 use Rattle.lock_table.specs.declared.record.{ThreadRecord.ThreadRecord, Table.Table}
 use Rattle.lock_perform.specs.Moving.{sent-back-of}
 use Rattle.lock_records.proofs.Written.{moved-written, sent-back-written}
@@ -45,16 +44,6 @@ pub record Moves (given : ℕ → ThreadRecord) (before t : Table) (threads : �
 -- the members of a chain have records
 abbrev pub Inside : List ℕ → Type 0
 Inside list = (n : ℕ) → 0 < count n list → (0 < n) × (n ≤ thread-limit)
-
--- hanging a chain behind another writes the next index of that one's last thread
-hang-chain : (t : Table) (fuel front x : ℕ) (rest : List ℕ) (back : ℕ) → Chain (next-of t) front (x ∷ rest) → length rest < fuel
-    → hang fuel t front back ≡ set-thread t (last x rest) (with-next (thread-at t (last x rest)) back)
-unfolding hang
-hang-chain t zero front x rest back chain short = absurd (omega arith)
-hang-chain t (suc fuel) front x [] back (same, real, ends) short = rw (same, ne-eqb x 0 real, eq-eqb (next-of t x) 0 ends)
-hang-chain t (suc fuel) front x (y ∷ rest) back (same, real, behind) short =
-    rw (same, ne-eqb x 0 real, ne-eqb (next-of t x) 0 (chain-some (next-of t) (next-of t x) y rest behind))
-    (hang-chain t fuel (next-of t x) y rest back behind (omega arith))
 
 beside-both : (a b c : Table) → BesideThreads a b → BesideThreads b c → BesideThreads a c
 beside-both a b c p q =
@@ -92,23 +81,6 @@ module _ (given : ℕ → ThreadRecord) (before t : Table) (threads : ℕ → Li
   moves-change F thread n low high law =
       let same : F (thread-at t n) ≡ thread-record n thread (next n) (given n) = ap F (record-is given t threads next (moves .written) n) ∙ law in
       rw same (rw (update-id next n (next n) refl) at (moves-set n low high thread (next n)))
-
-  -- one chain hung behind another
-  pub moves-hang : (list : List ℕ) (front back : ℕ) → Chain next front list → length list ≤ thread-limit → Inside list
-      → Moves given before (hang thread-limit t front back) threads (linked thread-limit next front back)
-  unfolding linked
-  moves-hang [] front back chain short inside = rw (chain, hang-none thread-limit t back) moves
-  moves-hang (x ∷ rest) front back chain short inside =
-      let n = last x rest in
-      let (low, high) = inside n (last-member x rest) in
-      let same : with-next (thread-at t n) back ≡ thread-record n (threads n) back (given n) =
-      ap (λ (thread : ThreadRecord). with-next thread back) (record-is given t threads next (moves .written) n) in
-      rw (
-        linked-last thread-limit next front x rest back chain (omega (arith, short)),
-        hang-chain t thread-limit front x rest back (subst (λ (f : ℕ → ℕ). Chain f front (x ∷ rest)) (sym (next-is given t threads next (moves .written))) chain)
-            (omega (arith, short)),
-        same,
-      ) (rw (update-id threads n (threads n) refl) at (moves-set n low high (threads n) back))
 
   -- nobody's record changed
   moves-none : (F : ThreadRecord → ThreadRecord) (f : ThreadState → ThreadState) (n : ℕ) → (n ≡ 0) ⊎ (thread-limit < n) → threads n .state ≡ Idle → f Idle ≡ Idle

@@ -1,17 +1,19 @@
 -- The chains of all objects under one numbering, three to an object; the lists that these chains have in a table with lists; and what each work on chains
 -- does to the lists and to the links that stand for them.
 use Prim.Native.Nat.{ℕ, zero, suc, _+_, _*_, _/_, _%_, _≤_, _<_}
-use mathlib.Core.Path.{_≡_, refl, sym, ap, _∙_, subst, fun-ext}
+use mathlib.Core.Path.{_≡_, refl, sym, _∙_, subst, fun-ext}
 use mathlib.Core.Logic.{_≢_}
 use mathlib.Core.Bool.{Bool}
-use mathlib.Core.List.{List, [], _∷_, _++_, tail}
+use mathlib.Core.List.{List, [], _∷_, tail}
 use native.Mathlib.Omega.{arith}
-use lib.Dec.{eqb}
+use lib.Dec.{eqb, leb}
 use lib.ListN.{length, take}
+use borrow.Author.Tests.{le-leb}
 use Rattle.laws.specs.{Choice.pick, Update.update, Count.count, Filter.failing}
 use Rattle.laws.proofs.Choice.{by-equal, either-way, equal?}
 use Rattle.laws.proofs.Update.{update-same, update-other}
 use Rattle.chains.proofs.Chain.{head}
+use Rattle.chains.proofs.Queue.{queue-by, insert-last, length-queue}
 use Rattle.chains.proofs.Links.{Links, LinksRepresent, leave-links, leave-lists, join-links, join-lists, move-links, move-lists, shift-links}
 use Rattle.chains.proofs.Links.{shift-lists, drop-links, drop-lists, represent-drop, leave-within, leave-short, represent-leave, represent-join, represent-move, represent-shift}
 use Rattle.chains.specs.declared.named.Chain.{Chain}
@@ -81,6 +83,11 @@ pub objects-apart : (o p : ℕ) (a b : Chain) → p ≢ o → number p a ≢ num
 unfolding number
 objects-apart o p a b away q = away (omega (arith, q, place-small a, place-small b))
 
+-- another chain of an object than its entry chain has another number
+pub chains-differ : (o : ℕ) (chain : Chain) → (place-of chain ≡ 0 → ⊥) → number o Chain.Entry ≢ number o chain
+unfolding number
+chains-differ o chain other e = other (omega (arith, e))
+
 -- the lists after object o is replaced: its three are those of the new object, and the others are as they were
 pub lists-replaced : (objects : ℕ → ListObject) (o : ℕ) (new : ListObject) (list : ℕ → List ℕ)
     → ((chain : Chain) → list (number o chain) ≡ chain-of chain new)
@@ -92,61 +99,74 @@ lists-replaced objects o new list own others =
     (λ away. others (number p chain) (λ chain′. objects-apart o p chain chain′ away)
     ∙ rw (list-at (update objects o new) p chain, list-at objects p chain, update-other objects o new p away))))
 
--- What the work of `thread` at object o on chains does to the lists, and to the links; `goes` says who is let out.
-abbrev pub work-lists : (ℕ → Bool) → ℕ → ℕ → ChainWork → (ℕ → List ℕ) → ℕ → List ℕ
-work-lists goes thread o Stay list = list
-work-lists goes thread o (Join chain) list = join-lists (number o chain) thread list
-work-lists goes thread o (JoinAndHand chain) list = join-lists (number o chain) thread (leave-lists (number o Chain.Entry) list)
-work-lists goes thread o Hand list = leave-lists (number o Chain.Entry) list
-work-lists goes thread o (Move from First) list = shift-lists (number o from) (number o Chain.Entry) list
-work-lists goes thread o (Move from All) list = move-lists (number o from) (number o Chain.Entry) list
-work-lists goes thread o MoveAndLetOut list = drop-lists goes (number o Chain.Entry) (move-lists (number o Chain.Contention) (number o Chain.Entry) list)
-work-lists goes thread o (SendBack owner) list = list
+-- Who stays before whom in a chain: in the entry chain those of the same rank or a higher one, in the others everybody.
+abbrev pub joining : (ℕ → ℕ) → Chain → ℕ → ℕ
+joining rank Chain.Entry n = rank n
+joining rank Chain.Contention n = 0
+joining rank Chain.Waiting n = 0
 
-abbrev pub work-links : (ℕ → Bool) → ℕ → ℕ → ChainWork → Links → Links
-work-links goes thread o Stay links = links
-work-links goes thread o (Join chain) links = join-links thread-limit (number o chain) thread links
-work-links goes thread o (JoinAndHand chain) links = join-links thread-limit (number o chain) thread (leave-links (number o Chain.Entry) links)
-work-links goes thread o Hand links = leave-links (number o Chain.Entry) links
-work-links goes thread o (Move from First) links = shift-links thread-limit (number o from) (number o Chain.Entry) links
-work-links goes thread o (Move from All) links = move-links thread-limit (number o from) (number o Chain.Entry) links
-work-links goes thread o MoveAndLetOut links =
-    drop-links thread-limit goes (number o Chain.Entry) (move-links thread-limit (number o Chain.Contention) (number o Chain.Entry) links)
-work-links goes thread o (SendBack owner) links = links
+abbrev pub order : (ℕ → ℕ) → Chain → ℕ → ℕ → Bool
+order rank chain x n = leb (joining rank chain n) (rank x)
 
--- thread n can join a chain: it is one, it is in none, and the chains, also two of an object together, are short enough to walk to their ends
+-- What the work of `thread` at object o on chains does to the lists, and to the links; `goes` says who is let out, by these ranks threads are queued.
+module _ (rank : ℕ → ℕ) (goes : ℕ → Bool) (thread o : ℕ) where
+  abbrev pub work-lists : ChainWork → (ℕ → List ℕ) → ℕ → List ℕ
+  work-lists Stay list = list
+  work-lists (Join chain) list = join-lists (order rank chain) (number o chain) thread list
+  work-lists (JoinAndHand chain) list = join-lists (order rank chain) (number o chain) thread (leave-lists (number o Chain.Entry) list)
+  work-lists Hand list = leave-lists (number o Chain.Entry) list
+  work-lists (Move from First) list = shift-lists (order rank Chain.Entry) (number o from) (number o Chain.Entry) list
+  work-lists (Move from All) list = move-lists (order rank Chain.Entry) (number o from) (number o Chain.Entry) list
+  work-lists MoveAndLetOut list =
+      drop-lists goes (number o Chain.Entry) (move-lists (order rank Chain.Entry) (number o Chain.Contention) (number o Chain.Entry) list)
+  work-lists (SendBack owner) list = list
+
+  abbrev pub work-links : ChainWork → Links → Links
+  work-links Stay links = links
+  work-links (Join chain) links = join-links thread-limit (order rank chain) (number o chain) thread links
+  work-links (JoinAndHand chain) links = join-links thread-limit (order rank chain) (number o chain) thread (leave-links (number o Chain.Entry) links)
+  work-links Hand links = leave-links (number o Chain.Entry) links
+  work-links (Move from First) links = shift-links thread-limit (order rank Chain.Entry) (number o from) (number o Chain.Entry) links
+  work-links (Move from All) links = move-links thread-limit (order rank Chain.Entry) (number o from) (number o Chain.Entry) links
+  work-links MoveAndLetOut links =
+      drop-links thread-limit goes (number o Chain.Entry) (move-links thread-limit (order rank Chain.Entry) (number o Chain.Contention) (number o Chain.Entry) links)
+  work-links (SendBack owner) links = links
+
+-- thread n can join a chain: it is one, it is in none, and the chains, also another of an object with its entry chain, are short enough to walk along
 pub record Room (n : ℕ) (list : ℕ → List ℕ) : Type 0 where
   pub real : n ≢ 0
   pub out : (c : ℕ) → count n (list c) ≡ 0
   pub short : (c : ℕ) → length (list c) ≤ thread-limit
-  pub both-short : (o : ℕ) → length (list (number o Chain.Entry) ++ list (number o Chain.Contention)) ≤ thread-limit
-
--- the entry chain when all contenders have moved to its end
-moved-to : (list : ℕ → List ℕ) (o : ℕ)
-    → move-lists (number o Chain.Contention) (number o Chain.Entry) list (number o Chain.Entry) ≡ list (number o Chain.Entry) ++ list (number o Chain.Contention)
-moved-to list o =
-    update-same _ (number o Chain.Entry) _
-    ∙ ap (λ (queue : List ℕ). queue ++ list (number o Chain.Contention)) (update-number list o Chain.Contention Chain.Entry [])
+  pub both-short : (o : ℕ) (from : Chain) → length (update list (number o from) [] (number o Chain.Entry)) + length (list (number o from)) ≤ thread-limit
 
 -- after every work the links stand for the lists
-pub represent-work : (goes : ℕ → Bool) (thread o : ℕ) (links : Links) (list : ℕ → List ℕ) → LinksRepresent links list → Room thread list → (work : ChainWork)
-    → LinksRepresent (work-links goes thread o work links) (work-lists goes thread o work list)
-represent-work goes thread o links list represented room Stay = represented
-represent-work goes thread o links list represented room (Join chain) =
-    represent-join links list represented thread-limit (number o chain) thread (room .short _) (room .real) (room .out)
-represent-work goes thread o links list represented room (JoinAndHand chain) =
-    represent-join _ _ (represent-leave links list represented (number o Chain.Entry)) thread-limit (number o chain) thread
+pub represent-work : (rank : ℕ → ℕ) (goes : ℕ → Bool) (thread o : ℕ) (links : Links) (list : ℕ → List ℕ) → LinksRepresent links list → Room thread list → (work : ChainWork)
+    → LinksRepresent (work-links rank goes thread o work links) (work-lists rank goes thread o work list)
+represent-work rank goes thread o links list represented room Stay = represented
+represent-work rank goes thread o links list represented room (Join chain) =
+    represent-join links list represented thread-limit (order rank chain) (number o chain) thread (omega arith) (room .short _) (room .real) (room .out)
+represent-work rank goes thread o links list represented room (JoinAndHand chain) =
+    represent-join _ _ (represent-leave links list represented (number o Chain.Entry)) thread-limit (order rank chain) (number o chain) thread (omega arith)
     (omega (arith, leave-short list (number o Chain.Entry) (number o chain), room .short (number o chain))) (room .real)
     (λ c. omega (arith, leave-within list (number o Chain.Entry) c thread, room .out c))
-represent-work goes thread o links list represented room Hand = represent-leave links list represented (number o Chain.Entry)
-represent-work goes thread o links list represented room (Move from First) = represent-shift links list represented thread-limit _ _ (room .short _)
-represent-work goes thread o links list represented room (Move from All) = represent-move links list represented thread-limit _ _ (room .short _)
-represent-work goes thread o links list represented room MoveAndLetOut =
-    represent-drop _ _ (represent-move links list represented thread-limit _ _ (room .short _)) thread-limit goes (number o Chain.Entry)
-    (rw (moved-to list o) (room .both-short o))
-represent-work goes thread o links list represented room (SendBack owner) = represented
+represent-work rank goes thread o links list represented room Hand = represent-leave links list represented (number o Chain.Entry)
+represent-work rank goes thread o links list represented room (Move from First) =
+    represent-shift links list represented thread-limit (order rank Chain.Entry) _ _ (omega arith) (room .short _)
+represent-work rank goes thread o links list represented room (Move from All) =
+    represent-move links list represented thread-limit (order rank Chain.Entry) _ _ (room .short _) (omega (arith, room .both-short o from))
+represent-work rank goes thread o links list represented room MoveAndLetOut =
+    represent-drop _ _
+    (represent-move links list represented thread-limit (order rank Chain.Entry) _ _ (room .short _) (omega (arith, room .both-short o Chain.Contention)))
+    thread-limit goes (number o Chain.Entry)
+    (rw (update-same (update list (number o Chain.Contention) []) (number o Chain.Entry) _)
+    (omega (
+      arith,
+      room .both-short o Chain.Contention,
+      length-queue (order rank Chain.Entry) (update list (number o Chain.Contention) [] (number o Chain.Entry)) (list (number o Chain.Contention)),
+    )))
+represent-work rank goes thread o links list represented room (SendBack owner) = represented
 
--- The lists of the object after a work, as leaving, joining, moving and dropping out give them. Joining any chain is joining at its end: only here is `enter-queue-all` opened.
+-- The lists of the object after a work, as leaving, joining, moving and dropping out give them. Only here is `enter-queue-all` opened.
 pub first-is-head : (queue : List ℕ) → first-of queue ≡ head queue
 first-is-head [] = refl
 first-is-head (first ∷ rest) = refl
@@ -159,12 +179,14 @@ first-is-one : (queue : List ℕ) → taken First queue ≡ take 1 queue
 first-is-one [] = refl
 first-is-one (first ∷ rest) = refl
 
-pub entered-all : (entry threads : List ℕ) → enter-queue-all entry threads ≡ entry ++ threads
+pub entered-all : (rank : ℕ → ℕ) (entry threads : List ℕ) → enter-queue-all rank entry threads ≡ queue-by (order rank Chain.Entry) entry threads
 unfolding enter-queue-all
-entered-all entry threads = refl
+entered-all rank entry threads = refl
 
-joined-end : (chain : Chain) (list : List ℕ) (thread : ℕ) → join chain list thread ≡ list ++ (thread ∷ [])
-joined-end = each-chain _ (λ list thread. entered-all list (thread ∷ []), search, search)
+joined-end : (chain : Chain) (rank : ℕ → ℕ) (list : List ℕ) (thread : ℕ) → join chain rank list thread ≡ queue-by (order rank chain) list (thread ∷ [])
+joined-end Chain.Entry rank list thread = entered-all rank list (thread ∷ [])
+joined-end Chain.Contention rank list thread = sym (insert-last (λ x. order rank Chain.Contention x thread) thread list (λ x. le-leb 0 (rank x) (omega arith)))
+joined-end Chain.Waiting rank list thread = sym (insert-last (λ x. order rank Chain.Waiting x thread) thread list (λ x. le-leb 0 (rank x) (omega arith)))
 
 -- another list for one chain leaves the others
 pub chain-with : (chain other : Chain) (o : ListObject) (list : List ℕ)
@@ -187,24 +209,24 @@ module _ (objects : ℕ → ListObject) (states : ℕ → ThreadState) (thread o
       → let threads = chain-of from now in
       chain-of chain (moved-object from which now)
       ≡ pick (eqb (place-of chain) (place-of Chain.Entry))
-      (pick (eqb (place-of Chain.Entry) (place-of from)) (left which threads) (now .entry) ++ taken which threads)
+      (queue-by (order (now .rank) Chain.Entry) (pick (eqb (place-of Chain.Entry) (place-of from)) (left which threads) (now .entry)) (taken which threads))
       (pick (eqb (place-of chain) (place-of from)) (left which threads) (chain-of chain now))
   moved-chain from which chain =
       let threads = chain-of from now in
       let rest = with-chain from now (left which threads) in
-      chain-with Chain.Entry chain rest (enter-queue-all (rest .entry) (taken which threads))
-      ∙ rw (chain-with from chain now (left which threads), entered-all (rest .entry) (taken which threads), chain-with from Chain.Entry now (left which threads))
+      chain-with Chain.Entry chain rest (enter-queue-all (now .rank) (rest .entry) (taken which threads))
+      ∙ rw (chain-with from chain now (left which threads), entered-all (now .rank) (rest .entry) (taken which threads), chain-with from Chain.Entry now (left which threads))
 
   -- who is let out: the exits that are queued when the contenders have moved
   abbrev pub goes : ℕ → Bool
   goes t = is-queued-exit (moved-states Chain.Contention All states now t)
 
   pub all-moved : (from chain : Chain)
-      → move-lists (number o from) (number o Chain.Entry) (lists-of objects) (number o chain) ≡ chain-of chain (moved-object from All now)
+      → move-lists (order (now .rank) Chain.Entry) (number o from) (number o Chain.Entry) (lists-of objects) (number o chain) ≡ chain-of chain (moved-object from All now)
   all-moved from chain = simp (update-number, unmoved) (sym (moved-chain from All chain))
 
   own-lists : (work : ChainWork) (chain : Chain)
-      → work-lists goes thread o work (lists-of objects) (number o chain) ≡ chain-of chain (object-after work thread states now)
+      → work-lists (now .rank) goes thread o work (lists-of objects) (number o chain) ≡ chain-of chain (object-after work thread states now)
   own-lists Stay chain = unmoved chain
   own-lists (Join into) chain = simp (update-number, unmoved, chain-with, joined-end)
   own-lists (JoinAndHand into) chain = simp (update-number, unmoved, chain-with, joined-end, chain-handed)
@@ -213,13 +235,13 @@ module _ (objects : ℕ → ListObject) (states : ℕ → ThreadState) (thread o
   own-lists (Move from All) chain = all-moved from chain
   own-lists MoveAndLetOut chain =
       let queue = moved-object Chain.Contention All now in
-      update-number (move-lists (number o Chain.Contention) (number o Chain.Entry) (lists-of objects)) o Chain.Entry chain _
+      update-number (move-lists (order (now .rank) Chain.Entry) (number o Chain.Contention) (number o Chain.Entry) (lists-of objects)) o Chain.Entry chain _
       ∙ ((λ j. pick (eqb (place-of chain) (place-of Chain.Entry)) (failing goes (all-moved Chain.Contention Chain.Entry j)) (all-moved Chain.Contention chain j))
       ∙ sym (chain-with Chain.Entry chain queue (failing goes (queue .entry))))
   own-lists (SendBack owner) chain = unmoved chain
 
   -- no work touches another object's chains
-  other-lists : (work : ChainWork) (c : ℕ) → ((chain : Chain) → c ≢ number o chain) → work-lists goes thread o work (lists-of objects) c ≡ lists-of objects c
+  other-lists : (work : ChainWork) (c : ℕ) → ((chain : Chain) → c ≢ number o chain) → work-lists (now .rank) goes thread o work (lists-of objects) c ≡ lists-of objects c
   other-lists Stay c away = refl
   other-lists (Join chain) c away = update-other _ _ _ c (away chain)
   other-lists (JoinAndHand chain) c away = update-other _ _ _ c (away chain) ∙ update-other _ _ _ c (away Chain.Entry)
@@ -230,6 +252,6 @@ module _ (objects : ℕ → ListObject) (states : ℕ → ThreadState) (thread o
       update-other _ _ _ c (away Chain.Entry) ∙ (update-other _ _ _ c (away Chain.Entry) ∙ update-other _ _ _ c (away Chain.Contention))
   other-lists (SendBack owner) c away = refl
 
-  pub lists-work : (work : ChainWork) → work-lists goes thread o work (lists-of objects) ≡ lists-of (update objects o (object-after work thread states now))
+  pub lists-work : (work : ChainWork) → work-lists (now .rank) goes thread o work (lists-of objects) ≡ lists-of (update objects o (object-after work thread states now))
   lists-work work =
-      lists-replaced objects o (object-after work thread states now) (work-lists goes thread o work (lists-of objects)) (own-lists work) (other-lists work)
+      lists-replaced objects o (object-after work thread states now) (work-lists (now .rank) goes thread o work (lists-of objects)) (own-lists work) (other-lists work)

@@ -23,14 +23,15 @@ use Rattle.lock_table.specs.{Limits.thread-limit, Record.with-next}
 use Rattle.lock_table.specs.Access.{thread-at, set-thread}
 use Rattle.lock_table.specs.declared.record.{ThreadRecord.ThreadRecord, Table.Table}
 use Rattle.lock_table.proofs.Records.{set-thread-out}
-use Rattle.lock_perform.specs.Parting.{PartedChain, no-parting, last-behind, taken-with, passed, part-chain}
+use Rattle.lock_perform.specs.Parting.{no-parting, last-behind, taken-with, passed, part-chain}
+use Rattle.lock_perform.specs.declared.parting.PartedChain.{PartedChain}
 use Rattle.lock_perform.specs.declared.parting.Parting.{Parting}
 use Rattle.lock_perform.proofs.ThreadSets.{set-with}
 use Rattle.lock_records.proofs.Represents.{thread-record, record-is}
 use Rattle.lock_records.proofs.Moves.{change, Moves, Inside, moves-set}
 
 -- 0, or a number that has a record
-abbrev NoneOrIn : ℕ → Type 0
+abbrev pub NoneOrIn : ℕ → Type 0
 NoneOrIn n = (n ≡ 0) ⊎ ((0 < n) × (n ≤ thread-limit))
 
 -- the last of a list is one of these
@@ -54,7 +55,7 @@ ends-in {together} parting lefts takens midway left-in taken-in true =
 ends-in parting lefts takens midway left-in taken-in false = rw (midway .stay .ended) (end-in lefts left-in)
 
 -- a thread linked behind the last of a chain, if there is one
-moves-link : (given : ℕ → ThreadRecord) (before t : Table) (threads : ℕ → ListThread) (next : ℕ → ℕ) → Moves given before t threads next → (last x : ℕ)
+pub moves-link : (given : ℕ → ThreadRecord) (before t : Table) (threads : ℕ → ListThread) (next : ℕ → ℕ) → Moves given before t threads next → (last x : ℕ)
     → NoneOrIn last → Moves given before (set-thread t last (with-next (thread-at t last) x)) threads (pick (eqb last 0) next (update next last x))
 moves-link given before t threads next moves last x (inl none) =
     rw (eq-eqb last 0 none, set-thread-out t last (with-next (thread-at t last) x) (inl none)) moves

@@ -1,6 +1,7 @@
 -- An effect carried out on the records, and a begin, represent the table with lists on which the same was done.
 use Prim.Native.Nat.{ℕ, _≤_}
 use mathlib.Core.Path.{_≡_, refl, sym, ap, _∙_, subst}
+use mathlib.Core.List.{[]}
 use native.Mathlib.Omega.{arith}
 use lib.ListN.{length}
 use Rattle.laws.specs.{Update.update, Count.count}
@@ -14,7 +15,7 @@ use Rattle.lock_rules.proofs.Objects.{ListObject}
 use Rattle.lock_rules.proofs.Perform.{perform, states-after, unparks, action-unparks, object-after, effected}
 use Rattle.lock_rules.proofs.Tables.{ListThread, ListTable, states-at, put-back}
 use Rattle.chains.specs.declared.named.Chain.{Chain}
-use Rattle.lock_rules.proofs.ListChains.{times-in, short, both-short, out-of-chain}
+use Rattle.lock_rules.proofs.ListChains.{times-in, short, out-of-chain}
 use Rattle.lock_table.specs.Limits.{thread-limit}
 use Rattle.lock_table.specs.Record.{with-next, with-word, with-flag, with-monitor}
 use Rattle.lock_table.specs.Access.{thread-at, set-thread, object-at, set-object, next-of}
@@ -23,12 +24,13 @@ use Rattle.lock_perform.specs.State.{write-thread}
 use Rattle.lock_perform.specs.Moving.{CarriedOut, carry-out}
 use Rattle.lock_perform.specs.{ThreadSet.has-thread, Perform.object-after as object-after-record}
 use Rattle.lock_perform.proofs.Performed.{perform-of}
-use Rattle.lock_records.proofs.Numbering.{lists-of, list-at, by-number, work-links, Room, represent-work, goes, lists-work}
+use Rattle.lock_records.proofs.Numbering.{lists-of, list-at, by-number, update-number, work-links, Room, represent-work, goes, lists-work}
 use Rattle.lock_records.proofs.Written.{word-written, word-changed}
 use Rattle.lock_records.proofs.Represents.{thread-record, monitor-record, object-record, Represents, record-is, next-is}
 use Rattle.lock_records.proofs.Moves.{Moves, moves-set, moves-change}
 use Rattle.lock_records.proofs.Placing.{placed, placed-none, placed-own}
-use Rattle.lock_records.proofs.Actions.{Acted, acted, word-kept}
+use Rattle.lock_records.proofs.Shorts.{both-brief}
+use Rattle.lock_records.proofs.Actions.{Acted, acted, word-kept, rank-kept}
 use Rattle.lock_records.proofs.Replaced.{objects-of, replaced-represents}
 
 -- a thread in no chain names none
@@ -49,8 +51,8 @@ module _ (threads objects : ℕ) (t : Table) (lists : ListTable) (represents : R
             (λ o chain. rw (list-at (lists .objects) o chain) (out-of-chain threads objects lists sound chain o i (unchained chain)));
         short = by-number (λ c. length (lists-of (lists .objects) c) ≤ thread-limit)
             (λ o chain. rw (list-at (lists .objects) o chain) (omega (arith, short threads objects lists sound chain o, represents .thread-room)));
-        both-short = λ o. rw (list-at (lists .objects) o Chain.Entry, list-at (lists .objects) o Chain.Contention)
-            (omega (arith, both-short threads objects lists sound o, represents .thread-room));
+        both-short = λ o from. rw (update-number (lists-of (lists .objects)) o from Chain.Entry [], list-at (lists .objects) o Chain.Entry, list-at (lists .objects) o from)
+            (omega (arith, both-brief threads objects lists sound o from, represents .thread-room));
       }
 
   -- a begin writes one thread's record
@@ -70,6 +72,7 @@ module _ (threads objects : ℕ) (t : Table) (lists : ListTable) (represents : R
         objects-full = ap length (moves .beside .objects) ∙ represents .objects-full;
         object-is = λ o real small. ap (λ (f : ℕ → ObjectRecord). f o) same ∙ represents .object-is o real small;
         object-past = λ o past. ap (λ (f : ℕ → ObjectRecord). f o) same ∙ represents .object-past o past;
+        ranked = represents .ranked;
       }
     where
       begun : Table
@@ -100,7 +103,7 @@ module _ (threads objects : ℕ) (t : Table) (lists : ListTable) (represents : R
       new = object-after (effect .work) i (states-at lists o) now
 
       abbrev links : Links
-      links = work-links (goes (lists .objects) (states-at lists o) i o effect) i o (effect .work) (represents .links)
+      links = work-links (now .rank) (goes (lists .objects) (states-at lists o) i o effect) i o (effect .work) (represents .links)
 
       abbrev moved : CarriedOut
       moved = carry-out t (monitor-record o (represents .links) (effect .holder) (effect .depth)) (effect .work) i o
@@ -121,11 +124,11 @@ module _ (threads objects : ℕ) (t : Table) (lists : ListTable) (represents : R
       represented : LinksRepresent links (lists-of (update (lists .objects) o new))
       represented =
           subst (LinksRepresent links) (lists-work (lists .objects) (states-at lists o) i o effect (effect .work))
-          (represent-work (goes (lists .objects) (states-at lists o) i o effect) i o (represents .links) (lists-of (lists .objects)) (represents .chains) (room unchained) (effect .work))
+          (represent-work (now .rank) (goes (lists .objects) (states-at lists o) i o effect) i o (represents .links) (lists-of (lists .objects)) (represents .chains) (room unchained) (effect .work))
 
       action : Acted (represents .given .thread) t lists o links moved (states-after (effect .work) (states-at lists o) now) (new .holder) (new .depth)
           (unparks (effect .work) (states-at lists o) now)
-      action = acted threads objects t lists represents sound o i effect (effect .work)
+      action = acted threads objects t lists represents sound o i effect (room unchained) (omega (arith, high, represents .thread-room)) (effect .work)
 
       threads-after : Moves (represents .given .thread) t own-written (placed o (lists .threads) states) (links .next)
       threads-after =
@@ -148,6 +151,7 @@ module _ (threads objects : ℕ) (t : Table) (lists : ListTable) (represents : R
       effect-represents : Represents threads objects (set-object own-written o object-written)
           (put-back lists o (perform i (states-at lists o) (lists .objects o) (Do effect)))
       effect-represents = replaced-represents threads objects t lists represents o real small new links own-written states object-written represented threads-after written-is
+          (rank-kept (effect .work) i (states-at lists o) now)
 
       -- the effect on the records as they are: the word is changed by its bits
       pub perform-represents : Represents threads objects (perform-of t i o (object-at t o) effect)

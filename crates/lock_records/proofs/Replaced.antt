@@ -8,7 +8,7 @@ use lib.ListN.{length}
 use Rattle.laws.specs.{Update.update}
 use Rattle.laws.proofs.Choice.{equal?}
 use Rattle.laws.proofs.Update.{update-same, update-other}
-use Rattle.chains.proofs.Chain.{head}
+use Rattle.chains.proofs.Chain.{by-update, head}
 use Rattle.chains.proofs.Links.{Links, LinksRepresent, first-head}
 use Rattle.lock_rules.specs.declared.{ThreadState.ThreadState}
 use Rattle.lock_rules.proofs.Objects.{ListObject, chain-of}
@@ -37,7 +37,7 @@ module _ (threads objects : ℕ) (t : Table) (lists : ListTable) (represents : R
     (new : ListObject) (links : Links) (table : Table) (states : ℕ → ThreadState) (object-written : ObjectRecord)
     (represented : LinksRepresent links (lists-of (update (lists .objects) o new)))
     (threads-after : Moves (represents .given .thread) t table (placed o (lists .threads) states) (links .next))
-    (written-is : object-written ≡ object-record o new links (represents .given .object o)) where
+    (written-is : object-written ≡ object-record o new links (represents .given .object o)) (same-ranks : new .rank ≡ lists .objects o .rank) where
   objects-after : object-at (set-object table o object-written) ≡ update (object-at t) o object-written
   objects-after =
       let same : table .objects ≡ t .objects = threads-after .beside .objects in
@@ -84,6 +84,7 @@ module _ (threads objects : ℕ) (t : Table) (lists : ListTable) (represents : R
         object-is = λ p first last. ap (λ (f : ℕ → ObjectRecord). f p) objects-after ∙ object-after-at p first last (equal? p o);
         object-past = λ p past. ap (λ (f : ℕ → ObjectRecord). f p) objects-after
             ∙ (update-other (object-at t) o object-written p (λ e. omega (arith, e, past, small)) ∙ represents .object-past p past);
+        ranked = λ p. by-update (λ object. object .rank ≡ (λ n. represents .given .thread n .rank)) (lists .objects) o new p (λ e. same-ranks ∙ represents .ranked o) (λ away. represents .ranked p);
       }
     where
       beside : BesideObjects table (set-object table o object-written)

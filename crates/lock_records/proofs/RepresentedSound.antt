@@ -1,12 +1,13 @@
 -- A table of records that represents a sound table with lists passes the engine's test: so 11 never occurs where lists are kept sound.
 use Prim.Native.Nat.{ℕ, _≤_, _<_}
-use mathlib.Core.Path.{_≡_, refl, sym, ap, _∙_, subst}
+use mathlib.Core.Path.{_≡_, refl, sym, ap, _∙_, subst, fun-ext}
 use mathlib.Core.Logic.{_≢_}
 use mathlib.Core.Bool.{true}
 use native.Mathlib.Omega.{arith}
 use lib.Dec.{T}
 use Rattle.laws.specs.Count.{count}
 use Rattle.chains.proofs.Chain.{Chain as Linked, head, chain-members}
+use Rattle.chains.proofs.Falling.{falling-links}
 use Rattle.lock_rules.specs.Numbers.{phase-of}
 use Rattle.lock_rules.proofs.{Status.unfinished, ListSound.SoundTable, Objects.chain-of}
 use Rattle.lock_rules.specs.declared.ThreadState.{ThreadState}
@@ -16,15 +17,15 @@ use Rattle.lock_rules.proofs.ListChains.{times-in, placed-in, member-at, member
 use Rattle.lock_table.specs.Record.{no-thread, with-next}
 use Rattle.lock_table.specs.Access.{thread-at, object-at, next-of, phase-number-at}
 use Rattle.lock_table.specs.Parked.{chain-named, thread-chain, first-in, chain-first}
-use Rattle.lock_table.specs.declared.record.{ObjectRecord.ObjectRecord, Table.Table}
-use Rattle.lock_table.proofs.Walks.{next-none}
+use Rattle.lock_table.specs.declared.record.{ThreadRecord.ThreadRecord, ObjectRecord.ObjectRecord, Table.Table}
+use Rattle.lock_table.proofs.{Records.thread-none, Walks.next-none}
 use Rattle.lock_perform.specs.State.{write-activity, write-thread}
 use Rattle.lock_records.proofs.Numbering.{number, lists-of, list-at, by-number}
 use Rattle.lock_records.proofs.Written.{phase-written, word-written, word-read}
 use Rattle.lock_records.proofs.Represents.{thread-record, monitor-record, Represents, next-is}
 use Rattle.lock_records.proofs.Readings.{past-idle, busy-in, thread-is, home-is, first-is, chained}
 use Rattle.lock_soundness.specs.Sound.{sound-of}
-use Rattle.sound_records.proofs.Reading.{Within, chain-kinds, ObjectFits, ThreadFits, written-object-fits}
+use Rattle.sound_records.proofs.Reading.{Within, chain-kinds, parked-busy, ObjectFits, ThreadFits, written-object-fits}
 use Rattle.lock_soundness.proofs.Chained.{follow, chain-leads}
 use Rattle.lock_soundness.proofs.Reading.{threads-in-chain, Sound, sound-made}
 use Rattle.lock_records.proofs.Naming.{chain-number, chain-number-low, by-chain, named-once, unnamed-never, in-named, named-busy}
@@ -143,6 +144,19 @@ module _ (t : Table) (lists : ListTable) (represents : Represents (t .threadcoun
         first-is (t .threadcount) (t .objectcount) t lists represents sound o Chain.Entry ∙ ap head (sound .sound o .empty unheld),
       )))
 
+  -- behind a queued thread stands nobody of a higher rank
+  falls : (n : ℕ) → 1 ≤ n → n ≤ t .threadcount → thread-chain (thread-at t n) ≡ 1 → thread-at t (next-of t n) .rank ≤ thread-at t n .rank
+  falls n low high queued =
+      let parked : thread-chain (thread-at t n) ≢ 0 = λ none. omega (arith, queued, none) in
+      let o = thread-at t n .object in
+      let (first, last) = thread-fits n low high .operation (parked-busy (phase-number-at t n) parked) .0 in
+      let member : 0 < count n (lists .objects o .entry) = rw (queued, chain-is o first last Chain.Entry) at (parked-in n low high parked) in
+      let ranks : lists .objects o .rank ≡ (λ m. thread-at t m .rank) =
+      represents .ranked o ∙ fun-ext (λ m. ap (λ (thread : ThreadRecord). thread .rank) (sym (record-at m))) in
+      rw ranks at
+      (falling-links (lists .objects o .rank) (next-of t) (chain-first t o 1) (lists .objects o .entry)
+      (ap (λ (rank : ℕ → ℕ). rank 0) ranks ∙ ap (λ (thread : ThreadRecord). thread .rank) (thread-none t)) (linked-at o first last Chain.Entry) (sound .sound o .ordered) n member)
+
   clauses-hold : 1 ≤ t .threadcount → 1 ≤ t .objectcount → Sound t
   clauses-hold some-thread some-object =
       record {
@@ -158,6 +172,7 @@ module _ (t : Table) (lists : ListTable) (represents : Represents (t .threadcoun
         no-others = λ o low high.
             by-chain (λ k. (n : ℕ) → 0 < count n (threads-in-chain t o k) → (thread-at t n .object ≡ o) × (thread-chain (thread-at t n) ≡ k))
             (members-named o low high);
+        falling = falls;
         threads-past = λ n low high. thread-past-empty n;
         objects-past = λ o low high. represents .object-past o;
       }

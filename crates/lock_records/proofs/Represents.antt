@@ -62,6 +62,8 @@ pub record Represents (threads objects : ℕ) (t : Table) (lists : ListTable) : 
   pub objects-full : length (t .objects) ≡ object-limit
   pub object-is : (o : ℕ) → 1 ≤ o → o ≤ objects → object-at t o ≡ object-record o (lists .objects o) links (given .object o)
   pub object-past : (o : ℕ) → objects < o → object-at t o ≡ no-object
+  -- the objects with lists know the ranks
+  pub ranked : (o : ℕ) → lists .objects o .rank ≡ (λ n. given .thread n .rank)
 
 -- one record, and the next indexes of all
 module _ (given : ℕ → ThreadRecord) (t : Table) (threads : ℕ → ListThread) (next : ℕ → ℕ) (written : ThreadsWritten given t threads next) where

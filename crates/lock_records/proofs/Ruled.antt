@@ -16,6 +16,7 @@ use Rattle.lock_rules.specs.Operations.{Operation}
 use Rattle.lock_rules.specs.declared.{Doing.Doing, Answer.Answer}
 use Rattle.lock_rules.specs.declared.ThreadState.the-variants.{Running}
 use Rattle.lock_rules.specs.declared.Answer.the-variants.{GoneOn, Finished, Parked, NotOwner, TooDeep, NoRule}
+use Rattle.lock_table.proofs.FreshTables.{fresh-rank}
 use Rattle.lock_rules.proofs.TableKinds.{TurnOf, shown-on, by-event}
 use Rattle.lock_rules.proofs.Tables.{ListTable, list-kind, turn, step-at, perform-at, shown, fresh}
 use Rattle.lock_rules.proofs.Lift.{World, world-turn, world-fresh}
@@ -74,4 +75,4 @@ pub schedule-ruled : (request : FreshRequest) → InRange request → (events : 
     → Ruled (shown-on record-kind (request .threads) (request .objects) (fresh-of request .table) events)
 schedule-ruled request in-range events =
     subst Ruled (sym (schedule-represents request in-range events .2))
-    (lists-ruled (request .threads) (request .objects) events (fresh (request .reserved)) blank (world-fresh (request .reserved)))
+    (lists-ruled (request .threads) (request .objects) events (fresh (request .reserved) (fresh-rank request)) blank (world-fresh (request .reserved) (fresh-rank request)))

@@ -9,6 +9,7 @@ use Rattle.laws.specs.Count.{count}
 use Rattle.laws.proofs.Choice.{either-way, equal?}
 use Rattle.chains.specs.Chain.{members}
 use Rattle.chains.proofs.Chain.{Chain as Linked, head, chain-head, members-none}
+use Rattle.chains.proofs.Falling.{links-falling}
 use Rattle.chains.proofs.Links.{Links, LinksRepresent}
 use Rattle.lock_word.specs.{Read.read-word, Depth.depth-limit}
 use Rattle.lock_rules.specs.declared.ThreadState.{ThreadState}
@@ -21,7 +22,8 @@ use Rattle.chains.specs.declared.named.Chain.{Chain}
 use Rattle.lock_table.specs.Limits.{thread-limit, object-limit}
 use Rattle.lock_table.specs.Record.{no-thread, with-word, with-monitor}
 use Rattle.lock_table.specs.Access.{thread-at, object-at, next-of, phase-number-at}
-use Rattle.lock_table.specs.Parked.{thread-chain, first-in, chain-first}
+use Rattle.lock_table.specs.Parked.{chain-named, thread-chain, first-in, chain-first}
+use Rattle.lock_table.specs.Phase.{phase-number}
 use Rattle.lock_table.specs.declared.record.{ObjectRecord.ObjectRecord, Table.Table}
 use Rattle.lock_table.proofs.Records.{thread-none}
 use Rattle.lock_perform.specs.State.{write-thread, state-by, read-thread}
@@ -38,7 +40,7 @@ use Rattle.lock_records.proofs.EveryNumber.{thread-read, thread-where, 
 -- the table with lists that a table is read as
 abbrev pub object-read : Table → ℕ → ListObject
 object-read t o =
-    object-of (seen-in (read-word (object-at t o .word))) (object-at t o .flag) (object-at t o .monitor .holder) (object-at t o .monitor .depth)
+    object-of (λ n. thread-at t n .rank) (seen-in (read-word (object-at t o .word))) (object-at t o .flag) (object-at t o .monitor .holder) (object-at t o .monitor .depth)
     (threads-in-chain t o 1) (threads-in-chain t o 2) (threads-in-chain t o 3)
 
 abbrev pub lists-read : Table → ListTable
@@ -149,6 +151,7 @@ module _ (t : Table) (sound : Sound t) where
         objects-full = objects-full;
         object-is = object-written;
         object-past = λ o past. either-way (object-where t sound o) (λ used. absurd (omega (arith, past, used .1))) (λ empty. empty);
+        ranked = λ o. refl;
       }
 
   -- what the table with lists owes to soundness, thread by thread
@@ -159,6 +162,14 @@ module _ (t : Table) (sound : Sound t) where
       (λ used. let (low, high) = written-at t sound n .home (rw (state-back (t .objectcount) n (thread-at t n) (written-at t sound n)) at busy) in
       inr (used .1, low, high))
       (λ empty. inl (ap read-thread empty ∙ idle-none)))
+
+  -- nobody stands behind one of a lower rank in an entry chain
+  falls : (o n : ℕ) → 0 < count n (threads-in-chain t o 1) → thread-at t (next-of t n) .rank ≤ thread-at t n .rank
+  unfolding chain-named phase-number
+  falls o n inside =
+      let (here, queued) = members-at t sound o Chain.Entry n inside in
+      either-way (thread-where t sound n) (λ used. sound .falling n (used .0) (used .1) queued)
+      (λ empty. absurd (let none : thread-chain (thread-at t n) ≡ 0 = ap thread-chain empty in omega (arith, none, queued)))
 
   -- and object by object
   module _ (depths : DepthsFit t) where
@@ -196,6 +207,7 @@ module _ (t : Table) (sound : Sound t) where
                 shallow = λ nobody. object-fine o .unheld nobody .0;
                 empty = λ nobody.
                     ap (members (t .threadcount) (next-of t)) (object-fine o .unheld nobody .1) ∙ members-none (t .threadcount) (next-of t);
+                ordered = links-falling (λ n. thread-at t n .rank) (next-of t) (chain-first t o 1) (threads-in-chain t o 1) (chain-at t sound o Chain.Entry) (falls o);
               };
         }
 

@@ -10,13 +10,13 @@ use lib.ListN.{length}
 use Rattle.laws.specs.{Choice.pick, Update.update, Count.count}
 use Rattle.laws.specs.Filter.{failing}
 use Rattle.laws.proofs.Count.{count-same}
-use Rattle.laws.proofs.Filter.{count-passing}
+use Rattle.laws.proofs.Filter.{passing, count-parted, count-passing, length-passing}
 use Rattle.laws.proofs.Choice.{either-way, equal?, by-test}
 use Rattle.laws.proofs.Update.{update-other}
-use Rattle.chains.specs.Joining.{no-ends, first-with}
+use Rattle.chains.specs.Joining.{no-ends}
 use Rattle.chains.specs.declared.named.Chain.{Chain}
 use Rattle.chains.proofs.Chain.{Chain as ChainOf, head}
-use Rattle.chains.proofs.Walk.{walk}
+use Rattle.chains.proofs.{Walk.walk, Family.others, Queue.queued}
 use Rattle.chains.proofs.Parting.{Parted, part, chains-part}
 use Rattle.chains.proofs.Links.{Links, LinksRepresent, part-links, part-lists, represent-part, first-head, leave-links, leave-lists, represent-leave}
 use Rattle.lock_rules.specs.PlainMonitor.{above-zero}
@@ -36,26 +36,31 @@ use Rattle.lock_rules.proofs.Tables.{ListThread, ListTable, states-at, seen-her
 use Rattle.lock_table.specs.Limits.{thread-limit}
 use Rattle.lock_table.specs.Record.{with-next, with-monitor}
 use Rattle.lock_table.specs.Access.{thread-at, set-thread, set-object, next-of}
-use Rattle.lock_table.specs.Chain.{hang, handed-of}
-use Rattle.lock_table.specs.Monitor.{hand-of, join}
+use Rattle.lock_table.specs.Chain.{handed-of}
+use Rattle.lock_table.specs.Monitor.{hand-of, with-first, move-to-entry}
 use Rattle.lock_table.specs.declared.record.{ThreadRecord.ThreadRecord, ObjectRecord.ObjectRecord, Monitor.Monitor, Table.Table}
-use Rattle.lock_table.proofs.Walks.{hang-none}
-use Rattle.lock_perform.specs.Moving.{CarriedOut, plan-hand, carried-out, relink}
-use Rattle.lock_perform.specs.Parting.{PartedChain, no-parting}
+use Rattle.lock_perform.specs.Moving.{CarriedOut, unlinked, plan-hand, carried-out, relink}
+use Rattle.lock_perform.specs.Queueing.{queue}
+use Rattle.lock_perform.specs.declared.queueing.JoinedChain.{JoinedChain}
+use Rattle.lock_perform.proofs.InPlace.{queue-none}
+use Rattle.lock_perform.specs.Parting.{no-parting}
+use Rattle.lock_perform.specs.declared.parting.PartedChain.{PartedChain}
 use Rattle.lock_perform.specs.declared.parting.Parting.{Parting}
 use Rattle.lock_perform.specs.ThreadSet.{thread-set, has-thread}
 use Rattle.lock_perform.proofs.ThreadSets.{has-none}
 use Rattle.lock_work.specs.Waiters.{waiter-goes, waiter-ticked, part-waiters}
 use Rattle.lock_work.specs.declared.settling.WorkDone.{WorkDone}
-use Rattle.lock_work.specs.Tick.{moved-monitor, handing, hand-if-free, tick-waited}
-use Rattle.lock_records.proofs.Numbering.{number, place-of, lists-of, list-at, update-number, lists-replaced, chain-handed, entered-all, first-is-head}
+use Rattle.lock_work.specs.Tick.{handing, hand-if-free, tick-waited}
+use Rattle.lock_records.proofs.Numbering.{order, number, place-of, lists-of, list-at, update-number, lists-replaced, chain-handed, entered-all, first-is-head}
 use Rattle.lock_records.proofs.Represents.{monitor-record, object-record, Represents, next-is}
 use Rattle.lock_records.proofs.Written.{handed-written}
 use Rattle.lock_records.proofs.Readings.{nobody, chained}
 use Rattle.lock_records.proofs.HandNames.{hand-names}
-use Rattle.lock_records.proofs.Moves.{change, Moves, Inside, moves-hang, moves-first}
+use Rattle.lock_records.proofs.Moves.{change, Moves, Inside, moves-first}
+use Rattle.lock_records.proofs.QueueWalk.{moves-queue}
+use Rattle.lock_records.proofs.Shorts.{both-brief}
 use Rattle.lock_records.proofs.Placing.{placed, placed-all, placed-first}
-use Rattle.lock_records.proofs.Actions.{left-recorded, joined-recorded, handed-recorded}
+use Rattle.lock_records.proofs.Actions.{left-recorded, handed-recorded}
 use Rattle.lock_records.proofs.Replaced.{replaced-represents}
 use Rattle.lock_records.proofs.PartWalk.{Becomes, walk-moves}
 use Rattle.lock_records.proofs.WaiterTicked.{ticked-by, waiter-becomes}
@@ -84,7 +89,7 @@ module _ (objects : ℕ → ListObject) (o : ℕ) (states : ℕ → ThreadState)
   after = expired states (objects o) .object
 
   abbrev parted-lists : ℕ → List ℕ
-  parted-lists = part-lists (due states (objects o)) (number o Chain.Waiting) (number o Chain.Entry) (lists-of objects)
+  parted-lists = part-lists (order (objects o .rank) Chain.Entry) (due states (objects o)) (number o Chain.Waiting) (number o Chain.Entry) (lists-of objects)
 
   own-parted : (chain : Chain) → parted-lists (number o chain) ≡ chain-of chain after
   own-parted =
@@ -182,7 +187,7 @@ module _ (threads objects : ℕ) (t : Table) (lists : ListTable) (represents : R
 
   -- those that ran out join the entry chain
   abbrev links : Links
-  links = part-links thread-limit (due states here) (number o Chain.Waiting) (number o Chain.Entry) old
+  links = part-links thread-limit (order (here .rank) Chain.Entry) (due states here) (number o Chain.Waiting) (number o Chain.Entry) old
 
   apart : number o Chain.Waiting ≢ number o Chain.Entry
   unfolding number
@@ -193,8 +198,10 @@ module _ (threads objects : ℕ) (t : Table) (lists : ListTable) (represents : R
 
   parted-chains : LinksRepresent links (parted-lists (lists .objects) o states)
   parted-chains =
-      represent-part old (lists-of (lists .objects)) (represents .chains) thread-limit (due states here) (number o Chain.Waiting) (number o Chain.Entry) apart
-      (length-at Chain.Waiting) (length-at Chain.Entry)
+      represent-part old (lists-of (lists .objects)) (represents .chains) thread-limit (order (here .rank) Chain.Entry) (due states here) (number o Chain.Waiting) (number o Chain.Entry) apart
+      (length-at Chain.Waiting)
+      (rw (list-at (lists .objects) o Chain.Entry, list-at (lists .objects) o Chain.Waiting)
+      (omega (arith, both-brief threads objects lists sound o Chain.Waiting, represents .thread-room)))
 
   entry-stays : ChainOf (p .next) (first Chain.Entry) (here .entry)
   entry-stays =
@@ -207,12 +214,42 @@ module _ (threads objects : ℕ) (t : Table) (lists : ListTable) (represents : R
         list-at (lists .objects) o Chain.Entry,
       ) at (aside .chain (number o Chain.Entry))
 
-  abbrev hung : Table
-  hung = hang thread-limit (walked .table) (first Chain.Entry) (p .taken .first)
+  abbrev ran-out : List ℕ
+  ran-out = passing (due states here) (here .waiting)
 
-  hung-moves : Moves given t hung placed-after (links .next)
-  hung-moves =
-      moves-hang given t (walked .table) placed-after (p .next) (the-walk .0) (here .entry) (first Chain.Entry) (p .taken .first) entry-stays (brief Chain.Entry) (inside Chain.Entry)
+  -- those that ran out are a chain, and waited
+  taken-chain : ChainOf (p .next) (p .taken .first) ran-out
+  taken-chain =
+      let (aside, taken) = chains-part (old .next) (old .first) (lists-of (lists .objects)) (represents .chains) (number o Chain.Waiting) thread-limit (due states here)
+      (length-at Chain.Waiting) in
+      rw (list-at (lists .objects) o Chain.Waiting) at taken
+
+  waited : (n : ℕ) → 0 < count n ran-out → 0 < count n (here .waiting)
+  waited n h = omega (arith, h, count-parted (due states here) (here .waiting) n)
+
+  not-queued : (n : ℕ) → 0 < count n ran-out → count n (here .entry) ≡ 0
+  not-queued n h =
+      rw (list-at (lists .objects) o Chain.Entry) at
+      (others (lists-of (lists .objects)) (represents .chains .apart) (number o Chain.Waiting) (number o Chain.Entry) n (λ e. apart (sym e))
+      (rw (list-at (lists .objects) o Chain.Waiting) (waited n h)))
+
+  abbrev joined : JoinedChain
+  joined = queue Chain.Entry thread-limit (walked .table) (first Chain.Entry) (p .taken .first)
+
+  abbrev joined-table : Table
+  joined-table = joined .table
+
+  joined-moves : Moves given t joined-table placed-after (links .next)
+      × (joined .first ≡ queued thread-limit thread-limit (order (here .rank) Chain.Entry) (p .next) (first Chain.Entry) (p .taken .first) .first)
+  joined-moves =
+      let few = length-passing (due states here) (here .waiting) in
+      rw (represents .ranked o)
+      (moves-queue given t placed-after Chain.Entry ran-out (here .entry) thread-limit (walked .table) (p .next) (first Chain.Entry) (p .taken .first) (the-walk .0)
+      entry-stays taken-chain (inside Chain.Entry) (λ n h. inside Chain.Waiting n (waited n h)) (omega (arith, few, brief Chain.Waiting))
+      (omega (arith, few, both-brief threads objects lists sound o Chain.Waiting, represents .thread-room)) not-queued)
+
+  joined-written : Moves given t joined-table placed-after (links .next)
+  joined-written = joined-moves .0
 
   abbrev parted : Parting
   parted = record { left = p .left; taken = p .taken; set = walked .parting .set }
@@ -223,24 +260,22 @@ module _ (threads objects : ℕ) (t : Table) (lists : ListTable) (represents : R
   abbrev monitor : Monitor
   monitor = monitor-record o old (here .holder) (here .depth)
 
-  moved-recorded : moved-monitor monitor parted ≡ monitor-record o links (here .holder) (here .depth)
+  moved-recorded : move-to-entry monitor Chain.Waiting (parted .left .first) (joined .first) ≡ monitor-record o links (here .holder) (here .depth)
   moved-recorded =
       let left : Links = record { next = old .next; first = update (old .first) (number o Chain.Waiting) (p .left .first) } in
-      let entry-is : left .first (number o Chain.Entry) ≡ first Chain.Entry = update-number (old .first) o Chain.Waiting Chain.Entry (p .left .first) in
-      ap (λ (m : Monitor). join m Chain.Entry (p .taken .first)) (left-recorded o old (here .holder) (here .depth) Chain.Waiting (p .left .first))
-      ∙ (joined-recorded o left (here .holder) (here .depth) Chain.Entry (p .taken .first)
-      ∙ ap (λ (x : ℕ). monitor-record o (record { next = links .next; first = update (left .first) (number o Chain.Entry) (first-with x (p .taken .first)) }) (here .holder) (here .depth))
-      entry-is)
+      ap (λ (m : Monitor). with-first m Chain.Entry (joined .first)) (left-recorded o old (here .holder) (here .depth) Chain.Waiting (p .left .first))
+      ∙ (ap (with-first (monitor-record o left (here .holder) (here .depth)) Chain.Entry) (joined-moves .1)
+      ∙ left-recorded o left (here .holder) (here .depth) Chain.Entry _)
 
   abbrev before : ObjectRecord
   before = object-record o here old (represents .given .object o)
 
   -- a monitor that somebody holds: nobody is handed it
-  held-represents : Represents threads objects (set-object hung o (with-monitor before (monitor-record o links (here .holder) (here .depth))))
+  held-represents : Represents threads objects (set-object joined-table o (with-monitor before (monitor-record o links (here .holder) (here .depth))))
       (record { threads = placed-after; objects = update (lists .objects) o (result .object) })
   held-represents =
-      replaced-represents threads objects t lists represents o real small (result .object) links hung (result .states) (with-monitor before (monitor-record o links (here .holder) (here .depth)))
-      (subst (LinksRepresent links) (lists-parted (lists .objects) o states) parted-chains) hung-moves refl
+      replaced-represents threads objects t lists represents o real small (result .object) links joined-table (result .states) (with-monitor before (monitor-record o links (here .holder) (here .depth)))
+      (subst (LinksRepresent links) (lists-parted (lists .objects) o states) parted-chains) joined-written refl refl
 
   -- one that nobody holds: the first of the entry chain is handed it
   abbrev left-links : Links
@@ -257,7 +292,7 @@ module _ (threads objects : ℕ) (t : Table) (lists : ListTable) (represents : R
   entry-from : (P : Type 0) (n : ℕ) → 0 < count n (result .object .entry) → ((chain : Chain) → 0 < count n (chain-of chain here) → P) → P
   entry-from P n h each =
       either-way (equal? (count n (here .entry)) 0)
-      (λ out. each Chain.Waiting (omega (arith, h, out, count-entered-all n (here .entry) (parting states here .gone), parting states here .parted n)))
+      (λ out. each Chain.Waiting (omega (arith, h, out, count-entered-all n (here .rank) (here .entry) (parting states here .gone), parting states here .parted n)))
       (λ in-it. each Chain.Entry (omega (arith, in-it)))
 
   entry-home : (n : ℕ) → 0 < count n (result .object .entry) → lists .threads n .object ≡ o
@@ -282,20 +317,21 @@ module _ (threads objects : ℕ) (t : Table) (lists : ListTable) (represents : R
 
   abbrev freed : CarriedOut
   freed =
-      let first = thread-at hung handed-first in
-      carried-out (set-thread hung handed-first (handed-of first)) (plan-hand at-hand first)
+      let first = thread-at joined-table handed-first in
+      let planned = plan-hand at-hand first in
+      record { table = set-thread joined-table handed-first (handed-of first); monitor = planned .monitor; unparked = planned .unparked }
 
   free-moves : Moves given t (freed .table) (placed o (lists .threads) (handed-states (result .states) (result .object))) (left-links .next)
   free-moves =
       subst (λ after. Moves given t (freed .table) after (left-links .next))
       (placed-first o (lists .threads) handed (result .states) (result .object .entry) handed-first handed-head idle-still refl entry-home)
-      (moves-first given t hung placed-after (links .next) hung-moves handed-of handed handed-first handed-low idle-still refl
+      (moves-first given t joined-table placed-after (links .next) joined-written handed-of handed handed-first handed-low idle-still refl
       (λ real. handed-written handed-first (placed-after handed-first .object) (placed-after handed-first .state) (with-next (given handed-first) (links .next handed-first))))
 
   free-monitor : freed .monitor ≡ monitor-record o left-links (handed-object (result .object) .holder) 0
   free-monitor =
-      let entry-next : next-of hung handed-first ≡ links .next handed-first =
-      ap (λ (next : ℕ → ℕ). next handed-first) (next-is given hung placed-after (links .next) (hung-moves .written)) in
+      let entry-next : next-of joined-table handed-first ≡ links .next handed-first =
+      ap (λ (next : ℕ → ℕ). next handed-first) (next-is given joined-table placed-after (links .next) (joined-written .written)) in
       let holder : handed-first ≡ first-of (result .object .entry) = handed-head ∙ sym (first-is-head (result .object .entry)) in
       ap (λ (next : ℕ). hand-of (monitor-record o links (here .holder) (here .depth)) next .monitor) entry-next
       ∙ (handed-recorded o links (here .holder) (here .depth) (links .next handed-first) ∙ ap (λ (holder : ℕ). monitor-record o left-links holder 0) holder)
@@ -307,7 +343,7 @@ module _ (threads objects : ℕ) (t : Table) (lists : ListTable) (represents : R
       (handed-states (result .states) (result .object)) (with-monitor before (freed .monitor))
       (subst (LinksRepresent left-links) (lists-handed (lists .objects) o states)
       (represent-leave links (parted-lists (lists .objects) o states) parted-chains (number o Chain.Entry))) free-moves
-      (ap (with-monitor before) free-monitor)
+      (ap (with-monitor before) free-monitor) refl
 
   -- either way
   abbrev finished : Table → Monitor → WorkDone
@@ -315,29 +351,31 @@ module _ (threads objects : ℕ) (t : Table) (lists : ListTable) (represents : R
       let handed = hand-if-free table after in
       record { table = set-object (handed .table) o (with-monitor before (handed .monitor)); unparked = handed .unparked }
 
-  finishes : tick-waited t o ≡ finished hung (monitor-record o links (here .holder) (here .depth))
+  finishes : tick-waited t o ≡ finished joined-table (monitor-record o links (here .holder) (here .depth))
   finishes =
       ap (λ (object : ObjectRecord).
       let monitor = object .monitor in
       let parted = part-waiters thread-limit t no-parting (monitor .waiting) in
-      let hung = hang thread-limit (parted .table) (monitor .entry) (parted .parting .taken .first) in
-      let after = hand-if-free hung (moved-monitor monitor (parted .parting)) in
+      let joined = queue Chain.Entry thread-limit (parted .table) (monitor .entry) (parted .parting .taken .first) in
+      let after = hand-if-free (joined .table) (move-to-entry monitor Chain.Waiting (parted .parting .left .first) (joined .first)) in
       record { table = set-object (after .table) o (with-monitor object (after .monitor)); unparked = after .unparked }) (represents .object-is o real small)
       ∙ (ap (λ (parting : Parting).
-      finished (hang thread-limit (walked .table) (first Chain.Entry) (parting .taken .first)) (moved-monitor monitor parting)) parted-is
-      ∙ ap (finished hung) moved-recorded)
+      let joined = queue Chain.Entry thread-limit (walked .table) (first Chain.Entry) (parting .taken .first) in
+      finished (joined .table) (move-to-entry monitor Chain.Waiting (parting .left .first) (joined .first))) parted-is
+      ∙ ap (finished joined-table) moved-recorded)
 
   abbrev at-object : Ticked
   at-object = handed-if-free states here result
 
-  freed-is : relink hung at-hand Hand 0 0 ≡ freed
+  freed-is : relink joined-table at-hand Hand 0 0 ≡ freed
   freed-is =
-      let first = thread-at hung handed-first in
-      λ j. carried-out (hang-none thread-limit (set-thread hung handed-first (handed-of first)) 0 j) (plan-hand at-hand first)
+      let first = thread-at joined-table handed-first in
+      let planned = plan-hand at-hand first in
+      ap (λ (q : JoinedChain). carried-out q planned) (queue-none Chain.Entry thread-limit (set-thread joined-table handed-first (handed-of first)) (planned .monitor .entry))
 
-  held-is : relink hung at-hand Stay 0 0 ≡ record { table = hung; monitor = at-hand; unparked = 0 }
+  held-is : relink joined-table at-hand Stay 0 0 ≡ record { table = joined-table; monitor = at-hand; unparked = 0 }
   unfolding set-thread
-  held-is = λ j. record { table = hang-none thread-limit hung 0 j; monitor = at-hand; unparked = 0 }
+  held-is = ap (λ (q : JoinedChain). carried-out q (unlinked (thread-at joined-table 0) at-hand 0)) (queue-none Chain.Entry thread-limit joined-table (at-hand .entry))
 
   abbrev Handed : CarriedOut → Ticked → Type 0
   Handed handed after =
@@ -355,7 +393,7 @@ module _ (threads objects : ℕ) (t : Table) (lists : ListTable) (represents : R
       free : Ticked
       free = record { states = handed-states (result .states) (result .object); object = handed-object (result .object) }
 
-      at : (b : Bool) → Handed (relink hung at-hand (pick b Hand Stay) 0 0) (pick b free result)
+      at : (b : Bool) → Handed (relink joined-table at-hand (pick b Hand Stay) 0 0) (pick b free result)
       at true = subst (λ (handed : CarriedOut). Handed handed free) (sym freed-is) free-represents
       at false = subst (λ (handed : CarriedOut). Handed handed result) (sym held-is) held-represents
 
@@ -367,6 +405,6 @@ module _ (threads objects : ℕ) (t : Table) (lists : ListTable) (represents : R
       queue-in : Inside (result .object .entry)
       queue-in m h = entry-from ((0 < m) × (m ≤ thread-limit)) m h (λ chain. inside chain m)
 
-      at : (b : Bool) → has-thread (relink hung at-hand (pick b Hand Stay) 0 0 .unparked) n ≡ pick b (is-handed (result .object) n) false
+      at : (b : Bool) → has-thread (relink joined-table at-hand (pick b Hand Stay) 0 0 .unparked) n ≡ pick b (is-handed (result .object) n) false
       at true = ap (λ (first : ℕ). has-thread (thread-set first) n) handed-head ∙ hand-names (result .object .entry) queue-in n
       at false = has-none n
