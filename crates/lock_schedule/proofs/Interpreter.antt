@@ -18,6 +18,7 @@ use Rattle.lock_rules.specs.declared.event.Event.the-variants.{Step}
 use Rattle.lock_rules.specs.declared.event.Refusal.the-variants.{ThreadIdle}
 use Rattle.lock_rules.specs.declared.ThreadState.{ThreadState}
 use Rattle.lock_rules.specs.declared.ThreadState.the-variants.{Idle}
+use Rattle.lock_table.proofs.FreshTables.{fresh-rank}
 use Rattle.lock_rules.proofs.Status.{unparked}
 use Rattle.lock_rules.proofs.TableKinds.{TurnOf, step-thread, turn-on}
 use Rattle.lock_rules.proofs.Tables.{ListTable, list-kind, turn, final, fresh}
@@ -162,7 +163,7 @@ module _ (request : FreshRequest) (in-range : InRange request) (events : List Ev
   last = final-of first events
 
   abbrev last-lists : ListTable
-  last-lists = final threads objects (fresh (request .reserved)) events
+  last-lists = final threads objects (fresh (request .reserved) (fresh-rank request)) events
 
   reached : Represents threads objects last last-lists × SoundTable threads objects last-lists
   reached =
@@ -172,8 +173,8 @@ module _ (request : FreshRequest) (in-range : InRange request) (events : List Ev
   enough-inside : 1 ≤ n → n ≤ threads
       → (CanStep last n → queue-of first (λ m. false) events n ≡ true) × (queue-of first (λ m. false) events n ≡ true → CanStep last n ⊎ Unnoticed first events n)
   enough-inside low high =
-      let (lists, represents, sound, kept) = kept-run threads objects (in-range .0) (in-range .2) n low high events first (fresh (request .reserved)) blank
-      (fresh-represents request in-range) (sound-fresh threads objects (request .reserved)) (world-fresh (request .reserved)) (λ m. false) ⊥
+      let (lists, represents, sound, kept) = kept-run threads objects (in-range .0) (in-range .2) n low high events first (fresh (request .reserved) (fresh-rank request)) blank
+      (fresh-represents request in-range) (sound-fresh threads objects (request .reserved) (fresh-rank request)) (world-fresh (request .reserved) (fresh-rank request)) (λ m. false) ⊥
       (record { runs = λ runs. absurd (runs .1); besides = λ queued. false≢true queued; idle = λ left. absurd left; right = λ left. absurd left }) in (
         λ can. kept .runs (runs-so threads objects last lists represents sound n can),
         λ queued. either-way (kept .besides queued) (λ runs. inl (so-runs threads objects last lists represents sound n runs))
@@ -190,8 +191,8 @@ module _ (request : FreshRequest) (in-range : InRange request) (events : List Ev
   enough-outside outside =
       let (represents, sound) = reached in (
         λ can. absurd (rw (outside-idle last-lists sound outside) at (runs-so threads objects last last-lists represents sound n can .1)),
-        outside-run threads objects (in-range .0) (in-range .2) n outside events first (fresh (request .reserved)) (fresh-represents request in-range)
-            (sound-fresh threads objects (request .reserved)) (λ m. false) refl,
+        outside-run threads objects (in-range .0) (in-range .2) n outside events first (fresh (request .reserved) (fresh-rank request)) (fresh-represents request in-range)
+            (sound-fresh threads objects (request .reserved) (fresh-rank request)) (λ m. false) refl,
       )
 
 pub enough-for-interpreter : EnoughForInterpreter

@@ -3,6 +3,7 @@ pub mod EngineKind
 pub mod RepresentedWellTyped
 pub mod Theorem
 pub mod Interpreter
+pub mod InTurn
 pub mod Answers
 pub mod MutualExclusion
 pub mod Steps

@@ -7,6 +7,7 @@ use native.Mathlib.Omega.{arith}
 use lib.Dec.{eqb}
 use Rattle.laws.specs.Choice.{pick}
 use Rattle.laws.proofs.Choice.{by-equal}
+use Rattle.lock_table.proofs.FreshTables.{fresh-rank}
 use Rattle.lock_rules.specs.Events.{Shown}
 use Rattle.lock_rules.specs.Feed.{Plain, feed-all, blank}
 use Rattle.lock_rules.specs.PlainMonitor.{PlainMonitor}
@@ -40,8 +41,8 @@ module _ (request : FreshRequest) (in-range : InRange request) (events : List Ev
       let (represents, sound, same) = schedule-represents request in-range events in
       let shows = from-fresh request in-range events .1 ∙ same in
       subst (λ (list : List Shown). Matches t o (presence-run t o absent list) (feed-all blank list)) (sym shows)
-      (run-matches (request .threads) (request .objects) events (fresh (request .reserved)) blank t o real absent
-      (sound-fresh (request .threads) (request .objects) (request .reserved)) (world-fresh (request .reserved)) (blank-matches t o real)) .holds .entered
+      (run-matches (request .threads) (request .objects) events (fresh (request .reserved) (fresh-rank request)) blank t o real absent
+      (sound-fresh (request .threads) (request .objects) (request .reserved) (fresh-rank request)) (world-fresh (request .reserved) (fresh-rank request)) (blank-matches t o real)) .holds .entered
 
   inside-owns : (t : ℕ) → 1 ≤ t → 0 < times-inside t o shown → plain .monitors o .owner ≡ t
   inside-owns t low inside = owned-one t (plain .monitors o) (omega (arith, entered-is t low, inside))

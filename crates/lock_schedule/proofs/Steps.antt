@@ -12,6 +12,7 @@ use Rattle.lock_rules.specs.declared.Answer.the-variants.{GoneOn, Finished, Par
 use Rattle.lock_rules.specs.declared.ThreadState.the-variants.{Idle, Running, Queued, Contending, Waiting}
 use Rattle.lock_rules.specs.declared.event.Event.{Event}
 use Rattle.lock_rules.specs.declared.event.Event.the-variants.{Step}
+use Rattle.lock_table.proofs.FreshTables.{fresh-rank}
 use Rattle.lock_rules.proofs.{Status.Runs, RunQueue.own-step}
 use Rattle.lock_rules.proofs.TableKinds.{TurnOf, step-thread}
 use Rattle.lock_rules.proofs.Tables.{ListTable, perform-at, list-kind, turn, final, fresh}
@@ -87,13 +88,13 @@ module _ (request : FreshRequest) (in-range : InRange request) (events : List Ev
   first = fresh-of request .table
 
   abbrev lists : ListTable
-  lists = fresh (request .reserved)
+  lists = fresh (request .reserved) (fresh-rank request)
 
   pub from-fresh-lists : {A : Type 0} (unparked : ℕ → A) (own : Event → ℕ → A → A) (kept : A)
       → along unparked own n kept first events ≡ along-lists (request .threads) (request .objects) unparked own n kept lists events
   from-fresh-lists unparked own kept =
       along-same (request .threads) (request .objects) (in-range .0) (in-range .2) unparked own n events kept first lists (fresh-represents request in-range)
-      (sound-fresh (request .threads) (request .objects) (request .reserved))
+      (sound-fresh (request .threads) (request .objects) (request .reserved) (fresh-rank request))
 
   abbrev last : ListTable
   last = final (request .threads) (request .objects) lists events
@@ -102,13 +103,13 @@ module _ (request : FreshRequest) (in-range : InRange request) (events : List Ev
   all-within : steps-taken n first events + left-to last n ≤ most-from (start-of-steps n first events)
   all-within =
       rw (from-fresh-lists (λ after. 0) own-steps 0, from-fresh-lists Unparked own-start NotBegun)
-      (lists-within (request .threads) (request .objects) n events lists blank (world-fresh (request .reserved)) 0 NotBegun (omega arith))
+      (lists-within (request .threads) (request .objects) n events lists blank (world-fresh (request .reserved) (fresh-rank request)) 0 NotBegun (omega arith))
 
   steps-within : StepsWithin first events (final-of first events) n
   steps-within =
       let (reached, sound, same) = schedule-represents request in-range events in
       let represents : Represents (request .threads) (request .objects) (final-of first events) last = rw (from-fresh request in-range events .0) reached in
-      let world = world-run (request .threads) (request .objects) events lists blank (world-fresh (request .reserved)) in
+      let world = world-run (request .threads) (request .objects) events lists blank (world-fresh (request .reserved) (fresh-rank request)) in
       let runs : CanStep (final-of first events) n → Runs (last .threads n .state) =
       runs-so (request .threads) (request .objects) (final-of first events) last represents sound n in
       record {

@@ -6,6 +6,7 @@ use mathlib.Core.Bool.{Bool, true, false}
 use native.Mathlib.Omega.{arith}
 use Rattle.lock_rules.specs.declared.event.Event.{Event}
 use Rattle.lock_table.specs.Fresh.{InRange}
+use Rattle.lock_table.proofs.FreshTables.{sized-ranks}
 use Rattle.lock_table.specs.declared.fresh_table.FreshRequest.{FreshRequest}
 use Rattle.step_bounds.specs.SixSteps.{own-steps}
 use Rattle.step_bounds.specs.Starts.{Start, NotBegun, Begun, Unparked, own-start}
@@ -20,7 +21,7 @@ reached request in-range n events start (from, taken) =
     (from-fresh-lists request in-range events n Unparked own-start NotBegun ∙ from, from-fresh-lists request in-range events n (λ after. 0) own-steps 0 ∙ taken)
 
 sized : (threads : ℕ) (reserved : Bool) → 1 ≤ threads → threads ≤ 3 → InRange (one-object threads reserved)
-sized threads reserved some few = (some, omega (arith, few), omega arith, omega arith)
+sized threads reserved some few = (some, omega (arith, few), omega arith, omega arith, sized-ranks threads 1 reserved)
 
 two : (reserved : Bool) → InRange (one-object 2 reserved)
 two reserved = sized 2 reserved (omega arith) (omega arith)

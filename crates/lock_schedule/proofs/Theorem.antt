@@ -9,6 +9,7 @@ use Rattle.lock_rules.specs.declared.event.Event.{Event}
 use Rattle.lock_rules.specs.declared.event.Event.the-variants.{Step}
 use Rattle.lock_rules.specs.declared.ThreadState.the-variants.{Idle}
 use Rattle.lock_rules.specs.Numbers.{phase-of}
+use Rattle.lock_table.proofs.FreshTables.{fresh-rank}
 use Rattle.lock_rules.proofs.Status.{unfinished}
 use Rattle.lock_rules.specs.Events.{Shown}
 use Rattle.lock_rules.specs.Feed.{Plain, feed, feed-all, blank}
@@ -96,8 +97,8 @@ module _ (request : FreshRequest) (in-range : InRange request) (events : List Ev
       (final-of table events ≡ final-on record-kind (request .threads) (request .objects) table events)
       × (shown-of table events ≡ shown-on record-kind (request .threads) (request .objects) table events)
   from-fresh =
-      schedule-same (request .threads) (request .objects) (in-range .0) (in-range .2) events (fresh-of request .table) (fresh (request .reserved))
-      (fresh-represents request in-range) (sound-fresh (request .threads) (request .objects) (request .reserved))
+      schedule-same (request .threads) (request .objects) (in-range .0) (in-range .2) events (fresh-of request .table) (fresh (request .reserved) (fresh-rank request))
+      (fresh-represents request in-range) (sound-fresh (request .threads) (request .objects) (request .reserved) (fresh-rank request))
 
   pub reached-sound : sound-of (final-of (fresh-of request .table) events) ≡ true
   reached-sound =
@@ -114,8 +115,8 @@ demand-three request in-range events =
     let (last, shown) = from-fresh request in-range events in (
       subst₂ (λ (x : Table) (y : List Shown). Agrees x (feed-all blank y)) (sym last) (sym shown) (schedule-agrees request in-range events),
       subst Ruled (sym shown) (schedule-ruled request in-range events),
-      others-end (request .threads) (request .objects) (in-range .0) (in-range .2) events (fresh-of request .table) (fresh (request .reserved)) blank
-          (fresh-represents request in-range) (sound-fresh (request .threads) (request .objects) (request .reserved)) (world-fresh (request .reserved)),
+      others-end (request .threads) (request .objects) (in-range .0) (in-range .2) events (fresh-of request .table) (fresh (request .reserved) (fresh-rank request)) blank
+          (fresh-represents request in-range) (sound-fresh (request .threads) (request .objects) (request .reserved) (fresh-rank request)) (world-fresh (request .reserved) (fresh-rank request)),
     )
 
 -- a thread parked inside an exit waits for a holder that is at work on that object
@@ -124,7 +125,7 @@ exits-wait-for-busy-holder request in-range events =
     let (represents, sound, same) = schedule-represents request in-range events in
     subst (λ (table : Table). (n : ℕ) → ParkedInExit table n → WaitsForBusyHolder table n) (sym (from-fresh request in-range events .0))
     (represents-waits (request .threads) (request .objects) _ _ represents sound _
-    (world-run (request .threads) (request .objects) events (fresh (request .reserved)) blank (world-fresh (request .reserved))))
+    (world-run (request .threads) (request .objects) events (fresh (request .reserved) (fresh-rank request)) blank (world-fresh (request .reserved) (fresh-rank request))))
 
 -- which is more than was asked
 pub exits-wait-for-holder : ExitsWaitForHolder
@@ -136,8 +137,8 @@ free-numbers-as-new request in-range events =
     let (represents, sound, same) = schedule-represents request in-range events in
     subst (λ (table : Table). (o : ℕ) → FreeNumber table o → AsNew table o) (sym (from-fresh request in-range events .0))
     (represents-as-new (request .threads) (request .objects) _ _ represents sound _
-    (world-run (request .threads) (request .objects) events (fresh (request .reserved)) blank (world-fresh (request .reserved)))
-    (schedule-attended (request .threads) (request .objects) (request .reserved) events))
+    (world-run (request .threads) (request .objects) events (fresh (request .reserved) (fresh-rank request)) blank (world-fresh (request .reserved) (fresh-rank request)))
+    (schedule-attended (request .threads) (request .objects) (request .reserved) (fresh-rank request) events))
 
 -- what an event makes of a sound table represents sound lists again
 pub event-represents : (t : Table) → WellTyped t → sound-of t ≡ true → (event : Event)

@@ -2,6 +2,7 @@
 pub mod Schedule
 pub mod Demand
 pub mod Interpreter
+pub mod InTurn
 pub mod Answers
 pub mod MutualExclusion
 pub mod StepsByStart

@@ -6,17 +6,17 @@ use Rattle.lock_table.specs.Fresh.{InRange, fresh-of}
 use Rattle.lock_table.specs.declared.fresh_table.FreshRequest.{FreshRequest}
 use Rattle.lock_table.specs.declared.record.Table.{Table}
 use Rattle.lock_table.specs.declared.fresh_table.FreshAnswer.{FreshAnswer}
-use Rattle.lock_table.specs.declared.fresh_table.FreshAnswer.the-variants.{Made, SizeOutOfRange}
+use Rattle.lock_table.specs.declared.fresh_table.FreshAnswer.the-variants.{Made, Refused}
 use Rattle.step_bounds.specs.SixSteps.{steps-taken, step-limit}
 use Rattle.lock_schedule.specs.Schedule.{final-of}
 use Rattle.lock_schedule.specs.Demand.{Claim}
 use Rattle.lock_schedule.specs.StepsByStart.{StepsWithin}
 use Rattle.lock_schedule.specs.declared.running.RunResult.{RunResult}
 
--- 22: with no table made there is nothing to run the schedule on
+-- refused: with no table made there is nothing to run the schedule on
 unfoldable pub run-fresh : FreshAnswer → Table → List Event → RunResult
 run-fresh Made table events = record { answer = Made; table = final-of table events }
-run-fresh SizeOutOfRange table events = record { answer = SizeOutOfRange; table = table }
+run-fresh (Refused refusal) table events = record { answer = Refused refusal; table = table }
 
 abbrev pub run-of : FreshRequest → List Event → RunResult
 run-of request events =

@@ -55,8 +55,8 @@ fn run_fresh(answer: FreshAnswer, table: Table, events: &[u8]) -> RunResult
             answer: FreshAnswer::Made,
             table: run_events(table, events),
         },
-        FreshAnswer::SizeOutOfRange => RunResult {
-            answer: FreshAnswer::SizeOutOfRange,
+        FreshAnswer::Refused(refusal) => RunResult {
+            answer: FreshAnswer::Refused(refusal),
             table: table,
         },
     }

@@ -9,4 +9,4 @@ unfolding run-fresh
 run-fresh-spec =
     tie.close
     (tie.spec (λ c. search needs) (λ c κs. tt) (λ c. search needs) (λ c. simp (c .run-events .ensures, c .before .enum-told .given .1))
-    (λ c. simp (c .enum-told2 .given .1)))
+    (λ c. simp (c .before .answer .given .1)))
