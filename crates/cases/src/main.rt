@@ -34,7 +34,7 @@ fn write_run(answer: FreshAnswer, table: Table) {
             write_word(table, 1);
             write_word(table, 2);
         }
-        FreshAnswer::SizeOutOfRange => {}
+        FreshAnswer::Refused(_) => {}
     }
     io::write_all(STDOUT_FILENO, b"\n");
 }

@@ -8,7 +8,7 @@ use Rattle.lock_word.specs.Cases.{Case, AllHold, word-cases}
 use Rattle.lock_word.proofs.Cases.{word-cases-hold}
 use Rattle.lock_rules.specs.Rules.{decide, enter-look, exit-owned, go-in, go-in-again}
 use Rattle.lock_table.specs.Access.{thread-at, set-thread, object-at, set-object}
-use Rattle.lock_table.specs.Fresh.{fresh-object, fresh-of, fresh-returned, first-word}
+use Rattle.lock_table.specs.Fresh.{thread-given, object-given, in-range, ranks-fit, fresh-answer, met-request, fresh-of, refusal-returned, fresh-returned, first-word}
 use Rattle.lock_table.specs.Operation.{operation-number}
 use Rattle.lock_table.specs.Phase.{phase-number, carried-number}
 use Rattle.lock_table.specs.Parked.{chain-named, first-in}
@@ -16,7 +16,7 @@ use Rattle.lock_perform.specs.State.{state-by, look-of, go-in-of, write-activit
 use Rattle.lock_word.specs.Meaning.{seen-word}
 use Rattle.lock_perform.specs.Perform.{word-after, stays}
 use Rattle.lock_soundness.specs.Sound.{sizes-fit, word-fits, uses-phase, carries-phase, operation-fits, kept-fits, saves-depth, saved-fits}
-use Rattle.lock_soundness.specs.Sound.{unheld-fits, ticks-fit, found-in, names-chain, unused-fits, empty-thread, empty-monitor, empty-object, sound-of}
+use Rattle.lock_soundness.specs.Sound.{unheld-fits, ticks-fit, found-in, names-chain, falls-behind, unused-fits, empty-thread, empty-monitor, empty-object, sound-of}
 use Rattle.lock_engine.specs.Outcome.{reply-returned}
 use Rattle.lock_engine.specs.Turn.{action-turn, word-turn, state-turn, step-turn, open-turn, gate-turn}
 use Rattle.lock_gate.specs.Status.{thread-status}
@@ -30,9 +30,9 @@ both-hold (row ∷ rows) more p q = (p .0, both-hold rows more (p .1) q)
 
 engine-cases-hold : AllHold engine-cases
 unfolding all-up-to members chain-test read-word read-flat read-reserved fat-of decide enter-look exit-owned go-in go-in-again thread-at set-thread object-at
-    set-object fresh-of fresh-object tabulate fresh-returned first-word operation-number phase-number carried-number state-by look-of go-in-of write-activity doing-activity seen-word
+    set-object thread-given object-given in-range ranks-fit fresh-answer met-request fresh-of tabulate refusal-returned fresh-returned first-word operation-number phase-number carried-number state-by look-of go-in-of write-activity doing-activity seen-word
     word-after sizes-fit word-fits uses-phase carries-phase operation-fits kept-fits saves-depth saved-fits unheld-fits ticks-fit chain-named first-in found-in
-    names-chain empty-thread empty-monitor empty-object unused-fits sound-of reply-returned thread-status action-turn word-turn state-turn step-turn open-turn gate-turn
+    names-chain falls-behind empty-thread empty-monitor empty-object unused-fits sound-of reply-returned thread-status action-turn word-turn state-turn step-turn open-turn gate-turn
     handle-trusting handle stays work-stays
 engine-cases-hold = (
   (refl, refl, refl, refl),

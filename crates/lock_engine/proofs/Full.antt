@@ -6,16 +6,20 @@ use lib.Dec.{eqb}
 use lib.ListN.{length}
 use Rattle.laws.specs.Choice.{pick, within}
 use Rattle.laws.proofs.Choice.{by-test}
+use Rattle.chains.specs.declared.named.Chain.{Chain}
 use Rattle.lock_rules.specs.Gate.{event-thread, event-object}
 use Rattle.lock_rules.specs.declared.event.Event.{Event}
 use Rattle.lock_rules.specs.declared.ChainWork.{ChainWork}
 use Rattle.lock_table.specs.Limits.{thread-limit, object-limit}
 use Rattle.lock_table.specs.Access.{thread-at, set-thread, object-at, set-object, next-of}
-use Rattle.lock_table.specs.Chain.{hang, moved, move-all}
+use Rattle.lock_table.specs.Chain.{moved, move-all}
 use Rattle.lock_table.specs.declared.record.{ThreadRecord.ThreadRecord, ObjectRecord.ObjectRecord, Monitor.Monitor, Table.Table}
 use Rattle.lock_table.proofs.Records.{thread-beside, object-beside}
 use Rattle.lock_perform.specs.Moving.{CarriedOut, relink, moved-whole, after-whole, queued-exit, let-out, let-outs, lets-out, carry-out}
-use Rattle.lock_perform.specs.Parting.{PartedChain, no-parting, part-chain}
+use Rattle.lock_perform.specs.Queueing.{queue}
+use Rattle.lock_perform.specs.declared.queueing.JoinedChain.{JoinedChain}
+use Rattle.lock_perform.specs.Parting.{no-parting, part-chain}
+use Rattle.lock_perform.specs.declared.parting.PartedChain.{PartedChain}
 use Rattle.lock_perform.specs.declared.parting.Parting.{Parting}
 use Rattle.lock_soundness.specs.Sound.{sound-of}
 use Rattle.lock_work.specs.Waiters.{waiter-goes, waiter-ticked}
@@ -42,13 +46,13 @@ full-object {table} number object full =
     let beside = object-beside table number object in
     record { threads = ap length (beside .threads) ∙ full .threads; objects = beside .length-kept ∙ full .objects }
 
--- chains hung behind each other, and moved whole
-full-hang : (fuel : ℕ) (table : Table) (front back : ℕ) → Full table → Full (hang fuel table front back)
-unfolding hang
-full-hang zero table front back full = full
-full-hang (suc fuel) table front back full =
-    by-test Full (eqb front 0) (λ none. full)
-    (λ some. by-test Full (eqb (next-of table front) 0) (λ last. full-thread _ _ full) (λ more. full-hang fuel table (next-of table front) back full))
+-- threads join a chain, and chains move whole
+full-queue : (into : Chain) (fuel : ℕ) (table : Table) (first at : ℕ) → Full table → Full (queue into fuel table first at .table)
+unfolding queue
+full-queue into zero table first at full = full
+full-queue into (suc fuel) table first at full =
+    by-test (λ (joined : JoinedChain). Full (joined .table)) (within 1 thread-limit at)
+    (λ inside. full-queue into fuel _ _ _ (full-thread _ _ (full-thread _ _ full))) (λ outside. full)
 
 full-move : (fuel : ℕ) (table : Table) (first : ℕ) → Full table → Full (move-all fuel table first)
 unfolding move-all
@@ -58,7 +62,7 @@ full-move (suc fuel) table first full =
     (λ some. full-move fuel (set-thread table first (moved (thread-at table first))) (next-of table first) (full-thread _ _ full))
 
 full-relink : {table : Table} (monitor : Monitor) (work : ChainWork) (thread number : ℕ) → Full table → Full (relink table monitor work thread number .table)
-full-relink monitor work thread number full = full-hang thread-limit _ _ _ (full-thread _ _ full)
+full-relink monitor work thread number full = full-queue _ thread-limit _ _ _ (full-thread _ _ full)
 
 -- a chain parted
 full-parted : (goes : ThreadRecord → Bool) (after : ThreadRecord → Bool → ThreadRecord) (together : Bool) (fuel : ℕ) (table : Table) (parting : Parting) (at : ℕ)
@@ -88,7 +92,7 @@ full-carried table monitor work thread number full =
     at true after carried out whole = out
     at false after carried out whole = whole
 
--- a tick: the waiters of each object parted, those that ran out hung behind the entry chain, and the monitor handed
+-- a tick: the waiters of each object parted, those that ran out put in the entry chain, and the monitor handed
 full-handed : (table : Table) (monitor : Monitor) → Full table → Full (hand-if-free table monitor .table)
 unfolding hand-if-free
 full-handed table monitor full = full-relink monitor (handing monitor) 0 0 full
@@ -97,7 +101,7 @@ full-object-ticked : (table : Table) (number : ℕ) → Full table → Full (tic
 unfolding tick-object
 full-object-ticked table number full =
     by-test (λ (done : WorkDone). Full (done .table)) (eqb (object-at table number .monitor .waiting) 0) (λ none. full)
-    (λ some. full-object _ _ (full-handed _ _ (full-hang thread-limit _ _ _ (full-parted waiter-goes waiter-ticked true thread-limit table no-parting _ full))))
+    (λ some. full-object _ _ (full-handed _ _ (full-queue Chain.Entry thread-limit _ _ _ (full-parted waiter-goes waiter-ticked true thread-limit table no-parting _ full))))
 
 full-ticked-to : (number : ℕ) (table : Table) → Full table → Full (tick-to number table .table)
 unfolding tick-to

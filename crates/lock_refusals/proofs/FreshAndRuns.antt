@@ -1,42 +1,41 @@
 -- Demand 1 of a fresh table and of a run of the dispatcher: refused with the first refusal that applies, and then nothing is made or changed.
-use Prim.Native.Nat.{ℕ, _≤_}
+use Prim.Native.Nat.{_≤_}
 use mathlib.Core.Path.{_≡_, refl}
 use mathlib.Core.Logic.{inl, inr}
 use mathlib.Core.Bool.{Bool, true, false, not}
-use mathlib.Core.List.{List, [], _∷_}
+use mathlib.Core.List.{[], _∷_}
 use native.Mathlib.Omega.{arith}
 use Rattle.laws.specs.Choice.{pick, both, either, within}
 use Rattle.lock_rules.specs.Numbers.{first-refusal, refusal-number}
 use Rattle.lock_table.specs.Limits.{thread-limit, object-limit}
-use Rattle.lock_table.specs.Fresh.{table-of, refused-of, fresh-returned}
-use Rattle.lock_table.specs.MetRequest.{in-range, met-request, met-answer}
-use Rattle.lock_table.specs.declared.fresh_table.{FreshRequest.FreshRequest, FreshTable.FreshTable}
-use Rattle.lock_table.specs.declared.record.Table.{Table}
-use Rattle.lock_table.proofs.FreshTables.{fresh-met}
+use Rattle.lock_table.specs.Fresh.{table-of, refused-of, in-range, ranks-fit, fresh-answer, met-request, fresh-of, refusal-returned, fresh-returned}
+use Rattle.lock_table.specs.declared.fresh_table.{FreshRequest.FreshRequest, FreshRefusal.FreshRefusal, FreshAnswer.FreshAnswer, FreshTable.FreshTable}
+use Rattle.lock_table.specs.declared.fresh_table.FreshRefusal.the-variants.{SizeOutOfRange, RankOutOfRange}
+use Rattle.lock_table.specs.declared.fresh_table.FreshAnswer.the-variants.{Made, Refused}
 use Rattle.lock_soundness.specs.Sound.{sound-of}
 use Rattle.round_robin.specs.Dispatch.{still}
 use Rattle.dispatch_rules.specs.Dispatch.{quantum-limit, scripts-known, first-answer, dispatch-returned, run-answered}
-use Rattle.dispatch_rules.specs.Claims.{RunInput, given-world}
+use Rattle.dispatch_rules.specs.Claims.{given-world}
 use Rattle.lock_refusals.specs.Rows.{row, RefusedByFirst}
-use Rattle.lock_refusals.specs.Refusals.{fresh-refusals}
 use Rattle.lock_refusals.specs.Demand.{FreshDemand, DispatchDemand}
 use Rattle.lock_refusals.proofs.Rows.{refused-by-first}
 
--- what a request comes to, by whether T and N are in range
-fresh-by : (request : FreshRequest) (threads objects : Bool)
-    → let met = both threads objects in
-    let number = fresh-returned (met-answer met) in
-    RefusedByFirst (row 22 (either (not threads) (not objects)) ∷ []) number
-    × (first-refusal ≤ number → _≡_ {A = FreshTable} (record { answer = met-answer met; table = table-of (met-request met request) }) refused-of)
-unfolding fresh-returned met-answer met-request
-fresh-by request true true = (refused-by-first _ 0 (inl (omega arith)) refl refl, λ high. absurd (omega (arith, high)))
-fresh-by request true false = (refused-by-first _ 22 (inr (omega arith)) refl refl, λ high. refl)
-fresh-by request false objects = (refused-by-first _ 22 (inr (omega arith)) refl refl, λ high. refl)
+-- what a request comes to, by whether T and N are in range and the ranks fit
+fresh-by : (request : FreshRequest) (threads objects ranks : Bool)
+    → let answer : FreshAnswer = pick (not (both threads objects)) (Refused SizeOutOfRange) (pick (not ranks) (Refused RankOutOfRange) Made) in
+    let number = fresh-returned answer in
+    RefusedByFirst (row 22 (either (not threads) (not objects)) ∷ row 27 (not ranks) ∷ []) number
+    × (first-refusal ≤ number → (refusal : FreshRefusal) × _≡_ {A = FreshTable} (record { answer = answer; table = table-of (met-request answer request) }) (refused-of refusal))
+unfolding fresh-returned refusal-returned met-request
+fresh-by request true true true = (refused-by-first _ 0 (inl (omega arith)) refl refl, λ high. absurd (omega (arith, high)))
+fresh-by request true true false = (refused-by-first _ 27 (inr (omega arith)) refl refl, λ high. (RankOutOfRange, refl))
+fresh-by request true false ranks = (refused-by-first _ 22 (inr (omega arith)) refl refl, λ high. (SizeOutOfRange, refl))
+fresh-by request false objects ranks = (refused-by-first _ 22 (inr (omega arith)) refl refl, λ high. (SizeOutOfRange, refl))
 
 pub fresh-demand : FreshDemand
-unfolding in-range
+unfolding fresh-of fresh-answer in-range
 fresh-demand request =
-    rw (fresh-met request) (fresh-by request (within 1 thread-limit (request .threads)) (within 1 object-limit (request .objects)))
+    fresh-by request (within 1 thread-limit (request .threads)) (within 1 object-limit (request .objects)) (ranks-fit request)
 
 pub dispatch-demand : DispatchDemand
 unfolding dispatch-returned run-answered refusal-number

@@ -9,7 +9,7 @@ use Rattle.lock_rules.specs.Numbers.{first-refusal}
 use Rattle.lock_table.specs.Record.{idle}
 use Rattle.lock_table.specs.Access.{thread-at, set-thread}
 use Rattle.lock_table.specs.Fresh.{fresh-of, fresh-returned, refused-of}
-use Rattle.lock_table.specs.declared.fresh_table.FreshRequest.{FreshRequest}
+use Rattle.lock_table.specs.declared.fresh_table.{FreshRequest.FreshRequest, FreshRefusal.FreshRefusal}
 use Rattle.lock_table.specs.declared.record.Table.{Table}
 use Rattle.lock_engine.specs.Outcome.{reply-returned}
 use Rattle.lock_engine.specs.declared.outcome.Outcome.{Outcome}
@@ -45,7 +45,7 @@ FreshDemand =
     (request : FreshRequest)
     → let made = fresh-of request in
     let number = fresh-returned (made .answer) in
-    RefusedByFirst (fresh-refusals request) number × (first-refusal ≤ number → made ≡ refused-of)
+    RefusedByFirst (fresh-refusals request) number × (first-refusal ≤ number → (refusal : FreshRefusal) × (made ≡ refused-of refusal))
 
 -- every run of the dispatcher: refused, "with table and slice unchanged", and no step taken
 abbrev pub DispatchDemand : Type 0

@@ -23,6 +23,7 @@ use Rattle.lock_table.specs.Limits.{thread-limit, object-limit}
 use Rattle.lock_table.specs.Operation.{operation-number}
 use Rattle.lock_table.specs.Access.{thread-at, object-at, phase-number-at}
 use Rattle.lock_table.specs.Ownership.{ownership-at}
+use Rattle.lock_table.specs.Fresh.{ranks-fit}
 use Rattle.lock_table.specs.declared.fresh_table.FreshRequest.{FreshRequest}
 use Rattle.lock_table.specs.declared.record.Monitor.{Monitor}
 use Rattle.lock_table.specs.declared.record.ObjectRecord.{ObjectRecord}
@@ -108,10 +109,12 @@ refusals table (Begin operation thread object limit) = begin-refusals table oper
 refusals table (Step thread) = step-refusals table thread
 refusals table Tick = tick-refusals table
 
--- "fresh table: T or N out of range"
+-- "fresh table: T or N out of range"; "27 when a rank is above 3, after 22" (document 02, L8), of the threads up to T
 abbrev pub fresh-refusals : FreshRequest → List Row
 fresh-refusals request =
-    row 22 (either (not (within 1 thread-limit (request .threads))) (not (within 1 object-limit (request .objects)))) ∷ []
+    row 22 (either (not (within 1 thread-limit (request .threads))) (not (within 1 object-limit (request .objects))))
+    ∷ row 27 (not (ranks-fit request))
+    ∷ []
 
 -- a run of the dispatcher: "11, then 25 when q is not 1 to 100, then 26 when the slice has not T records, .." (document 02, L6); which scripts are known is
 -- said in dispatch_rules, as what is sound in lock_soundness

@@ -8,7 +8,7 @@ use Rattle.lock_table.specs.Phase.{phase-number}
 use Rattle.lock_table.specs.Fresh.{sized-request, fresh-of, fresh-returned}
 use Rattle.lock_table.specs.declared.record.Table.{Table}
 use Rattle.lock_table.specs.declared.fresh_table.FreshAnswer.{FreshAnswer}
-use Rattle.lock_table.specs.declared.fresh_table.FreshAnswer.the-variants.{Made, SizeOutOfRange}
+use Rattle.lock_table.specs.declared.fresh_table.FreshAnswer.the-variants.{Made, Refused}
 use Rattle.lock_rules.specs.Numbers.{first-refusal}
 use Rattle.lock_engine.specs.Outcome.{reply-returned, reply-woken}
 use Rattle.lock_engine.specs.Handle.{begin, step, tick-event}
@@ -40,7 +40,7 @@ staying stage table answer = record { session = record { stage = stage; table = 
 -- a good header prints nothing; one with bad sizes the fresh table's number, 22, and ends the run
 unfoldable pub opened-by : FreshAnswer → Table → Reaction
 opened-by Made table = staying Running table Silent
-opened-by SizeOutOfRange table = staying Over table (Alone (fresh-returned SizeOutOfRange))
+opened-by (Refused refusal) table = staying Over table (Alone (fresh-returned (Refused refusal)))
 
 unfoldable pub open-by : Table → Line → Reaction
 open-by table (Header threads objects reserved) = let made = fresh-of (sized-request threads objects reserved) in opened-by (made .answer) (made .table)

@@ -53,7 +53,7 @@ fn opened(answer: FreshAnswer, table: Table) -> Reaction
 {
     match answer {
         FreshAnswer::Made => stay(Stage::Running, table, Answer::Silent),
-        FreshAnswer::SizeOutOfRange => stay(
+        FreshAnswer::Refused(_) => stay(
             Stage::Over,
             table,
             Answer::Alone {

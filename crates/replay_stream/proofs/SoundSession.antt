@@ -10,7 +10,7 @@ use Rattle.lock_table.specs.{Access.thread-at, WellTyped.WellTyped, Narrow.narr
 use Rattle.lock_table.specs.Fresh.{sized-request, refused-of, InRange, fresh-of}
 use Rattle.lock_table.proofs.FreshTables.{fresh-made, fresh-either}
 use Rattle.lock_table.specs.declared.record.Table.{Table}
-use Rattle.lock_table.specs.declared.fresh_table.{FreshRequest.FreshRequest, FreshTable.FreshTable}
+use Rattle.lock_table.specs.declared.fresh_table.{FreshRequest.FreshRequest, FreshRefusal.FreshRefusal, FreshTable.FreshTable}
 use Rattle.lock_soundness.specs.Sound.{sound-of}
 use Rattle.lock_rules.specs.Gate.{gate, event-thread}
 use Rattle.lock_rules.specs.declared.event.Refusal.the-variants.{NotSound}
@@ -93,11 +93,11 @@ opens : (request : FreshRequest) → Opens (fresh-of request)
 unfolding opened-by sound-by
 opens request = at (fresh-either request)
   where
-    at : InRange request ⊎ (fresh-of request ≡ refused-of) → Opens (fresh-of request)
+    at : InRange request ⊎ ((refusal : FreshRefusal) × (fresh-of request ≡ refused-of refusal)) → Opens (fresh-of request)
     at (inl in-range) =
         let made = fresh-made request in-range in
         rw made (rw made at (reached-sound request in-range []), rw made at (reached-well-typed request in-range []))
-    at (inr refused) = rw refused (refl, tt)
+    at (inr (refusal, refused)) = rw refused (refl, tt)
 
 open-kept : (table : Table) (line : Line) → let session = open-by table line .session in (session-sound session ≡ true) × WellTypedBy (session .stage) (session .table)
 unfolding open-by sound-by

@@ -1,7 +1,7 @@
 -- The objects of the session that a header opens are those that it asks for, if it is good, and none if not.
 use Prim.Native.Nat.{ℕ, _≤_}
-use mathlib.Core.Path.{_≡_, refl, sym, ap, _∙_}
-use mathlib.Core.Bool.{Bool, true, false}
+use mathlib.Core.Path.{_≡_, refl, sym, _∙_}
+use mathlib.Core.Bool.{true, false}
 use mathlib.Core.List.{List}
 use native.Mathlib.Omega.{arith}
 use borrow.Author.Tests.{leb-true}
@@ -9,10 +9,9 @@ use lib.Dec.{leb}
 use Rattle.laws.specs.Choice.{pick, both, within}
 use Rattle.laws.proofs.Choice.{split, both-second, false≢true}
 use Rattle.lock_table.specs.Limits.{thread-limit, object-limit}
-use Rattle.lock_table.specs.Fresh.{sized-request, table-of, fresh-of}
-use Rattle.lock_table.specs.MetRequest.{in-range, met-request, met-answer}
-use Rattle.lock_table.specs.declared.fresh_table.{FreshRequest.FreshRequest, FreshTable.FreshTable}
-use Rattle.lock_table.proofs.FreshTables.{fresh-met}
+use Rattle.lock_table.specs.Fresh.{sized-request, in-range, ranks-fit, fresh-answer, met-request, fresh-of}
+use Rattle.lock_table.specs.declared.fresh_table.FreshRequest.{FreshRequest}
+use Rattle.lock_table.proofs.FreshTables.{sized-ranks-fit}
 use Rattle.replay_lines.specs.Bytes.{letter-L}
 use Rattle.replay_lines.specs.Grammar.{is-header, read-line}
 use Rattle.replay_lines.specs.LineText.{begins-with}
@@ -22,18 +21,17 @@ use Rattle.replay_lines.proofs.Headers.{header-begins}
 use Rattle.replay_session.specs.Session.{no-table, fresh-session, opened-by, open-by, react-at-stage, react-of}
 use Rattle.report_counts.specs.Enters.{good-objects, opened-objects}
 
-made-objects : (request : FreshRequest) (test : Bool)
-    → opened-by (met-answer test) (table-of (met-request test request)) .session .table .objectcount ≡ pick test (request .objects) 0
-unfolding opened-by met-answer met-request
-made-objects request true = refl
-made-objects request false = refl
+made-objects : (request : FreshRequest) → ranks-fit request ≡ true
+    → opened-by (fresh-of request .answer) (fresh-of request .table) .session .table .objectcount
+    ≡ pick (both (within 1 thread-limit (request .threads)) (within 1 object-limit (request .objects))) (request .objects) 0
+unfolding opened-by fresh-of fresh-answer met-request in-range
+made-objects request ranked =
+    split (both (within 1 thread-limit (request .threads)) (within 1 object-limit (request .objects))) (λ sized. rw (sized, ranked) refl) (λ outside. rw outside refl)
 
 header-objects : (line : Line) → is-header line ≡ true → open-by no-table line .session .table .objectcount ≡ good-objects line
-unfolding open-by is-header good-objects in-range fresh-of
+unfolding open-by is-header good-objects fresh-of fresh-answer met-request in-range
 header-objects (Header threads objects reserved) is =
-    let request = sized-request threads objects reserved in
-    ap (λ (made : FreshTable). opened-by (made .answer) (made .table) .session .table .objectcount) (fresh-met request)
-    ∙ made-objects request (in-range request)
+    made-objects (sized-request threads objects reserved) (sized-ranks-fit threads objects reserved)
 header-objects (Begin operation thread object limit) other = false≢true other
 header-objects (Step thread) other = false≢true other
 header-objects Tick other = false≢true other

@@ -8,7 +8,7 @@ use lib.Dec.{eqb}
 use lib.ListN.{length-replicate, getD-replicate}
 use Rattle.laws.specs.Choice.{both}
 use Rattle.lock_table.specs.Limits.{object-limit}
-use Rattle.lock_table.specs.Fresh.{fresh-of}
+use Rattle.lock_table.specs.Fresh.{in-range, fresh-answer, met-request, fresh-of}
 use Rattle.replay_lines.specs.Cutting.{lines-of}
 use Rattle.replay_text.specs.Row.{figures-sum}
 use Rattle.replay_text.specs.declared.row.Figures.{Figures}
@@ -32,7 +32,7 @@ unfolding figure-of
 no-figure = each-way (λ way. figure-of way no-figures ≡ 0) (refl, refl, refl, refl, refl, refl)
 
 no-schedule-fine : (limit : ℕ) → Fine limit no-schedule
-unfolding sound-by fresh-of
+unfolding sound-by fresh-of fresh-answer met-request in-range
 no-schedule-fine limit = record { sound = refl; typed = tt; known = omega arith }
 
 module _ (input : List ℕ) (room : lines-counted (lines-of input) ≤ most-lines) where

@@ -17,7 +17,7 @@ use Rattle.table_bytes.specs.Rows.{Field, field, Numbers}
 
 -- how often this layout has changed; whoever changes a byte of a thread's record adds one
 abbrev pub thread-revision : ℕ
-thread-revision = 1
+thread-revision = 2
 
 abbrev pub thread-layout : List (Field ThreadRecord)
 thread-layout =
@@ -29,6 +29,7 @@ thread-layout =
     ∷ field (λ thread. thread .saved) 2
     ∷ field (λ thread. thread .next) 1
     ∷ field (λ thread. thread .ticks) 2
+    ∷ field (λ thread. thread .rank) 1
     ∷ []
 
 -- the phase that a queued thread carries, by its number; a number of none of them is not met where the bytes are a table
@@ -55,12 +56,13 @@ phase-from phase carried =
 
 -- the record that the numbers of its fields say, in the order of its layout
 abbrev pub thread-of : Numbers thread-layout → ThreadRecord
-thread-of (operation, (object, (phase, (carried, (kept, (saved, (next, (ticks, end)))))))) = record {
+thread-of (operation, (object, (phase, (carried, (kept, (saved, (next, (ticks, (rank, end))))))))) = record {
   kept = kept;
   saved = saved;
   ticks = ticks;
   object = object;
   next = next;
+  rank = rank;
   operation = operation-from operation;
   phase = phase-from phase carried;
 }

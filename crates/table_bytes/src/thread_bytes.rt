@@ -19,7 +19,7 @@ ghost use Rattle.table_bytes.specs.Layout.{thread-size, thread-bytes};
 ghost use Rattle.table_bytes.specs.Reading.{byte-at};
 
 // How often this layout has changed.
-pub(crate) const THREAD_REVISION: u32 = 1;
+pub(crate) const THREAD_REVISION: u32 = 2;
 
 // Offsets: each field begins where the one before it ends.
 const OPERATION_AT: usize = 0;
@@ -38,7 +38,9 @@ const NEXT_AT: usize = SAVED_AT + 2;
 
 const TICKS_AT: usize = NEXT_AT + 1;
 
-pub(crate) const THREAD_SIZE: usize = TICKS_AT + 2;
+const RANK_AT: usize = TICKS_AT + 2;
+
+pub(crate) const THREAD_SIZE: usize = RANK_AT + 1;
 
 const LAST_OPERATION: u8 = 6;
 
@@ -133,6 +135,7 @@ pub(crate) fn thread_of(stored: &[u8]) -> ThreadRecord
         ticks: half_of(stored[TICKS_AT], stored[TICKS_AT + 1]),
         object: stored[OBJECT_AT],
         next: stored[NEXT_AT],
+        rank: stored[RANK_AT],
         operation: operation_from(stored[OPERATION_AT]),
         phase: phase_from(stored[PHASE_AT], stored[CARRIED_AT]),
     }
@@ -180,5 +183,6 @@ pub(crate) fn thread_bytes(thread: ThreadRecord) -> [u8; THREAD_SIZE]
         thread.next,
         ticks[0],
         ticks[1],
+        thread.rank,
     ]
 }

@@ -24,7 +24,7 @@ use Rattle.table_bytes.specs.Reading.{is-table, table-of}
 use Rattle.table_bytes.specs.ObjectBytes.{flag-byte}
 use Rattle.table_questions.specs.declared.asking.ThreadQuestion.{ThreadQuestion}
 use Rattle.table_questions.specs.declared.asking.ThreadQuestion.the-variants.{OperationOf, ObjectOf, PhaseOf, OnwardOf, KeptOf, SavedOf}
-use Rattle.table_questions.specs.declared.asking.ThreadQuestion.the-variants.{TicksOf, NextOf, BlockerOf}
+use Rattle.table_questions.specs.declared.asking.ThreadQuestion.the-variants.{TicksOf, NextOf, RankOf, BlockerOf}
 use Rattle.table_questions.specs.declared.asking.ObjectQuestion.{ObjectQuestion}
 use Rattle.table_questions.specs.declared.asking.ObjectQuestion.the-variants.{WordOf, OwnerOf, DepthOf, FlagOf, HolderOf, MonitorDepthOf}
 use Rattle.table_questions.specs.declared.asking.ObjectQuestion.the-variants.{EntryOf, ContentionOf, WaitingOf, KindOf, NamedOf}
@@ -73,6 +73,7 @@ thread-value KeptOf number thread owner holder = thread .kept
 thread-value SavedOf number thread owner holder = thread .saved
 thread-value TicksOf number thread owner holder = thread .ticks
 thread-value NextOf number thread owner holder = thread .next
+thread-value RankOf number thread owner holder = thread .rank
 thread-value BlockerOf number thread owner holder =
     blocker-of (operation-number (thread .operation)) (phase-number (thread .phase)) number owner holder
 

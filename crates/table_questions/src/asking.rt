@@ -38,6 +38,8 @@ pub enum ThreadQuestion {
     // the ticks that a timed wait has left
     TicksOf,
     NextOf,
+    // given with the fresh table (document 02, L8)
+    RankOf,
     BlockerOf,
 }
 
@@ -183,6 +185,7 @@ fn thread_value(
         ThreadQuestion::SavedOf => thread.saved as u32,
         ThreadQuestion::TicksOf => thread.ticks as u32,
         ThreadQuestion::NextOf => thread.next as u32,
+        ThreadQuestion::RankOf => thread.rank as u32,
         ThreadQuestion::BlockerOf => blocker(
             operation_number(operation),
             phase_number(phase),

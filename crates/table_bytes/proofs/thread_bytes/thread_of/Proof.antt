@@ -8,6 +8,6 @@ thread-of-spec =
     tie.close
     (tie.spec (λ c. search needs) (λ c. search needs) (λ c. search needs) (λ c. search needs) (λ c. search needs) (λ c. search needs)
     (λ c. search needs) (λ c κs. tt) (λ c. search needs) (λ c. search needs) (λ c. search needs) (λ c κs. tt) (λ c. search needs)
-    (λ c. search needs) (λ c. search needs) (λ c κs. tt) (λ c. search needs) (λ c. search needs) (λ c. search needs) (λ c κs. tt)
-    (λ c. search needs) (λ c. search needs) (λ c κs. tt)
-    (λ c. simp (c .phase-from .ensures, c .before .before .before .operation-from .ensures, c .before .before .before .before .before .before .before .half-of2 .ensures, c .before .before .before .before .before .before .before .before .before .before .half-of .ensures, c .before .before .before .before .before .before .before .before .before .before .before .before .before .word-of .ensures)))
+    (λ c. search needs) (λ c. search needs) (λ c κs. tt) (λ c. search needs) (λ c. search needs) (λ c. search needs) (λ c. search needs)
+    (λ c κs. tt) (λ c. search needs) (λ c. search needs) (λ c κs. tt)
+    (λ c. simp (c .phase-from .ensures, c .before .before .before .operation-from .ensures, c .before .before .before .before .before .before .before .before .half-of2 .ensures, c .before .before .before .before .before .before .before .before .before .before .before .half-of .ensures, c .before .before .before .before .before .before .before .before .before .before .before .before .before .before .word-of .ensures)))
