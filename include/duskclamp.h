@@ -7,8 +7,9 @@
  * A table is DUSKCLAMP_TABLE_SIZE bytes, which the caller owns, keeps and may copy. No call keeps a pointer, allocates, or blocks. Two calls on
  * one table at the same time are a data race, as on any other memory: the caller sees to it that there is one at a time.
  *
- * `bytes` must point to `length` bytes that may be read and, where they are not const, written. That is all that is asked of a caller, with the events
- * and the room for answers of duskclamp_run and the scripts, records and room for a trace of duskclamp_dispatch: any bytes and any numbers are answered.
+ * `bytes` must point to `length` bytes that may be read and, where they are not const, written. That is all that is asked of a caller, with what
+ * duskclamp_fresh_given is given, the events and the room for answers of duskclamp_run and the scripts, records and room for a trace of
+ * duskclamp_dispatch: any bytes and any numbers are answered.
  * A refused event stores nothing in the table, save that 18 and 19 make the thread's record that of an idle one. What each call answers, and which bytes
  * it leaves, is proved of the library; this declaration of it is not checked against its source.
  *
@@ -23,7 +24,7 @@
  *     DUSKCLAMP_RETURNED(answer) == DUSKCLAMP_FINISHED
  * and never `answer == DUSKCLAMP_FINISHED`.
  *
- * Stack: a dispatch needs up to 9.6 KB, a run 7.1 KB, a step and a tick 5.7 KB, a begin and a question 5.4 KB, a fresh table 4.7 KB, beside what memcpy
+ * Stack: a dispatch needs up to 11.4 KB, a run 9.0 KB, a step and a tick 7.6 KB, a begin and a question 5.4 KB, a fresh table 5.1 KB, beside what memcpy
  * and memset need. So measured by bench/stack.c, on a stack filled with a pattern, over a long schedule; no function calls itself.
  */
 #ifndef DUSKCLAMP_H
@@ -43,10 +44,10 @@ extern "C" {
 #define DUSKCLAMP_VERSION ((DUSKCLAMP_VERSION_MAJOR << 16) | (DUSKCLAMP_VERSION_MINOR << 8) | DUSKCLAMP_VERSION_PATCH)
 
 /* The version of the bytes of a table. It rises whenever they change; a table that is kept or sent should go with it. */
-#define DUSKCLAMP_LAYOUT_VERSION 2
+#define DUSKCLAMP_LAYOUT_VERSION 3
 
-/* How many bytes a table has: two of sizes, 32 thread records of 13 bytes each and 64 object records of 11. */
-#define DUSKCLAMP_TABLE_SIZE 1122
+/* How many bytes a table has: two of sizes, 32 thread records of 14 bytes each and 64 object records of 11. */
+#define DUSKCLAMP_TABLE_SIZE 1154
 
 /* The most threads and objects of a table. Both are numbered from 1; 0 means none. */
 #define DUSKCLAMP_THREADS 32
@@ -54,6 +55,9 @@ extern "C" {
 
 /* The longest limit of a timed wait, in ticks; the shortest is 1. */
 #define DUSKCLAMP_TICKS 65535
+
+/* The highest rank of a thread; the lowest is 0. */
+#define DUSKCLAMP_RANKS 3
 
 /* The most steps that a thread takes of its own from beginning an operation, or from being unparked, until it finishes, is refused or parks, in whatever
  * order the events of the others come; duskclamp_step has more. */
@@ -114,6 +118,7 @@ extern "C" {
 #define DUSKCLAMP_LIMIT_OUT_OF_RANGE 23 /* begin of a timed wait: the limit is not 1 to DUSKCLAMP_TICKS */
 #define DUSKCLAMP_QUANTUM_OUT_OF_RANGE 25 /* dispatch: the steps of a turn are not 1 to DUSKCLAMP_QUANTUM */
 #define DUSKCLAMP_SCRIPT_UNKNOWN 26     /* dispatch: not a record for each thread, or one whose script is not as duskclamp_dispatch has it */
+#define DUSKCLAMP_RANK_OUT_OF_RANGE 27  /* fresh: a rank above DUSKCLAMP_RANKS */
 
 /* An event's answer, of 64 bits: the returned number in bits 0 to 7; the woken number in bits 8 to 15: with 1, how many threads a notify woke, or, of a
  * timed wait, 1 if it ran out, else 0; in bit 16 whether the step committed its operation; in bits 32 to 63 the set of threads that the event unparked. */
@@ -140,9 +145,32 @@ uint32_t duskclamp_version(void);
 uint32_t duskclamp_layout_version(void);
 size_t duskclamp_table_size(void);
 
-/* Makes a fresh table: every thread idle, every word free, or anonymously reserved where `reserved` is not 0.
+/* Makes a fresh table: every thread idle and of rank 0, every word free, or anonymously reserved where `reserved` is not 0.
  * 0; or 11 if `length` is not DUSKCLAMP_TABLE_SIZE; or 22. */
 uint32_t duskclamp_fresh(uint8_t *bytes, size_t length, uint32_t threads, uint32_t objects, uint32_t reserved);
+
+/* What a fresh table may be given. All fields are arrays of bytes, so that there is no padding; later versions of the library add theirs at the end. A byte
+ * of 0 is in each what duskclamp_fresh gives: set the struct to zeros, and then what is to differ.
+ *
+ * A rank, 0 to DUSKCLAMP_RANKS, says where its thread joins an object's entry chain: ahead of all threads of a lower rank, behind those of its own and of
+ * higher ones. So a screen of rank 3 passes the reports of rank 0 that are queued for the same object. That holds in whatever way the thread comes there:
+ * by its own step, told by an exit, notified, moved by a step that inflates, or by a tick. A thread keeps its rank for as long as the table exists.
+ *
+ * A rank does no more than that:
+ *  - the thread still waits for the object's owner and the monitor's holder, whatever their ranks, and they are not raised to its own meanwhile;
+ *  - the contention and the waiting chain are kept by time: an exit tells the first contender, and a notify wakes the longest waiter, of whatever rank;
+ *  - a thread that finds the word free takes it, of whatever rank, and passes all who are queued;
+ *  - nothing keeps a thread of a low rank from starving in the entry chain, while others of a higher one keep joining it. */
+typedef struct duskclamp_given {
+    uint8_t rank[DUSKCLAMP_THREADS]; /* of thread n at n - 1 */
+} duskclamp_given;
+
+/* Makes a fresh table with what it is given. `given` points to `given_length` bytes, sizeof(duskclamp_given), and does not overlap the table. What lies
+ * past them is as duskclamp_fresh has it, so a program that was compiled with an earlier header gets the table that it got then. Ranks past `threads`
+ * are not read.
+ * 0; or the first of 11 (`length` is not DUSKCLAMP_TABLE_SIZE), 22 and 27 that applies, and the bytes stay as they are. */
+uint32_t duskclamp_fresh_given(uint8_t *bytes, size_t length, uint32_t threads, uint32_t objects, uint32_t reserved, const duskclamp_given *given,
+                               size_t given_length);
 
 /* The thread begins the operation on the object. Returned: 0, or the first of 11, 12, 17, 13, 14, 23 that applies; 23 of a timed wait, which has no
  * limit here. */
@@ -156,14 +184,14 @@ uint64_t duskclamp_timed_wait(uint8_t *bytes, size_t length, uint32_t thread, ui
  * An operation ends with the step that returns 1, 18 or 19, save that an exit which has parked, in phase 5, may be let out: a step of another thread
  * that inflates the lock ends it, and has its thread in the set. That thread is idle then: its phase is 0, its next begin is accepted, and its next step
  * returns 15, which is the exit's 1 with the woken number 0.
- * No thread spins. On a table that came from duskclamp_fresh by events alone a thread takes at most DUSKCLAMP_STEPS steps that return 0, 1, 2, 18 or 19
+ * No thread spins. On a table that came from a fresh one by events alone a thread takes at most DUSKCLAMP_STEPS steps that return 0, 1, 2, 18 or 19
  * from beginning an enter, an exit or a wait, 1 from beginning a notify, 2 from being unparked, or 1 if it is to resume; with the last that it may
  * take the step returns 1, 2, 18 or 19. Other bytes may be a sound table that no events lead to, and there it may take more. */
 uint64_t duskclamp_step(uint8_t *bytes, size_t length, uint32_t thread);
 
 /* One tick of the clock, taken from every timed wait that is in a waiting chain. Those with none left run out: they join the entry chain, from the lowest
- * object up and who waited longest first, and a monitor without a holder is handed to the first there, who is then in the set. A wait that ran out
- * finishes with the woken number 1. Returned: 0 or 11. */
+ * object up and who waited longest first, each by its rank, and a monitor without a holder is handed to the first there, who is then in the set. A wait
+ * that ran out finishes with the woken number 1. Returned: 0 or 11. */
 uint64_t duskclamp_tick(uint8_t *bytes, size_t length);
 
 /* An event of duskclamp_run, eight bytes; a tick reads the kind alone, a step the kind and the thread. */
@@ -218,7 +246,7 @@ typedef struct duskclamp_script {
  * ends before `quantum` steps with a step that returns 2, at the script's end, and where the thread is parked or its step has no rule (20, never from
  * a fresh table on). 18 and 19 are steps: the operation is over, and the script goes on. After a round without a step the run ends. Then nobody can
  * go on; threads may be parked for good, as in a deadlock or a wait that nobody notifies. Nobody is kept waiting: on a table that came from
- * duskclamp_fresh by events alone an unparked thread with an operation to finish or to begin gets its step before the others have taken more than
+ * a fresh one by events alone an unparked thread with an operation to finish or to begin gets its step before the others have taken more than
  * `quantum` times their number, all together. The clock does not tick.
  *
  * `scripts` points to `scripts_length` bytes, DUSKCLAMP_OPERATION_SIZE for each operation; a last odd byte is none. `cursors` points to
@@ -267,6 +295,9 @@ uint64_t duskclamp_next(const uint8_t *bytes, size_t length, uint32_t thread);
 
 /* The ticks that a timed wait has left. They fall only while it is in the waiting chain; 0 when it ran out, and for any other operation. */
 uint64_t duskclamp_ticks(const uint8_t *bytes, size_t length, uint32_t thread);
+
+/* The rank that the thread was given, 0 to DUSKCLAMP_RANKS in a sound table; the same in every phase, idle too. */
+uint64_t duskclamp_rank(const uint8_t *bytes, size_t length, uint32_t thread);
 
 /* Who keeps a thread that is parked for entry, in phase 5 or 8, which is always another: of an exit the monitor's holder; of any other operation the
  * thread that owns its object by the lock word, or, where nobody else does, the holder, which is on its way in or out. 0 for nobody, and in any other
@@ -319,6 +350,7 @@ static inline const char *duskclamp_returned_name(uint32_t returned) {
     case DUSKCLAMP_LIMIT_OUT_OF_RANGE: return "limit out of range";
     case DUSKCLAMP_QUANTUM_OUT_OF_RANGE: return "quantum out of range";
     case DUSKCLAMP_SCRIPT_UNKNOWN: return "script unknown";
+    case DUSKCLAMP_RANK_OUT_OF_RANGE: return "rank out of range";
     default: return "unknown";
     }
 }

@@ -8,7 +8,7 @@ use Rattle.laws.specs.Choice.{pick}
 use Rattle.laws.proofs.Choice.{split}
 use Rattle.lock_table.specs.declared.record.Table.{Table}
 use Rattle.lock_table.specs.declared.fresh_table.FreshAnswer.{FreshAnswer}
-use Rattle.lock_table.specs.declared.fresh_table.FreshAnswer.the-variants.{Made, SizeOutOfRange}
+use Rattle.lock_table.specs.declared.fresh_table.FreshAnswer.the-variants.{Made, Refused}
 use Rattle.table_bytes.specs.Layout.{table-size}
 use Rattle.table_bytes.proofs.Written.{kept-is}
 use Rattle.lock_engine_c.specs.Calls.{made-bytes, keep-made, has-size}
@@ -16,7 +16,7 @@ use Rattle.lock_engine_c.specs.Calls.{made-bytes, keep-made, has-size}
 made-is : (bytes : List ℕ) (table : Table) → length bytes ≡ table-size → (answer : FreshAnswer) → keep-made bytes answer table ≡ made-bytes bytes answer table
 unfolding keep-made made-bytes
 made-is bytes table long Made = kept-is bytes table long
-made-is bytes table long SizeOutOfRange = refl
+made-is bytes table long (Refused refusal) = refl
 
 pub fresh-written : (bytes : List ℕ) (answer : FreshAnswer) (table : Table)
     → pick (has-size bytes) (keep-made bytes answer table) bytes ≡ pick (has-size bytes) (made-bytes bytes answer table) bytes

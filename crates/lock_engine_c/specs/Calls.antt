@@ -15,7 +15,7 @@ use Rattle.lock_rules.specs.declared.Answer.the-variants.{GoneOn, Finished, Par
 use Rattle.lock_table.specs.Access.{thread-at, object-at}
 use Rattle.lock_table.specs.Fresh.{sized-request, fresh-of, fresh-returned}
 use Rattle.lock_table.specs.declared.fresh_table.FreshAnswer.{FreshAnswer}
-use Rattle.lock_table.specs.declared.fresh_table.FreshAnswer.the-variants.{Made, SizeOutOfRange}
+use Rattle.lock_table.specs.declared.fresh_table.FreshAnswer.the-variants.{Made, Refused}
 use Rattle.lock_table.specs.declared.fresh_table.FreshTable.{FreshTable}
 use Rattle.lock_table.specs.declared.record.Table.{Table}
 use Rattle.lock_soundness.specs.Sound.{sound-of}
@@ -118,7 +118,7 @@ has-size bytes = eqb (length bytes) table-size
 
 unfoldable pub made-bytes : List ℕ → FreshAnswer → Table → List ℕ
 made-bytes bytes Made table = bytes-of table
-made-bytes bytes SizeOutOfRange table = bytes
+made-bytes bytes (Refused refusal) table = bytes
 
 abbrev pub fresh-answer : Bool → FreshTable → ℕ
 fresh-answer fits made = pick fits (fresh-returned (made .answer)) not-sound
@@ -129,7 +129,7 @@ fresh-bytes fits bytes made = pick fits (made-bytes bytes (made .answer) (made .
 -- the same as the code does it
 unfoldable pub keep-made : List ℕ → FreshAnswer → Table → List ℕ
 keep-made bytes Made table = kept-over bytes table
-keep-made bytes SizeOutOfRange table = bytes
+keep-made bytes (Refused refusal) table = bytes
 
 abbrev pub fresh-if-sized : Bool → List ℕ → FreshTable → List ℕ
 fresh-if-sized fits bytes made = pick fits (keep-made bytes (made .answer) (made .table)) bytes

@@ -2,3 +2,4 @@
 pub mod Calls
 pub mod Run
 pub mod Dispatch
+pub mod Given

@@ -108,7 +108,7 @@ fn handle_if_table(bytes: &mut [u8], event: Event, istable: bool) -> u64
 }
 
 // With the right number of bytes, a fresh table as asked.
-fn fresh_if_sized(bytes: &mut [u8], request: FreshRequest, fits: bool) -> u32
+pub(crate) fn fresh_if_sized(bytes: &mut [u8], request: FreshRequest, fits: bool) -> u32
     ensures { λ r. ⌜ r ≡ fresh-answer fits (fresh-of request) ⌝ }
     ensures { λ _. ⌜ now (bytes .exit) ≡ fresh-if-sized fits (now (bytes .entry)) (fresh-of request) ⌝ }
 {
@@ -117,7 +117,7 @@ fn fresh_if_sized(bytes: &mut [u8], request: FreshRequest, fits: bool) -> u32
         let answer = made.answer;
         match answer {
             FreshAnswer::Made => write_table(bytes, made.table),
-            FreshAnswer::SizeOutOfRange => {}
+            FreshAnswer::Refused(_) => {}
         }
         return fresh_returned(answer) as u32;
     }

@@ -2,6 +2,7 @@
 // boundary, and no call asks anything of them: bytes that are no table are answered 11 and left as they are.
 mod calls;
 mod dispatching;
+mod giving;
 mod questions;
 mod running;
 
@@ -12,6 +13,7 @@ pub use calls::duskclamp_table_size;
 pub use calls::duskclamp_tick;
 pub use calls::duskclamp_timed_wait;
 pub use dispatching::duskclamp_dispatch;
+pub use giving::duskclamp_fresh_given;
 pub use questions::duskclamp_blocker;
 pub use questions::duskclamp_contention_first;
 pub use questions::duskclamp_depth;
@@ -28,6 +30,7 @@ pub use questions::duskclamp_onward;
 pub use questions::duskclamp_operation;
 pub use questions::duskclamp_owner;
 pub use questions::duskclamp_phase;
+pub use questions::duskclamp_rank;
 pub use questions::duskclamp_saved_depth;
 pub use questions::duskclamp_thread_count;
 pub use questions::duskclamp_ticks;

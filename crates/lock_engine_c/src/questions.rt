@@ -10,7 +10,7 @@ ghost use mathlib.Core.Path.{_≡_};
 ghost use Rattle.table_questions.specs.Questions.{thread-count, object-count, ask-thread, ask-object};
 ghost use Rattle.table_bytes.specs.Layout.{layout-version};
 ghost use Rattle.lock_engine_c.specs.Calls.{version};
-ghost use Rattle.table_questions.specs.declared.asking.ThreadQuestion.the-variants.{OperationOf, ObjectOf, PhaseOf, OnwardOf, KeptOf, SavedOf, TicksOf, NextOf, BlockerOf};
+ghost use Rattle.table_questions.specs.declared.asking.ThreadQuestion.the-variants.{OperationOf, ObjectOf, PhaseOf, OnwardOf, KeptOf, SavedOf, TicksOf, NextOf, RankOf, BlockerOf};
 ghost use Rattle.table_questions.specs.declared.asking.ObjectQuestion.the-variants.{WordOf, OwnerOf, DepthOf, FlagOf, HolderOf, MonitorDepthOf};
 ghost use Rattle.table_questions.specs.declared.asking.ObjectQuestion.the-variants.{EntryOf, ContentionOf, WaitingOf, KindOf, NamedOf};
 
@@ -110,6 +110,14 @@ pub extern "C" fn duskclamp_next(bytes: &[u8], thread: u32) -> u64
     ensures { λ r. ⌜ r ≡ ask-thread NextOf (now (bytes .entry)) thread ⌝ }
 {
     ask_thread(ThreadQuestion::NextOf, bytes, thread)
+}
+
+// The thread's rank.
+#[no_mangle]
+pub extern "C" fn duskclamp_rank(bytes: &[u8], thread: u32) -> u64
+    ensures { λ r. ⌜ r ≡ ask-thread RankOf (now (bytes .entry)) thread ⌝ }
+{
+    ask_thread(ThreadQuestion::RankOf, bytes, thread)
 }
 
 // Who keeps the thread parked for entry.

@@ -18,7 +18,8 @@ long c = either-way (c .match .came) (λ kept. ap length (kept .6) ∙ kept .4 .
 stored : (c : tie.At-match-came) → let made = c .before .fresh .result in c .match .bytes ≡ keep-made (begun c .args .bytes .now) (made .answer) (made .table)
 unfolding keep-made
 stored c =
-    either-way (c .match .came) (λ kept. kept .6 ∙ simp (kept .3 .ensures, kept .1 .given .1)) (λ none. none .2 ∙ simp (none .1 .given .1))
+    either-way (c .match .came) (λ kept. kept .6 ∙ simp (kept .3 .ensures, kept .1 .given .1))
+    (λ none. none .2 ∙ simp (none .1 .given .1))
 
 returns : tie.Need-returns
 returns c =
