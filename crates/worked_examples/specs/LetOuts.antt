@@ -21,7 +21,7 @@ use Rattle.lock_perform.specs.Moving.{CarriedOut, queued-exit, carry-out}
 
 -- a thread at object 1, with a thread behind it in its chain
 abbrev pub at-account : Operation → Phase → ℕ → ThreadRecord
-at-account operation phase next = record { kept = 0; saved = 0; ticks = 0; object = 1; next = next; operation = operation; phase = phase }
+at-account operation phase next = record { kept = 0; saved = 0; ticks = 0; object = 1; next = next; rank = 0; operation = operation; phase = phase }
 
 -- Thread 1 holds the monitor and inflates. Threads 2, 3 and 4 are queued in this order, 2 and 4 in an exit; thread 5 contends.
 abbrev pub crowded : Table

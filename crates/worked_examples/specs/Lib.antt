@@ -4,6 +4,7 @@ pub mod Chains
 pub mod Records
 pub mod Rules
 pub mod Ticks
+pub mod Ranks
 pub mod LetOuts
 pub mod Unparks
 pub mod Lines

@@ -55,8 +55,7 @@ pub record RecordExamples : Type 0 where
   pub handed-entry : hand-of held 3 .monitor .entry ≡ 3
   -- which unparks thread 2 alone: bit 1 of the set
   pub handed-set : plan-hand held (with-next no-thread 3) .unparked ≡ 2
-  -- thread 3 joins the entry chain, which begins with thread 2: it is hung behind that chain, not the chain behind itself
-  pub joined-front : joining no-thread held 0 Chain.Entry 3 .front ≡ 2
+  -- thread 3 joins the entry chain, which begins with thread 2: it, and not the chain itself
   pub joined-back : joining no-thread held 0 Chain.Entry 3 .back ≡ 3
   -- object 1 in bytes: four of its word, one of its flag, one of its holder
   pub flag-place : holder-by (objects-start + 4) ≡ 0

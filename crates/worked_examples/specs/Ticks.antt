@@ -25,7 +25,7 @@ use Rattle.event_bytes.specs.Encoding.{event-at}
 -- a thread that gave up an object at depth 1, with so many ticks left and a thread behind it in its chain
 abbrev pub suspended-at : ℕ → Operation → ℕ → Phase → ℕ → ThreadRecord
 suspended-at object operation ticks phase next =
-    record { kept = 0; saved = 1; ticks = ticks; object = object; next = next; operation = operation; phase = phase }
+    record { kept = 0; saved = 1; ticks = ticks; object = object; next = next; rank = 0; operation = operation; phase = phase }
 
 abbrev pub suspended : Operation → ℕ → Phase → ℕ → ThreadRecord
 suspended = suspended-at 1

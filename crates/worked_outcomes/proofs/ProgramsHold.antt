@@ -9,8 +9,8 @@ use Rattle.lock_rules.specs.Limits.{one-less, no-ticks, run-out}
 use Rattle.lock_rules.specs.Numbers.{refusal-number}
 use Rattle.lock_rules.specs.Rules.{decide, enter-look, enter-store, exit-owned, exit-store, cancel, go-in, wait-owned, wait-inflate, wait-give-up, wait-resume}
 use Rattle.lock_table.specs.Access.{thread-at, set-thread, object-at, set-object}
-use Rattle.lock_table.specs.Chain.{hang, moved-phase, move-all, carried-of}
-use Rattle.lock_table.specs.Fresh.{fresh-object, fresh-of, first-word}
+use Rattle.lock_table.specs.Chain.{moved-phase, move-all, carried-of}
+use Rattle.lock_table.specs.Fresh.{thread-given, object-given, in-range, ranks-fit, fresh-answer, met-request, fresh-of, first-word}
 use Rattle.lock_table.specs.Ownership.{ownership-in}
 use Rattle.lock_table.specs.Narrow.{narrow-of}
 use Rattle.lock_table.specs.Operation.{operation-number, operation-from}
@@ -19,12 +19,13 @@ use Rattle.lock_table.specs.Parked.{chain-named, first-in}
 use Rattle.lock_table.specs.Place.{place-within}
 use Rattle.lock_perform.specs.State.{state-by, look-of, store-of, cancel-of as cancelling, go-in-of, wait-activity, limit-of, write-activity, doing-activity}
 use Rattle.lock_perform.specs.Perform.{word-after, stays}
+use Rattle.lock_perform.specs.Queueing.{queue, place-for, first-at}
 use Rattle.lock_perform.specs.Moving.{after-whole, let-out, sent-back-of, back-from}
 use Rattle.lock_perform.specs.Parting.{last-behind, taken-with, passed, part-chain}
 use Rattle.lock_perform.specs.ThreadSet.{thread-set}
 use Rattle.sound_records.specs.Records.{reserved-for, kept-count-fits}
 use Rattle.lock_soundness.specs.Sound.{sizes-fit, word-fits, uses-phase, carries-phase, operation-fits, kept-fits, saves-depth, saved-fits}
-use Rattle.lock_soundness.specs.Sound.{unheld-fits, ticks-fit, found-in, names-chain, unused-fits, empty-thread, empty-monitor, empty-object, sound-of}
+use Rattle.lock_soundness.specs.Sound.{unheld-fits, ticks-fit, found-in, names-chain, falls-behind, unused-fits, empty-thread, empty-monitor, empty-object, sound-of}
 use Rattle.lock_gate.specs.Status.{thread-status}
 use Rattle.lock_work.specs.Waiters.{runs-out, waiter-after}
 use Rattle.lock_work.specs.Tick.{handing, hand-if-free, tick-object, tick-to}
@@ -43,8 +44,8 @@ use Rattle.worked_outcomes.specs.Programs.{ProgramExamples}
 
 pub program-examples : ProgramExamples
 unfolding rewritten-of ownership-in wait-activity limit-of in-chain carried-of onward-phase kept-count cancel-of cancel-read store-of cancelling sent-back-of back-from reserved-for kept-count-fits narrow-of all-up-to tabulate members chain-test read-word read-flat read-reserved fat-of seen-word owned-by one-less no-ticks run-out refusal-number decide
-    enter-look enter-store exit-owned exit-store cancel go-in wait-owned wait-inflate wait-give-up wait-resume thread-at set-thread object-at set-object hang moved-phase
-    move-all fresh-object fresh-of first-word operation-number operation-from phase-number carried-number onward-number chain-named first-in place-within state-by look-of
+    enter-look enter-store exit-owned exit-store cancel go-in wait-owned wait-inflate wait-give-up wait-resume thread-at set-thread object-at set-object queue place-for first-at moved-phase
+    move-all thread-given object-given in-range ranks-fit fresh-answer met-request fresh-of first-word falls-behind operation-number operation-from phase-number carried-number onward-number chain-named first-in place-within state-by look-of
     go-in-of write-activity doing-activity word-after stays after-whole let-out last-behind taken-with passed part-chain thread-set sizes-fit word-fits uses-phase
     carries-phase operation-fits kept-fits saves-depth saved-fits unheld-fits ticks-fit found-in names-chain unused-fits empty-thread empty-monitor empty-object sound-of
     thread-status runs-out waiter-after handing hand-if-free tick-object tick-to work-stays work-done reply-returned reply-woken given-ticks action-turn word-turn state-turn
