@@ -1,5 +1,5 @@
 /* How much stack each call of the library needs: every call is made on a stack of its own that was filled with a pattern, over a long random schedule
- * of 32 threads, and the deepest byte that was written counts. memcpy and memset are bound before (-z now), so that the linker's own stack does not
+ * of 32 threads of all ranks, and the deepest byte that was written counts. memcpy and memset are bound before (-z now), so that the linker's own stack does not
  * count. Build and run, from the repository:
  *
  *     gcc -O2 -Wl,-z,now -I include bench/stack.c target/staticlib/liblock_engine_c.a -o target/stack && target/stack
@@ -21,7 +21,9 @@ static uint32_t thread, operation, object, sizes, kind;
 static volatile uint64_t answer;
 
 static void call_nothing(void) { answer = 0; }
+static duskclamp_given given;
 static void call_fresh(void) { answer = duskclamp_fresh(table, sizeof table, sizes, 4, kind); }
+static void call_fresh_given(void) { answer = duskclamp_fresh_given(table, sizeof table, sizes, 4, kind, &given, sizeof given); }
 static void call_begin(void) { answer = duskclamp_begin(table, sizeof table, thread, operation, object); }
 static void call_timed_wait(void) { answer = duskclamp_timed_wait(table, sizeof table, thread, object, 1 + operation); }
 static void call_tick(void) { answer = duskclamp_tick(table, sizeof table); }
@@ -56,6 +58,7 @@ static void call_questions(void) {
     answer = duskclamp_thread_count(table, sizeof table);
     answer = duskclamp_phase(table, sizeof table, thread);
     answer = duskclamp_blocker(table, sizeof table, thread);
+    answer = duskclamp_rank(table, sizeof table, thread);
     answer = duskclamp_depth(table, sizeof table, object);
     answer = duskclamp_word_kind(table, sizeof table, object);
     answer = duskclamp_word_thread(table, sizeof table, object);
@@ -91,11 +94,14 @@ static void keep(size_t *most, size_t found) {
 }
 
 int main(void) {
-    size_t fresh = 0, begin = 0, step = 0, tick = 0, run = 0, dispatch = 0, questions = 0, nothing = used(call_nothing);
+    size_t fresh = 0, fresh_given = 0, begin = 0, step = 0, tick = 0, run = 0, dispatch = 0, questions = 0, nothing = used(call_nothing);
+    for (uint32_t place = 0; place < DUSKCLAMP_THREADS; place++)
+        given.rank[place] = (uint8_t)(place % (DUSKCLAMP_RANKS + 1));
     for (int round = 0; round < 8; round++) {
         sizes = 32;
         kind = round % 2;
         keep(&fresh, used(call_fresh));
+        keep(&fresh_given, used(call_fresh_given));
         for (int event = 0; event < EVENTS; event++) {
             thread = draw(32) + 1;
             operation = draw(6) + 1;
@@ -116,7 +122,7 @@ int main(void) {
             }
         }
     }
-    printf("fresh %zu, begin %zu, step %zu, tick %zu, run %zu, dispatch %zu, questions %zu bytes\n", fresh - nothing, begin - nothing, step - nothing,
-           tick - nothing, run - nothing, dispatch - nothing, questions - nothing);
+    printf("fresh %zu, fresh given %zu, begin %zu, step %zu, tick %zu, run %zu, dispatch %zu, questions %zu bytes\n", fresh - nothing,
+           fresh_given - nothing, begin - nothing, step - nothing, tick - nothing, run - nothing, dispatch - nothing, questions - nothing);
     return 0;
 }

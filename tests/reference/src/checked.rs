@@ -1,29 +1,33 @@
 //! Runs a schedule through the engine and holds every event to demands 1 and 3, as the requests amend them.
 
+use crate::chain_order::ChainOrder;
 use crate::engine::{apply, Event};
 use crate::exits::{check_parked, let_out};
+use crate::given::read_given;
 use crate::met::Met;
 use crate::outcome::{Outcome, Returned};
 use crate::own_steps::{phases, OwnSteps};
 use crate::plain::PlainMonitors;
-use crate::replay::{open_schedule, Line};
+use crate::replay::{open_given, Line};
 use crate::run_queue::CheckedQueue;
 use crate::sound::is_sound;
 use crate::table::Table;
 use crate::unparked::check_unparked;
 
-/// A run of the engine with the plain monitors, an interpreter's run queue and the count of own steps beside it.
+/// A run of the engine with the plain monitors, an interpreter's run queue, the count of own steps and the order of chains beside it.
 pub struct Checked {
     pub table: Table,
     pub plain: PlainMonitors,
     pub queue: CheckedQueue,
     pub own_steps: OwnSteps,
+    pub chain_order: ChainOrder,
     pub met: Met,
 }
 
-/// Describes the first event at which a demand does not hold; else gives what was met. A schedule without a good header has no events.
+/// Describes the first event at which a demand does not hold; else gives what was met. A schedule without a good header has no events; one with ranks
+/// behind its header has a table with these.
 pub fn check_schedule(input: &[u8]) -> Result<Met, String> {
-    let Some((table, lines)) = open_schedule(input) else {
+    let Some((table, lines)) = open_given(input, &read_given(input)) else {
         return Ok(Met::default());
     };
     let mut run = Checked::new(table);
@@ -41,6 +45,7 @@ impl Checked {
     pub fn new(table: Table) -> Checked {
         Checked {
             plain: PlainMonitors::new(table.objects),
+            chain_order: ChainOrder::new(&table),
             table,
             queue: CheckedQueue::default(),
             own_steps: OwnSteps::default(),
@@ -66,6 +71,8 @@ impl Checked {
         self.queue.feed(event, outcome, &let_out, &mut self.met);
         self.queue.check(&self.table)?;
         self.count_own_steps(&before, event, outcome.returned)?;
+        self.chain_order
+            .feed(&before, &self.table, event, &mut self.met)?;
         Ok(outcome)
     }
 

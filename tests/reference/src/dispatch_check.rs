@@ -1,9 +1,12 @@
 //! Holds a run of the dispatcher to what request L6 says of it, from its events one by one: whose step comes next, what begins, how long an unparked
-//! thread with work left goes without a step, how many steps there are, and who is left at the end. It knows no rounds.
+//! thread with work left goes without a step, how many steps there are, and who is left at the end; and to request L8's order of chains. It knows no
+//! rounds.
 
+use crate::chain_order::ChainOrder;
 use crate::dispatch::{Entry, Input, Run, Script, MAX_QUANTUM};
 use crate::engine::{apply, Event};
 use crate::happened::Happened;
+use crate::met::{Met, Rare};
 use crate::outcome::Returned;
 use crate::own_steps::is_own_step;
 use crate::table::{Operation, Phase, Table, MAX_THREADS};
@@ -60,6 +63,8 @@ struct Watch<'a> {
     left: u32,
     /// Of each unparked thread with work left, the steps of others since it last stepped or was unparked.
     waited: [Option<u64>; MAX_THREADS],
+    chain_order: ChainOrder,
+    met: Met,
     happened: Tally<Happened>,
 }
 
@@ -74,6 +79,8 @@ impl Watch<'_> {
             thread: input.table.threads,
             left: 0,
             waited: [None; MAX_THREADS],
+            chain_order: ChainOrder::new(&input.table),
+            met: Met::default(),
             happened: Tally::default(),
         };
         for thread in 1..=input.table.threads {
@@ -130,6 +137,8 @@ impl Watch<'_> {
         if !is_own_step(outcome.returned) {
             return Err(format!("{outcome:?} is no step"));
         }
+        self.chain_order
+            .feed(&before, &self.table, step, &mut self.met)?;
         self.count_turn(thread, outcome.returned);
         self.note_step(&before, entry);
         self.count_waits(thread)
@@ -297,6 +306,8 @@ impl Watch<'_> {
         self.note_if(done && idle && !run.trace.is_empty(), Happened::AllDone);
         self.note_if(has_ring(&run.table), Happened::Deadlock);
         self.note_if(waits, Happened::WaitWithoutEnd);
+        let passed = |rare: &Rare| self.met.number(*rare) > 0;
+        self.note_if(Rare::by_rank().iter().any(passed), Happened::PassedByRank);
         self.note_if(run.without_rule > 0, Happened::NoRule);
     }
 }

@@ -501,7 +501,7 @@ impl Turn<'_> {
         self.table.join(self.object, chain, self.thread);
     }
 
-    /// Moves the first of a chain to the end of the entry chain; false where there is none.
+    /// Moves the first of a chain to the entry chain; false where there is none.
     fn move_first(&mut self, chain: Chain, onward: Onward) -> bool {
         match self.table.take_first(self.object, chain) {
             Some(thread) => {

@@ -2,10 +2,11 @@
 //! It follows the engine's table to choose events that go somewhere, with some refused and malformed ones on purpose.
 
 use crate::engine::{apply, Event};
+use crate::given::{draw_given, write_given};
 use crate::random::Random;
-use crate::table::{Operation, Phase, Table, MAX_LIMIT, MAX_OBJECTS, MAX_THREADS};
+use crate::table::{Given, Operation, Phase, Table, MAX_LIMIT, MAX_OBJECTS, MAX_THREADS};
 use crate::word::MAX_COUNT;
-use crate::{aimed_exits, aimed_steps, aimed_ticks};
+use crate::{aimed_exits, aimed_steps, aimed_ticks, aimed_told};
 use std::io::Write;
 
 /// Sizes up to which most tables go.
@@ -26,15 +27,18 @@ enum Target {
     Ticks(u64),
     /// Exits and waits of six steps, at so many objects.
     Steps(u8),
+    /// Contenders told while others are queued, so many times.
+    Told(u64),
 }
 
 impl Target {
-    /// Three schedules in ten aim at exits, two at ticks, and one at steps.
+    /// Three schedules in ten aim at exits, two at ticks, one at steps, and one at contenders told.
     fn draw(random: &mut Random) -> Target {
         match random.between(1, 10) {
             1..=3 => Target::Exits(random.between(1, 3)),
             4..=5 => Target::Ticks(random.between(1, 2)),
             6 => Target::Steps(random.between(2, 5) as u8),
+            7 => Target::Told(random.between(1, 3)),
             _ => Target::Nothing,
         }
     }
@@ -46,6 +50,7 @@ impl Target {
             Target::Exits(_) => (aimed_exits::LEAST_THREADS, 1),
             Target::Ticks(_) => (aimed_ticks::LEAST, aimed_ticks::LEAST),
             Target::Steps(objects) => (aimed_steps::LEAST_THREADS, objects),
+            Target::Told(_) => (aimed_told::LEAST_THREADS, 1),
         }
     }
 
@@ -59,6 +64,7 @@ struct Plan {
     threads: u8,
     objects: u8,
     reserved: bool,
+    given: Given,
     /// Threads and objects that the schedule uses; the rest only by stray events.
     busy_threads: Vec<u8>,
     busy_objects: Vec<u8>,
@@ -92,6 +98,7 @@ impl Plan {
             threads,
             objects,
             reserved: aim.needs_reserved() || random.percent(50),
+            given: Given::default(),
             busy_threads: some_of(random, threads, least_threads, most_threads),
             busy_objects: some_of(random, objects, 1, most_objects),
             aim,
@@ -173,6 +180,15 @@ pub fn schedule(seed: u64) -> Vec<u8> {
     planned(random, plan, burst)
 }
 
+/// The schedule of a seed, at times with ranks behind its header, which no replay takes.
+pub fn given_schedule(seed: u64) -> Vec<u8> {
+    let mut random = Random::new(seed);
+    let mut plan = Plan::draw(&mut random);
+    plan.given = draw_given(&mut random, plan.threads);
+    let burst = Burst::at_the_start(&mut random, &plan);
+    planned(random, plan, burst)
+}
+
 /// A long schedule for benchmarks: so many events of so many threads that collide over so many objects, so many percent of them ticks. With ticks
 /// there are timed waits too.
 pub fn long_schedule(seed: u64, length: u64, threads: u8, objects: u8, ticks: u64) -> Vec<u8> {
@@ -181,6 +197,7 @@ pub fn long_schedule(seed: u64, length: u64, threads: u8, objects: u8, ticks: u6
         threads,
         objects,
         reserved: true,
+        given: Given::default(),
         busy_threads: (1..=threads).collect(),
         // With one busy object and no waits, or none but short timed ones, the threads cannot block each other for good.
         busy_objects: vec![1],
@@ -199,11 +216,12 @@ pub fn long_schedule(seed: u64, length: u64, threads: u8, objects: u8, ticks: u6
 }
 
 fn planned(random: Random, plan: Plan, burst: Option<Burst>) -> Vec<u8> {
-    let table = Table::fresh(plan.threads.into(), plan.objects.into(), plan.reserved);
+    let (threads, objects) = (plan.threads.into(), plan.objects.into());
+    let table = Table::fresh_given(threads, objects, plan.reserved, &plan.given);
     let mut generator = Generator {
         random,
         plan,
-        table: table.expect("sizes in range"),
+        table: table.expect("sizes and ranks in range"),
         last_thread: 0,
         burst,
         text: Vec::new(),
@@ -244,6 +262,7 @@ impl Generator {
             header = self.random.pick(&ODD_HEADERS).to_string();
         }
         self.text.extend_from_slice(header.as_bytes());
+        write_given(&self.plan.given, &mut self.text);
     }
 
     fn write_aimed(&mut self) {
@@ -254,6 +273,7 @@ impl Generator {
             Target::Exits(times) => aimed_exits::events(random, table, threads, object, times),
             Target::Ticks(times) => aimed_ticks::events(random, table, threads, times),
             Target::Steps(objects) => aimed_steps::events(random, table, threads, objects),
+            Target::Told(times) => aimed_told::events(random, table, threads, object, times),
         };
         for event in events {
             write_event_line(event, &mut self.text);

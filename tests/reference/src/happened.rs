@@ -22,6 +22,7 @@ pub enum Happened {
     HandOver,
     LetOut,
     Woken,
+    PassedByRank,
     NotOwner,
     /// Moments at which an unparked thread with work left has seen as many steps of others as it may, of two threads or more.
     LongestWait,
@@ -35,7 +36,7 @@ pub enum Happened {
     NoRule,
 }
 
-const KINDS: usize = 23;
+const KINDS: usize = 24;
 const LEAST: u64 = 20;
 
 /// Each with its name, and how many of it a whole run has at least.
@@ -85,6 +86,11 @@ const NAMED: [Named<Happened>; KINDS] = [
     (
         Happened::Woken,
         "runs with a waiting thread notified",
+        LEAST,
+    ),
+    (
+        Happened::PassedByRank,
+        "runs with a thread that passed others by its rank",
         LEAST,
     ),
     (Happened::NotOwner, "runs with an 18", LEAST),

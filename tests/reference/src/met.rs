@@ -1,5 +1,5 @@
-//! What a run of schedules is to meet often enough, and how often it did: exits that end without going in, events that unpark others, and threads
-//! that take as many steps of their own as they may.
+//! What a run of schedules is to meet often enough, and how often it did: threads that pass others by their rank, exits that end without going in, events
+//! that unpark others, and threads that take as many steps of their own as they may.
 
 use crate::engine::Event;
 use crate::exits::let_out;
@@ -9,6 +9,12 @@ use crate::tally::{Kind, Tally};
 
 #[derive(Clone, Copy, Debug, PartialEq, Eq)]
 pub enum Rare {
+    /// Threads that joined an entry chain ahead of one that was there: by going in, told, notified, moved by a step that inflates, or run out.
+    PassedGoingIn,
+    PassedTold,
+    PassedNotified,
+    PassedInflated,
+    PassedRunOut,
     /// Exits that ended without going in: by their own step, at the flag, or let out by another's step that inflates.
     EndedAtTheFlag,
     LetOutAtCheck,
@@ -38,10 +44,15 @@ pub enum Rare {
     OneStepOfResume,
 }
 
-const RARE: usize = 20;
+const RARE: usize = 25;
 
 impl Rare {
     pub const ALL: [Rare; RARE] = [
+        Rare::PassedGoingIn,
+        Rare::PassedTold,
+        Rare::PassedNotified,
+        Rare::PassedInflated,
+        Rare::PassedRunOut,
         Rare::EndedAtTheFlag,
         Rare::LetOutAtCheck,
         Rare::LetOutAtTry,
@@ -64,6 +75,15 @@ impl Rare {
         Rare::OneStepOfResume,
     ];
 
+    /// Those that only tables with ranks have.
+    pub const fn by_rank() -> &'static [Rare] {
+        Rare::ALL.split_at(Rare::EndedAtTheFlag as usize).0
+    }
+
+    pub const fn without_ranks() -> &'static [Rare] {
+        Rare::ALL.split_at(Rare::EndedAtTheFlag as usize).1
+    }
+
     /// All but those of a run queue and of own steps, which only runs from a fresh table have.
     pub fn of_events() -> &'static [Rare] {
         &Rare::ALL[..Rare::LetOutQueued as usize]
@@ -77,6 +97,11 @@ impl Kind for Rare {
 
     fn name(self) -> &'static str {
         match self {
+            Rare::PassedGoingIn => "threads that passed others going in",
+            Rare::PassedTold => "contenders told that passed others",
+            Rare::PassedNotified => "waiters notified that passed others",
+            Rare::PassedInflated => "contenders moved by inflating that passed others",
+            Rare::PassedRunOut => "waiters run out that passed others",
             Rare::EndedAtTheFlag => "exits finished at the flag in phase 4",
             Rare::LetOutAtCheck => "exits let out at phase 6",
             Rare::LetOutAtTry => "exits let out at phase 7",

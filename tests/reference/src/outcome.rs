@@ -25,9 +25,39 @@ pub enum Returned {
     TooManyLines = 24,
     QuantumOutOfRange = 25,
     ScriptUnknown = 26,
+    RankOutOfRange = 27,
 }
 
 impl Returned {
+    pub const ALL: [Returned; 20] = [
+        Returned::GoneOn,
+        Returned::Finished,
+        Returned::Parked,
+        Returned::NotSound,
+        Returned::NoSuchThread,
+        Returned::NoSuchObject,
+        Returned::ThreadBusy,
+        Returned::ThreadIdle,
+        Returned::ThreadParked,
+        Returned::NoSuchOperation,
+        Returned::NotOwner,
+        Returned::TooDeep,
+        Returned::NoRule,
+        Returned::MalformedLine,
+        Returned::SizesOutOfRange,
+        Returned::LimitOutOfRange,
+        Returned::TooManyLines,
+        Returned::QuantumOutOfRange,
+        Returned::ScriptUnknown,
+        Returned::RankOutOfRange,
+    ];
+
+    pub fn from_number(number: u8) -> Option<Returned> {
+        Returned::ALL
+            .into_iter()
+            .find(|returned| returned.number() == number)
+    }
+
     pub fn number(self) -> u8 {
         self as u8
     }

@@ -2,8 +2,8 @@
 //! Input may come in blocks of any size; no line is held longer than the longest well-formed one.
 
 use crate::engine::{apply, Event};
-use crate::outcome::Returned;
-use crate::table::{Operation, Table};
+use crate::outcome::{Outcome, Returned};
+use crate::table::{Given, Operation, Table};
 use std::io::{self, Read, Write};
 
 /// The length of `V 65535 65535 65535`, the longest line of the form, without its newline.
@@ -28,13 +28,24 @@ pub enum Line {
 
 /// The fresh table that a schedule's header asks for, and the lines behind it; nothing where there is no good header.
 pub fn open_schedule(input: &[u8]) -> Option<(Table, impl Iterator<Item = Option<Line>> + '_)> {
+    open_given(input, &Given::default())
+}
+
+/// The same, where the table is given more than the header says.
+pub fn open_given<'a>(
+    input: &'a [u8],
+    given: &Given,
+) -> Option<(Table, impl Iterator<Item = Option<Line>> + use<'a>)> {
     let mut lines = split_lines(input).map(read_ended_line);
     match lines.next()?? {
         Line::Header {
             threads,
             objects,
             reserved,
-        } => Some((Table::fresh(threads, objects, reserved).ok()?, lines)),
+        } => {
+            let table = Table::fresh_given(threads, objects, reserved, given);
+            Some((table.ok()?, lines))
+        }
         Line::Event(_) => None,
     }
 }
@@ -230,20 +241,34 @@ fn header(line: &[u8], output: &mut Vec<u8>) -> State {
 }
 
 fn event_line(table: &mut Table, event: Event, output: &mut Vec<u8>) {
-    // A finishing step clears the record, so a step's object is read before it.
-    let at = match event {
-        Event::Begin { thread, object, .. } => Some((thread, object as u8)),
-        Event::Step { thread } => Some((thread, object_of(table, thread))),
-        Event::Tick => None,
-    };
+    let place = place_of(table, event);
     let outcome = apply(table, event);
+    print_answer(place, outcome, table, output);
+}
+
+/// The thread of an event and its object, by the table before: a finishing step clears the record.
+pub fn place_of(before: &Table, event: Event) -> Option<(u16, u8)> {
+    match event {
+        Event::Begin { thread, object, .. } => Some((thread, object as u8)),
+        Event::Step { thread } => Some((thread, object_of(before, thread))),
+        Event::Tick => None,
+    }
+}
+
+/// Prints the answer to an event at a place, by the table after it.
+pub fn print_answer(
+    place: Option<(u16, u8)>,
+    outcome: Outcome,
+    after: &Table,
+    output: &mut Vec<u8>,
+) {
     if outcome.returned.is_refusal() {
         return print_number_alone(outcome.returned, output);
     }
     print_decimal(outcome.returned.number(), output);
-    if let Some((thread, object)) = at {
-        let phase = table.thread(thread as u8).phase.number();
-        print_place(phase, outcome.woken, table.object(object).word, output);
+    if let Some((thread, object)) = place {
+        let phase = after.thread(thread as u8).phase.number();
+        print_place(phase, outcome.woken, after.object(object).word, output);
     }
     output.push(b' ');
     print_hexadecimal::<SET_DIGITS>(outcome.unparked.bits(), output);

@@ -3,11 +3,12 @@
 
 use crate::dispatch::{Input, Script, MAX_QUANTUM, OPERATION_SIZE};
 use crate::engine::apply;
-use crate::generate::{schedule, size, some_of, UNTIMED};
+use crate::generate::{given_schedule, size, some_of, UNTIMED};
+use crate::given::{draw_given, read_given};
 use crate::outcome::Returned;
 use crate::random::Random;
-use crate::replay::{open_schedule, Line};
-use crate::table::{Operation, Table, MAX_OBJECTS, MAX_THREADS};
+use crate::replay::{open_given, Line};
+use crate::table::{Given, Operation, Table, MAX_OBJECTS, MAX_THREADS};
 use crate::word::MAX_COUNT;
 
 /// Sizes up to which most tables go.
@@ -27,28 +28,30 @@ pub fn input(seed: u64) -> Input {
         true => reached_table(&mut random),
         false => None,
     };
-    let table = reached.unwrap_or_else(|| fresh_table(&mut random));
+    let table = reached.unwrap_or_else(|| fresh_table(&mut random, draw_given));
     input_on(&mut random, table)
 }
 
-/// The input of a seed on a fresh table.
+/// The input of a seed on a fresh table that was given nothing, as the replay has it.
 pub fn fresh_input(seed: u64) -> Input {
     let mut random = Random::new(seed);
-    let table = fresh_table(&mut random);
+    let table = fresh_table(&mut random, |_, _| Given::default());
     input_on(&mut random, table)
 }
 
-fn fresh_table(random: &mut Random) -> Table {
+fn fresh_table(random: &mut Random, draw_given: fn(&mut Random, u8) -> Given) -> Table {
     let threads = size(random, FEW_THREADS, MAX_THREADS);
     let objects = size(random, FEW_OBJECTS, MAX_OBJECTS);
     let reserved = random.percent(50);
-    Table::fresh(threads.into(), objects.into(), reserved).expect("sizes in range")
+    let given = draw_given(random, threads);
+    Table::fresh_given(threads.into(), objects.into(), reserved, &given)
+        .expect("sizes and ranks in range")
 }
 
 /// The table behind some events of a generated schedule; nothing where that has no good header.
 fn reached_table(random: &mut Random) -> Option<Table> {
-    let text = schedule(random.draw());
-    let (mut table, lines) = open_schedule(&text)?;
+    let text = given_schedule(random.draw());
+    let (mut table, lines) = open_given(&text, &read_given(&text))?;
     let length = random.between(1, MOST_EVENTS) as usize;
     for line in lines.take(length) {
         if let Some(Line::Event(event)) = line {

@@ -1,8 +1,8 @@
-//! Soundness of a table: one function for each clause of document 01, in its order, and one for the ticks of request L1.
+//! Soundness of a table: one function for each clause of document 01, in its order, one for the ticks of request L1, and two for the ranks of L8.
 //! Widths already rule out the rest: a flag is a bool, a depth sixteen bits, ticks too, a phase one of its enum.
 
 use crate::table::{Chain, ObjectRecord, Onward, Operation, Phase, Table, ThreadRecord};
-use crate::table::{MAX_OBJECTS, MAX_THREADS};
+use crate::table::{MAX_OBJECTS, MAX_RANK, MAX_THREADS};
 use crate::word::{LockWord, MAX_COUNT};
 
 pub fn is_sound(table: &Table) -> bool {
@@ -12,10 +12,12 @@ pub fn is_sound(table: &Table) -> bool {
         && kept_words_fit(table)
         && saved_depths_fit(table)
         && ticks_fit(table)
+        && ranks_in_range(table)
         && holders_in_range(table)
         && unheld_monitors_empty(table)
         && chains_end(table)
         && parked_threads_chained(table)
+        && entry_chains_fall(table)
         && unused_fields_zero(table)
 }
 
@@ -100,6 +102,10 @@ pub fn ticks_fit(table: &Table) -> bool {
     threads(table).all(|(_, record)| !record.has_run_out() || record.phase.is_woken())
 }
 
+pub fn ranks_in_range(table: &Table) -> bool {
+    threads(table).all(|(_, record)| record.rank <= MAX_RANK)
+}
+
 pub fn holders_in_range(table: &Table) -> bool {
     objects(table).all(|(_, record)| record.monitor.holder <= table.threads)
 }
@@ -151,6 +157,16 @@ pub fn parked_threads_chained(table: &Table) -> bool {
         }
     }
     threads(table).all(|(number, record)| !record.phase.is_parked() || met & bit_of(number) != 0)
+}
+
+/// Needs chains that end. Nobody is queued for entry behind a thread of lower rank; the other two chains have no ranks.
+pub fn entry_chains_fall(table: &Table) -> bool {
+    objects(table).all(|(object, _)| {
+        let ranks = table
+            .chain(object, Chain::Entry)
+            .map(|thread| table.thread(thread).rank);
+        ranks.is_sorted_by(|before, behind| before >= behind)
+    })
 }
 
 /// A thread's bit in a set of the thirty-two.

@@ -16,24 +16,37 @@ pub struct Suite<K: 'static> {
     /// All that the reference prints for an input.
     pub output: fn(&[u8]) -> Vec<u8>,
     pub long_cases: fn() -> Vec<Case>,
-    /// The input of a seed.
-    pub generate: fn(u64) -> Vec<u8>,
+    /// For the reference alone, and for another program beside it.
+    pub alone: Generated<K>,
+    pub beside: Generated<K>,
     /// What must hold of the reference's run on an input, and what was met there.
     pub demand: &'static str,
     pub check: fn(&[u8]) -> Result<Tally<K>, String>,
+}
+
+/// Inputs made from seeds.
+pub struct Generated<K: 'static> {
+    /// The input of a seed.
+    pub input: fn(u64) -> Vec<u8>,
     /// What a run of as many inputs as by default must have met.
     pub kinds: &'static [K],
 }
 
-/// The replay's suite.
+/// The replay's suite. The reference alone is also given ranks, which no program takes.
 pub const REPLAY: Suite<met::Rare> = Suite {
     input: "schedule",
     output: replay::replay,
     long_cases: long_cases::cases,
-    generate: generate::schedule,
+    alone: Generated {
+        input: generate::given_schedule,
+        kinds: &met::Rare::ALL,
+    },
+    beside: Generated {
+        input: generate::schedule,
+        kinds: met::Rare::without_ranks(),
+    },
     demand: "demand 3",
     check: checked::check_schedule,
-    kinds: &met::Rare::ALL,
 };
 
 /// The report's suite.
@@ -41,9 +54,14 @@ pub const REPORT: Suite<seen::Seen> = Suite {
     input: "report input",
     output: enters::report,
     long_cases: report_long_cases::cases,
-    generate: report_inputs::report_input,
+    alone: REPORT_INPUTS,
+    beside: REPORT_INPUTS,
     demand: "sums",
     check: enters_check::check_report,
+};
+
+const REPORT_INPUTS: Generated<seen::Seen> = Generated {
+    input: report_inputs::report_input,
     kinds: &seen::Seen::ALL,
 };
 
@@ -146,20 +164,28 @@ impl<'a, K: Kind> Run<'a, K> {
 
     /// Each generated input has a seed of its own, so that one that fails can be made again alone.
     fn check_generated(&mut self, count: u64, seed: u64, default_count: u64) {
+        let kinds = self.generated().kinds;
         let mut met = Tally::default();
         for place in 0..count {
             met.add_all(&self.check_seed(seed.wrapping_add(place)));
         }
-        met.print(self.suite.kinds);
+        met.print(kinds);
         if count >= default_count {
-            met.check(self.suite.kinds, &mut self.report);
+            met.check(kinds, &mut self.report);
+        }
+    }
+
+    fn generated(&self) -> &'a Generated<K> {
+        match self.program {
+            Some(_) => &self.suite.beside,
+            None => &self.suite.alone,
         }
     }
 
     /// The program by the reference's output, the reference by the demand. Gives what was met.
     fn check_seed(&mut self, seed: u64) -> Tally<K> {
         let suite = self.suite;
-        let input = (suite.generate)(seed);
+        let input = (self.generated().input)(seed);
         let name = format!("generated {} of seed {seed}", suite.input);
         if let Some(program) = self.program {
             let name = format!("{name}, program");

@@ -9,6 +9,8 @@ pub const MAX_OBJECTS: usize = 64;
 pub const MAX_DEPTH: u16 = u16::MAX;
 /// The longest limit of a timed wait, in ticks.
 pub const MAX_LIMIT: u16 = u16::MAX;
+/// The rank that goes before all others; the lowest is 0.
+pub const MAX_RANK: u8 = 3;
 
 #[derive(Clone, Copy, Debug, PartialEq, Eq, PartialOrd, Ord)]
 pub enum Operation {
@@ -160,6 +162,8 @@ pub struct ThreadRecord {
     pub next: u8,
     /// What a timed wait has left of its limit, 0 once it ran out; 0 of any other operation.
     pub ticks: u16,
+    /// Given with the fresh table, and the thread's in every phase.
+    pub rank: u8,
 }
 
 impl ThreadRecord {
@@ -208,6 +212,13 @@ pub struct ObjectRecord {
     pub monitor: Monitor,
 }
 
+/// What a fresh table is given besides its sizes and its kind of words.
+#[derive(Clone, Copy, Debug, Default, PartialEq, Eq)]
+pub struct Given {
+    /// The rank of thread n at place n − 1.
+    pub ranks: [u8; MAX_THREADS],
+}
+
 /// Threads and objects are numbered from 1; records past the two counts are all zero.
 #[derive(Clone, Debug, PartialEq, Eq)]
 pub struct Table {
@@ -218,12 +229,26 @@ pub struct Table {
 }
 
 impl Table {
-    /// A table with every thread idle and every word free or anonymously reserved.
+    /// A table with every thread idle, of rank 0, and every word free or anonymously reserved.
     pub fn fresh(threads: u16, objects: u16, reserved: bool) -> Result<Table, Returned> {
+        Table::fresh_given(threads, objects, reserved, &Given::default())
+    }
+
+    /// The same with what it is given. Nothing is read of what is given for threads that the table does not have.
+    pub fn fresh_given(
+        threads: u16,
+        objects: u16,
+        reserved: bool,
+        given: &Given,
+    ) -> Result<Table, Returned> {
         let sizes = (usize::from(threads), usize::from(objects));
         let (1..=MAX_THREADS, 1..=MAX_OBJECTS) = sizes else {
             return Err(Returned::SizesOutOfRange);
         };
+        let ranks = &given.ranks[..usize::from(threads)];
+        if ranks.iter().any(|rank| *rank > MAX_RANK) {
+            return Err(Returned::RankOutOfRange);
+        }
         let first_word = if reserved {
             LockWord::Anonymous
         } else {
@@ -235,6 +260,9 @@ impl Table {
             thread_records: [ThreadRecord::default(); MAX_THREADS],
             object_records: [ObjectRecord::default(); MAX_OBJECTS],
         };
+        for (record, rank) in table.thread_records.iter_mut().zip(ranks) {
+            record.rank = *rank;
+        }
         for record in &mut table.object_records[..usize::from(objects)] {
             record.word = first_word.encode();
         }
@@ -294,22 +322,37 @@ impl Table {
             .take(MAX_THREADS)
     }
 
-    /// Puts a thread at the end of a chain.
+    /// Puts a thread into a chain: at the end, but in the entry chain behind the last thread of its own rank or a higher one.
     pub fn join(&mut self, object: u8, chain: Chain, thread: u8) {
-        match self.chain(object, chain).last() {
-            Some(last) => self.thread_mut(last).next = thread,
-            None => *self.object_mut(object).monitor.first_mut(chain) = thread,
-        }
+        let rank = self.thread(thread).rank;
+        let goes_first = |other: &u8| chain != Chain::Entry || self.thread(*other).rank >= rank;
+        let link = match self.chain(object, chain).filter(goes_first).last() {
+            Some(before) => &mut self.thread_mut(before).next,
+            None => self.object_mut(object).monitor.first_mut(chain),
+        };
+        let behind = std::mem::replace(link, thread);
+        self.thread_mut(thread).next = behind;
     }
 
     /// Takes the first thread out of a chain.
     pub fn take_first(&mut self, object: u8, chain: Chain) -> Option<u8> {
-        let thread = self.object(object).monitor.first(chain);
+        self.take_behind(object, chain, None)
+    }
+
+    /// Takes out of a chain the thread right behind another of it, or the first.
+    fn take_behind(&mut self, object: u8, chain: Chain, before: Option<u8>) -> Option<u8> {
+        let thread = match before {
+            Some(before) => self.thread(before).next,
+            None => self.object(object).monitor.first(chain),
+        };
         if thread == 0 {
             return None;
         }
-        let next = std::mem::take(&mut self.thread_mut(thread).next);
-        *self.object_mut(object).monitor.first_mut(chain) = next;
+        let behind = std::mem::take(&mut self.thread_mut(thread).next);
+        match before {
+            Some(before) => self.thread_mut(before).next = behind,
+            None => *self.object_mut(object).monitor.first_mut(chain) = behind,
+        }
         Some(thread)
     }
 
@@ -320,26 +363,28 @@ impl Table {
         chain: Chain,
         picked: impl Fn(&mut ThreadRecord) -> bool,
     ) -> Vec<u8> {
-        let mut out = Vec::new();
-        for _ in 0..self.chain(object, chain).count() {
-            let Some(thread) = self.take_first(object, chain) else {
-                break;
-            };
+        let (mut out, mut last_kept) = (Vec::new(), None);
+        for thread in self.chain(object, chain).collect::<Vec<u8>>() {
             if picked(self.thread_mut(thread)) {
+                self.take_behind(object, chain, last_kept);
                 out.push(thread);
             } else {
-                self.join(object, chain, thread);
+                last_kept = Some(thread);
             }
         }
         out
     }
 
-    /// Ends what the thread is at: all its fields are zero. It must be in no chain.
+    /// Ends what the thread is at: all its fields are zero but what it was given with the fresh table. It must be in no chain.
     pub fn make_idle(&mut self, thread: u8) {
-        *self.thread_mut(thread) = ThreadRecord::default();
+        let record = self.thread_mut(thread);
+        *record = ThreadRecord {
+            rank: record.rank,
+            ..ThreadRecord::default()
+        };
     }
 
-    /// Parks a thread at the end of the entry chain, with the phase it goes on with.
+    /// Parks a thread in the entry chain, with the phase it goes on with.
     pub fn queue(&mut self, object: u8, thread: u8, onward: Onward) {
         self.thread_mut(thread).phase = Phase::Queued(onward);
         self.join(object, Chain::Entry, thread);

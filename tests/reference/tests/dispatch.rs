@@ -103,6 +103,26 @@ fn threads_take_turns_in_rising_number() {
     }
 }
 
+/// Thread 3 owns object 1 by its monitor when the others queue up for it, thread 1 first. It goes to thread 2 if that has the higher rank.
+#[test]
+fn a_higher_rank_gets_the_monitor_first() {
+    let work: Scripted = &[(ENTER, 1), (EXIT, 1)];
+    for (rank, expected) in [
+        (0, [1, 1, 2, 2, 3, 3, 1, 1, 1, 2, 2, 2]),
+        (3, [1, 1, 2, 2, 3, 3, 2, 2, 2, 1, 1, 1]),
+    ] {
+        let mut table = fresh(3, 1);
+        table.object_mut(1).word = FAT;
+        (
+            table.object_mut(1).monitor.holder,
+            table.object_mut(1).monitor.depth,
+        ) = (3, 1);
+        table.thread_mut(2).rank = rank;
+        let run = run(&with_scripts(table, 3, &[work, work, &[(EXIT, 1)]]));
+        assert_eq!(threads(&run), expected);
+    }
+}
+
 #[test]
 fn a_park_ends_the_turn_and_an_end_with_parked_threads_returns_0() {
     let scripts: [Scripted; 3] = [&[(ENTER, 1)], &[(ENTER, 1), (EXIT, 1)], &[(ENTER, 2)]];

@@ -5,14 +5,15 @@ mod common;
 use common::each_event;
 use reference::checked::check_schedule;
 use reference::engine::Event;
-use reference::generate::{long_schedule, schedule};
+use reference::generate::{given_schedule, long_schedule, schedule};
 use reference::met::{Met, Rare};
 use reference::outcome::{Outcome, Returned};
 use reference::shrink::shrink;
 use reference::table::{Onward, Operation, Phase, Table, ThreadRecord, MAX_LIMIT};
 use std::collections::BTreeSet;
+use std::ops::Range;
 
-const SEEDS: std::ops::Range<u64> = 0..400;
+const SEEDS: Range<u64> = 0..400;
 
 /// The phases stepped from and the numbers returned in a schedule.
 fn visit(input: &[u8], phases: &mut BTreeSet<u8>, numbers: &mut BTreeSet<u8>) {
@@ -155,26 +156,36 @@ fn a_seed_makes_one_schedule() {
     assert_ne!(schedule(7), schedule(8));
 }
 
-/// And what is rare is met often enough, for a fifth of what the cross-check runs; exits that end without going in, twice as often.
-#[test]
-fn demand_3_holds() {
+/// Demand 3 holds of generated schedules, and they meet what is rare often enough.
+fn meet(generate: fn(u64) -> Vec<u8>, seeds: Range<u64>, least: fn(Rare) -> u64) {
     let mut met = Met::default();
-    for seed in SEEDS {
-        match check_schedule(&schedule(seed)) {
+    for seed in seeds {
+        match check_schedule(&generate(seed)) {
             Ok(found) => met.add_all(&found),
             Err(wrong) => panic!("seed {seed}: {wrong}"),
         }
     }
     for rare in Rare::ALL {
-        let least = match rare {
-            Rare::EndedAtTheFlag
-            | Rare::LetOutAtCheck
-            | Rare::LetOutAtTry
-            | Rare::LetOutAtInflate => 40,
-            _ => 20,
-        };
-        assert!(met.number(rare) >= least, "{rare:?}: {met:?}");
+        assert!(met.number(rare) >= least(rare), "{rare:?}: {met:?}");
     }
+}
+
+/// A fifth of what the cross-check runs, without ranks; exits that end without going in, twice as often.
+#[test]
+fn demand_3_holds() {
+    meet(schedule, SEEDS, |rare| match rare {
+        rare if Rare::by_rank().contains(&rare) => 0,
+        Rare::EndedAtTheFlag | Rare::LetOutAtCheck | Rare::LetOutAtTry | Rare::LetOutAtInflate => {
+            40
+        }
+        _ => 20,
+    });
+}
+
+/// A fifth of what the self-check runs.
+#[test]
+fn demand_3_holds_with_ranks() {
+    meet(given_schedule, 0..1_000, |_| 20);
 }
 
 #[test]

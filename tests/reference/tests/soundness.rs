@@ -2,11 +2,11 @@
 
 mod common;
 
-use common::{fresh, place, with_monitor, with_word, OBJECTS, THREADS};
+use common::{fresh, park, place, with_monitor, with_word, ENTER_QUEUED, OBJECTS, THREADS};
 use reference::engine::{begin, step, tick};
 use reference::outcome::Returned;
 use reference::sound;
-use reference::table::{Onward, Operation, Phase, Table, ThreadRecord};
+use reference::table::{Onward, Operation, Phase, Table, ThreadRecord, MAX_THREADS};
 
 type Clause = fn(&Table) -> bool;
 
@@ -183,6 +183,73 @@ fn ticks() {
 }
 
 #[test]
+fn ranks() {
+    for rank in 1..=3 {
+        for table in [fresh(), crowded(), storing(Operation::Enter, 0x000202)] {
+            let table = altered(table, |table| table.thread_mut(2).rank = rank);
+            assert!(sound::is_sound(&table));
+        }
+    }
+    for rank in [4, 5, u8::MAX] {
+        for thread in [1, THREADS] {
+            let above = |table: &mut Table| table.thread_mut(thread).rank = rank;
+            refused(sound::ranks_in_range, altered(fresh(), above));
+            refused(sound::ranks_in_range, altered(crowded(), above));
+        }
+    }
+}
+
+/// Threads 2, 3 and 4 are parked in one chain of object 1, in this order, and have these ranks.
+fn in_chain(parked: (Operation, Phase), ranks: [u8; 3]) -> Table {
+    let mut table = with_monitor(1, 1);
+    for thread in 2..=4 {
+        park(&mut table, thread, parked);
+    }
+    for (thread, rank) in (2..).zip(ranks) {
+        table.thread_mut(thread).rank = rank;
+    }
+    table
+}
+
+/// Neither at the first link nor at a later one. A wrong program: it asks for rising ranks.
+#[test]
+fn entry_chains_do_not_rise() {
+    for ranks in [[0, 0, 0], [3, 3, 3], [3, 2, 1], [3, 3, 0], [2, 0, 0]] {
+        assert!(sound::is_sound(&in_chain(ENTER_QUEUED, ranks)), "{ranks:?}");
+    }
+    let rising = [
+        [0, 1, 0],
+        [0, 1, 1],
+        [0, 1, 2],
+        [1, 1, 2],
+        [3, 0, 1],
+        [2, 3, 0],
+    ];
+    let contending = (Operation::Enter, Phase::Contending);
+    let waiting = (Operation::Wait, Phase::Waiting);
+    for ranks in rising {
+        refused(sound::entry_chains_fall, in_chain(ENTER_QUEUED, ranks));
+        for unranked in [contending, waiting] {
+            assert!(sound::is_sound(&in_chain(unranked, ranks)), "{ranks:?}");
+        }
+    }
+}
+
+/// Those of every object.
+#[test]
+fn entry_chains_of_later_objects_do_not_rise_either() {
+    let mut table = in_chain(ENTER_QUEUED, [0, 1, 0]);
+    for thread in 2..=4 {
+        table.thread_mut(thread).object = 2;
+    }
+    table.object_mut(2).monitor = table.object(1).monitor;
+    table.object_mut(1).monitor.entry = 0;
+    refused(sound::entry_chains_fall, table.clone());
+    table.thread_mut(3).rank = 0;
+    assert!(sound::is_sound(&table));
+}
+
+#[test]
 fn holders() {
     let past = |table: &mut Table| table.object_mut(1).monitor.holder = THREADS + 1;
     refused(sound::holders_in_range, altered(fresh(), past));
@@ -262,6 +329,10 @@ fn records_past_the_sizes() {
             table.thread_records[past_threads].ticks = 1
         }),
     );
+    for place in [past_threads, MAX_THREADS - 1] {
+        let rank = |table: &mut Table| table.thread_records[place].rank = 1;
+        refused(clause, altered(fresh(), rank));
+    }
     refused(
         clause,
         altered(fresh(), |table| table.object_records[past_objects].word = 2),

@@ -81,6 +81,7 @@ pub fn cases() -> Vec<Case> {
     cases.extend(timed_cases());
     cases.extend(inflating_cases());
     cases.extend(going_in_cases());
+    cases.extend(ranked_cases());
     cases
         .into_iter()
         .map(|(number, table, event)| Case {
@@ -197,10 +198,44 @@ fn going_in_cases() -> Vec<(u8, Table, Event)> {
     ]
 }
 
-/// Tables to be asked about: a thread behind another in each chain, a timed wait, a monitor at a depth that nobody holds, which is no owner's, and words
-/// that few made tables have.
+/// The same with the ranks of the two threads.
+fn ranked(mut table: Table, one: u8, other: u8) -> Table {
+    table.thread_mut(ONE).rank = one;
+    table.thread_mut(OTHER).rank = other;
+    table
+}
+
+/// Both threads in one chain, thread one first, whose monitor it holds.
+fn both_in(chain: Chain, one: u8, other: u8) -> Table {
+    held(ranked(chained(chain), one, other), FAT, ONE, 1)
+}
+
+/// Ranks above 3, past the last thread and rising in an entry chain are not sound; in the other chains they may rise. Thread one, which is about to go
+/// in, passes the other.
+fn ranked_cases() -> Vec<(u8, Table, Event)> {
+    let mut past = fresh();
+    past.thread_records[usize::from(OTHER)].rank = 1;
+    let mut passing = held(both_in(Chain::Entry, 0, 0), FAT, OTHER, 1);
+    passing.object_mut(OBJECT).monitor.entry = OTHER;
+    *passing.thread_mut(ONE) = *at(Operation::Enter, Phase::GoIn).thread(ONE);
+    vec![
+        (0, ranked(fresh(), 3, 3), begin(1, 1, 1)),
+        (2, ranked(passing, 1, 0), step(1)),
+        (11, ranked(fresh(), 4, 0), begin(1, 1, 1)),
+        (11, ranked(fresh(), 0, 4), Event::Tick),
+        (11, past, Event::Tick),
+        (11, both_in(Chain::Entry, 0, 1), step(1)),
+        (16, both_in(Chain::Entry, 1, 0), step(1)),
+        (16, both_in(Chain::Contention, 0, 1), step(1)),
+        (16, both_in(Chain::Waiting, 0, 1), step(1)),
+    ]
+}
+
+/// Tables to be asked about: ranks, a thread behind another in each chain, a timed wait, a monitor at a depth that nobody holds, which is no owner's, and
+/// words that few made tables have.
 pub fn asked_about() -> Vec<Table> {
     let mut tables: Vec<Table> = Chain::ALL.into_iter().map(chained).collect();
+    tables.push(ranked(fresh(), 2, 3));
     tables.push(at(Operation::TimedWait, Phase::Waiting));
     tables.push(held(fresh(), FAT, 0, 5));
     // The other thread holds the monitor of an object that the queued one owns itself, and of one that nobody owns.

@@ -6,12 +6,14 @@ use crate::layout::{decode, encode, TABLE_SIZE};
 use crate::made::{any_bytes, random_bytes, KINDS};
 use crate::questions::QUESTIONS;
 use duskclamp::raw;
+use reference::chain_order::ChainOrder;
 use reference::engine::{apply, Event};
 use reference::met::{Met, Rare};
-use reference::outcome::Outcome;
+use reference::outcome::{Outcome, Returned};
 use reference::random::Random;
 use reference::report::{compare_outputs, Report};
-use reference::table::Table;
+use reference::table::{Given, Table, MAX_RANK, MAX_THREADS};
+use reference::thread_set::ThreadSet;
 use reference::unparked::unparked;
 use reference::{generate, program, replay};
 use std::process::ExitCode;
@@ -62,8 +64,11 @@ impl Run {
                 self.note(|| format!("table {place} to be asked about"), result);
             }
         }
+        let above = Some(vec![0, MAX_RANK + 1]);
         for length in [TABLE_SIZE - 1, TABLE_SIZE] {
-            self.check_fresh(vec![0; length], 33, 1, false);
+            for (threads, given) in [(33, None), (33, above.clone()), (2, above.clone())] {
+                self.check_fresh(vec![0; length], threads, 1, false, given);
+            }
         }
     }
 
@@ -148,6 +153,7 @@ impl Run {
                 let outcome = apply(&mut after, event);
                 if !outcome.returned.is_refusal() {
                     self.met.note(before, &after, event, outcome)?;
+                    ChainOrder::new(before).feed(before, &after, event, &mut self.met)?;
                 }
                 (packed(outcome), encode(&after))
             }
@@ -208,7 +214,7 @@ impl Run {
         [kind, thread, operation, object, low, second, third, high]
     }
 
-    /// A fresh table of sizes in range or not, over bytes of any length.
+    /// A fresh table of sizes in range or not, with ranks in range or not, over bytes of any length.
     pub fn check_any_fresh(&mut self) {
         let threads = self
             .random
@@ -218,24 +224,63 @@ impl Run {
             .pick(&[0, 1, 2, 63, 64, 65, 255, 256, 257, 65_535]);
         let reserved = self.random.percent(50);
         let before = random_bytes(&mut self.random);
-        self.check_fresh(before, threads, objects, reserved);
+        let given = self.given_bytes();
+        self.check_fresh(before.clone(), threads, objects, reserved, None);
+        self.check_fresh(before, threads, objects, reserved, Some(given));
     }
 
-    fn check_fresh(&mut self, before: Vec<u8>, threads: u16, objects: u16, reserved: bool) {
-        let made = Table::fresh(threads, objects, reserved);
+    /// What a fresh table is given: as many bytes as it reads, or fewer or more. Mostly all are ranks; else a few are not.
+    fn given_bytes(&mut self) -> Vec<u8> {
+        let any = self.random.between(0, 2 * MAX_THREADS as u64) as usize;
+        let length = self.random.pick(&[MAX_THREADS, MAX_THREADS, any]);
+        let above = self.random.pick(&[0, 0, 2, 20]);
+        let mut given = Vec::new();
+        for place in 0..length {
+            let rank = self.random.between(0, MAX_RANK.into()) as u8;
+            let is_above = place >= MAX_THREADS || self.random.percent(above);
+            given.push(if is_above {
+                self.random.pick(&[MAX_RANK + 1, 0x80, 0xff])
+            } else {
+                rank
+            });
+        }
+        given
+    }
+
+    /// By the call that takes what is given, or where nothing is by the one that does not.
+    fn check_fresh(
+        &mut self,
+        before: Vec<u8>,
+        threads: u16,
+        objects: u16,
+        reserved: bool,
+        given: Option<Vec<u8>>,
+    ) {
+        let mut ranks = [0; MAX_THREADS];
+        for (rank, byte) in ranks.iter_mut().zip(given.iter().flatten()) {
+            *rank = *byte;
+        }
+        let made = Table::fresh_given(threads, objects, reserved, &Given { ranks });
         let (expected, expected_bytes) = match made {
             _ if before.len() != TABLE_SIZE => (NOT_SOUND, before.clone()),
             Ok(table) => (0, encode(&table)),
             Err(returned) => (returned.number(), before.clone()),
         };
         let mut bytes = before;
-        let given = raw::fresh(&mut bytes, threads.into(), objects.into(), reserved.into());
-        self.returned[given as usize] += 1;
-        let result = match given == expected.into() {
-            true => compare_bytes(&bytes, &expected_bytes),
-            false => Err(format!("answer {given}, by the second engine {expected}")),
+        let (number, objects, words) = (threads.into(), objects.into(), reserved.into());
+        let returned = match &given {
+            None => raw::fresh(&mut bytes, number, objects, words),
+            Some(given) => raw::fresh_given(&mut bytes, number, objects, words, given),
         };
-        self.note(|| format!("fresh table of {threads} and {objects}"), result);
+        self.returned[returned as usize] += 1;
+        let result = match returned == expected.into() {
+            true => compare_bytes(&bytes, &expected_bytes),
+            false => Err(format!(
+                "answer {returned}, by the second engine {expected}"
+            )),
+        };
+        let name = || format!("fresh table of {threads} and {objects}, given {given:?}");
+        self.note(name, result);
     }
 
     /// A generated schedule with malformed lines strewn in, by both replays.
@@ -258,7 +303,7 @@ impl Run {
 
     /// Each number must have come up, which `check_cases` sees to.
     pub fn finish(mut self, replayed: bool) -> ExitCode {
-        let numbers = [0, 1, 2].into_iter().chain(11..=23);
+        let numbers = [0, 1, 2].into_iter().chain(11..=23).chain([27]);
         for number in numbers.filter(|number| *number != 21 || replayed) {
             let times = self.returned[number];
             println!("returned {number}: {times}");
@@ -282,6 +327,17 @@ pub fn packed(outcome: Outcome) -> u64 {
     returned | woken | commits | set
 }
 
+/// The second program's outcome for an answer of the library; nothing where it returned no number.
+pub fn unpacked(answer: u64) -> Option<Outcome> {
+    let unparked = ThreadSet::from_bits((answer >> 32) as u32);
+    let outcome = Outcome {
+        woken: (answer >> 8) as u8,
+        committed: answer >> 16 & 1 == 1,
+        ..Outcome::of(Returned::from_number(answer as u8)?).unparking(unparked)
+    };
+    (packed(outcome) == answer).then_some(outcome)
+}
+
 /// The library's set by the tables around its event alone. One that is not sound may have numbers past its records, and stays as it is.
 fn check_set(before: Option<Table>, after: &[u8], answer: u64) -> Result<(), String> {
     let expected = match (before, decode(after)) {
@@ -297,7 +353,7 @@ fn check_set(before: Option<Table>, after: &[u8], answer: u64) -> Result<(), Str
 }
 
 /// The event by its call. A timed wait without a limit is begun as any other operation is, which passes the limit 0.
-fn call(bytes: &mut [u8], event: Event) -> u64 {
+pub fn call(bytes: &mut [u8], event: Event) -> u64 {
     match event {
         Event::Begin {
             thread,

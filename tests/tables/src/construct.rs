@@ -1,5 +1,7 @@
 //! Sound tables made by construction, most of which no schedule reaches: words, monitors and phases are drawn apart from each other.
 
+use crate::passing::passing_table;
+use reference::given::draw_given;
 use reference::random::Random;
 use reference::table::{Onward, Operation, Phase, Table, ThreadRecord, MAX_DEPTH, MAX_LIMIT};
 use reference::word::{LockWord, MAX_COUNT};
@@ -8,12 +10,17 @@ use reference::word::{LockWord, MAX_COUNT};
 const FEW_THREADS: u64 = 4;
 const FEW_OBJECTS: u64 = 3;
 /// In percent of tables, how often a thread is about to inflate or to hand, and how often many waits run out with the next tick.
-const ACTING: u64 = 30;
+const ACTING: u64 = 40;
 const DUE: u64 = 20;
+/// In percent, how often a table is one on which threads pass others by rank.
+const PASSING: u64 = 22;
 /// In percent, how often each other thread there is parked behind the one about to act, or is one of those waits.
 const PARKED: u64 = 70;
 
 pub fn sound_table(random: &mut Random) -> Table {
+    if random.percent(PASSING) {
+        return passing_table(random);
+    }
     let mut table = fresh_table(random);
     for object in 1..=table.objects {
         draw_object(random, &mut table, object);
@@ -45,7 +52,9 @@ fn fresh_table(random: &mut Random) -> Table {
             random.between(1, FEW_OBJECTS),
         ),
     };
-    Table::fresh(threads as u16, objects as u16, false).expect("sizes in range")
+    let given = draw_given(random, threads as u8);
+    Table::fresh_given(threads as u16, objects as u16, false, &given)
+        .expect("sizes and ranks in range")
 }
 
 /// Any thread's number.
@@ -138,15 +147,16 @@ fn draw_thread(random: &mut Random, table: &mut Table, thread: u8) {
             true => random.between(1, MAX_DEPTH.into()) as u16,
             false => 0,
         },
-        next: 0,
         ticks: ticks(random, operation, phase),
+        ..ThreadRecord::default()
     };
     put(table, thread, record);
 }
 
-/// Gives a thread its record, and its place at the end of the chain that its phase names.
+/// Gives a thread its record, with the rank that it has, and its place in the chain that its phase names.
 fn put(table: &mut Table, thread: u8, record: ThreadRecord) {
-    *table.thread_mut(thread) = record;
+    let rank = table.thread(thread).rank;
+    *table.thread_mut(thread) = ThreadRecord { rank, ..record };
     if let Some(chain) = record.phase.chain() {
         table.join(record.object, chain, thread);
     }

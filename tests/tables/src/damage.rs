@@ -1,8 +1,8 @@
-//! The fields of a table by their places in its bytes, and damage done to one of them.
+//! The fields of a table by their places in its bytes, and damage done to one of them; and chains whose ranks are made to rise.
 
 use crate::layout::{OBJECTS_START, OBJECT_SIZE, THREADS_START, THREAD_SIZE};
 use reference::random::Random;
-use reference::table::{MAX_OBJECTS, MAX_THREADS};
+use reference::table::{Chain, Table, MAX_OBJECTS, MAX_RANK, MAX_THREADS};
 
 #[derive(Clone, Copy, Debug)]
 pub struct Field {
@@ -11,7 +11,7 @@ pub struct Field {
 }
 
 /// Offset and width of the fields of a thread's and of an object's record.
-const THREAD_FIELDS: [(usize, usize); 8] = [
+const THREAD_FIELDS: [(usize, usize); 9] = [
     (0, 1),
     (1, 1),
     (2, 1),
@@ -20,9 +20,13 @@ const THREAD_FIELDS: [(usize, usize); 8] = [
     (8, 2),
     (10, 1),
     (11, 2),
+    (13, 1),
 ];
 const OBJECT_FIELDS: [(usize, usize); 7] =
     [(0, 4), (4, 1), (5, 1), (6, 2), (8, 1), (9, 1), (10, 1)];
+
+/// How many fields the two sizes and the first four threads have.
+pub const FIRST_FIELDS: usize = 2 + 4 * THREAD_FIELDS.len();
 
 /// All fields: the two sizes, then those of each record.
 pub fn fields() -> Vec<Field> {
@@ -66,4 +70,25 @@ pub fn damage(random: &mut Random, bytes: &mut [u8], field: Field) {
     ];
     let new = random.pick(&choices).to_le_bytes();
     bytes[place].copy_from_slice(&new[..field.width]);
+}
+
+/// Makes the ranks rise at one link of a chain, if one has two threads: in an entry chain that is damage, in the others not.
+pub fn raise(random: &mut Random, table: &mut Table) {
+    let chains = (1..=table.objects).flat_map(|object| Chain::ALL.map(|chain| (object, chain)));
+    let links: Vec<(u8, u8)> = chains
+        .flat_map(|(object, chain)| {
+            let threads: Vec<u8> = table.chain(object, chain).collect();
+            threads
+                .windows(2)
+                .map(|pair| (pair[0], pair[1]))
+                .collect::<Vec<_>>()
+        })
+        .collect();
+    if links.is_empty() {
+        return;
+    }
+    let (before, behind) = random.pick(&links);
+    let low = random.between(0, u64::from(MAX_RANK) - 1) as u8;
+    table.thread_mut(before).rank = low;
+    table.thread_mut(behind).rank = random.between(u64::from(low) + 1, MAX_RANK.into()) as u8;
 }

@@ -5,7 +5,7 @@ use reference::table::{
     Monitor, ObjectRecord, Onward, Operation, Phase, Table, ThreadRecord, MAX_OBJECTS, MAX_THREADS,
 };
 
-pub const THREAD_SIZE: usize = 13;
+pub const THREAD_SIZE: usize = 14;
 pub const OBJECT_SIZE: usize = 11;
 pub const THREADS_START: usize = 2;
 pub const OBJECTS_START: usize = THREADS_START + MAX_THREADS * THREAD_SIZE;
@@ -79,6 +79,7 @@ fn decode_thread(bytes: &[u8]) -> Option<ThreadRecord> {
         saved_depth: u16::from_le_bytes(bytes[8..10].try_into().ok()?),
         next: bytes[10],
         ticks: u16::from_le_bytes(bytes[11..13].try_into().ok()?),
+        rank: bytes[13],
     })
 }
 
@@ -118,6 +119,7 @@ pub fn encode(table: &Table) -> Vec<u8> {
         bytes.extend(record.saved_depth.to_le_bytes());
         bytes.push(record.next);
         bytes.extend(record.ticks.to_le_bytes());
+        bytes.push(record.rank);
     }
     for record in &table.object_records {
         let monitor = &record.monitor;

@@ -10,5 +10,6 @@ pub mod dispatches;
 pub mod drawn;
 pub mod layout;
 pub mod made;
+pub mod passing;
 pub mod questions;
 pub mod read_only;

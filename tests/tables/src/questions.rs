@@ -43,7 +43,7 @@ const fn object(
     }
 }
 
-pub const QUESTIONS: [Question; 22] = [
+pub const QUESTIONS: [Question; 23] = [
     Question {
         name: "thread count",
         given: |bytes, _| raw::thread_count(bytes),
@@ -68,6 +68,7 @@ pub const QUESTIONS: [Question; 22] = [
     }),
     thread("next", raw::next, |_, record, _| record.next.into()),
     thread("ticks", raw::ticks, |_, record, _| record.ticks.into()),
+    thread("rank", raw::rank, |_, record, _| record.rank.into()),
     thread("blocker", raw::blocker, blocker),
     object("word", raw::word, |record| record.word),
     object("kind", raw::word_kind, |record| kind_and_named(record).0),

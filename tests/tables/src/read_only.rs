@@ -32,6 +32,15 @@ extern "C" {
         objects: u32,
         reserved: u32,
     ) -> u32;
+    fn duskclamp_fresh_given(
+        bytes: *mut u8,
+        length: usize,
+        threads: u32,
+        objects: u32,
+        reserved: u32,
+        given: *const u8,
+        given_length: usize,
+    ) -> u32;
     fn duskclamp_begin(
         bytes: *mut u8,
         length: usize,
@@ -108,10 +117,17 @@ impl ReadOnly {
         unsafe { std::slice::from_raw_parts(self.start, self.length) }
     }
 
-    // SAFETY, of the seven calls: the bytes may be read, and the library is expected to store nothing; if it does, the process ends.
+    // SAFETY, of the eight calls: the bytes may be read, and the library is expected to store nothing; if it does, the process ends.
 
     pub fn fresh(&self, threads: u32, objects: u32) -> u32 {
         unsafe { duskclamp_fresh(self.start, self.length, threads, objects, 0) }
+    }
+
+    pub fn fresh_given(&self, threads: u32, objects: u32, given: &[u8]) -> u32 {
+        let (bytes, length) = (given.as_ptr(), given.len());
+        unsafe {
+            duskclamp_fresh_given(self.start, self.length, threads, objects, 0, bytes, length)
+        }
     }
 
     pub fn begin(&self, thread: u32, operation: u32, object: u32) -> u64 {

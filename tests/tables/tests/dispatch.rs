@@ -86,6 +86,34 @@ fn a_thread_parks_and_is_handed_the_monitor() {
     assert_eq!(bytes, fresh(2, 2));
 }
 
+/// Thread 3 owns object 1 by its monitor when thread 1 queues up for it, and then thread 2, whose rank is higher: it is handed the monitor first.
+#[test]
+fn a_thread_passes_another_by_its_rank() {
+    let mut table = Table::fresh(3, 1, false).expect("sizes in range");
+    table.thread_mut(2).rank = 3;
+    table.object_mut(1).word = 0x000101;
+    table.object_mut(1).monitor.holder = 3;
+    table.object_mut(1).monitor.depth = 1;
+    let cursors = [script(0, 2, 0), script(0, 2, 0), script(1, 1, 0)];
+    let (trace, cursors) = run(&mut encode(&table), 3, &[ENTER, 1, EXIT, 1], &cursors);
+    let expected = [
+        0x0102_0000,
+        0x0100_0002,
+        0x0202_0000,
+        0x0200_0002,
+        0x0303_0000,
+        0x0000_0002_0300_0001,
+        0x0201_0001,
+        0x0203_0000,
+        0x0000_0001_0200_0001,
+        0x0101_0001,
+        0x0103_0000,
+        0x0100_0001,
+    ];
+    assert_eq!(trace, expected);
+    assert_eq!(cursors, [2, 2, 1]);
+}
+
 #[test]
 fn the_last_thread_and_the_last_object_are_reached() {
     let mut bytes = fresh(32, 64);
@@ -263,7 +291,7 @@ const NOTICED: usize = 20;
 fn every_mistake_would_be_noticed() {
     let fields = fields();
     let mut noticed = [0; Mistake::ALL.len()];
-    for seed in 0..2_000 {
+    for seed in 0..3_000 {
         let drawn = Drawn::any(&mut Random::new(seed), &fields, seed);
         if !drawn.is_table {
             continue;

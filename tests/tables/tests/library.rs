@@ -27,6 +27,27 @@ fn the_two_engines_agree() {
     assert_eq!(run.finish(false), ExitCode::SUCCESS);
 }
 
+/// A table is so long by the header and by the library, which the layout here is compared with byte by byte.
+#[test]
+fn the_sizes_of_a_table_agree() {
+    assert_eq!(TABLE_SIZE, 1154);
+    assert_eq!(
+        (raw::table_size(), duskclamp::TABLE_SIZE),
+        (TABLE_SIZE, TABLE_SIZE)
+    );
+    let header = include_str!("../../../include/duskclamp.h");
+    assert!(header.contains(&format!("#define DUSKCLAMP_TABLE_SIZE {TABLE_SIZE}\n")));
+}
+
+/// The highest rank in the wrapper and in the header is the second engine's.
+#[test]
+fn the_highest_ranks_agree() {
+    let most = u32::from(reference::table::MAX_RANK);
+    assert_eq!(duskclamp::MAX_RANK, most);
+    let header = include_str!("../../../include/duskclamp.h");
+    assert!(header.contains(&format!("#define DUSKCLAMP_RANKS {most}\n")));
+}
+
 /// The number of steps in the wrapper and in the header is the one that the stress program holds the library to.
 #[test]
 fn the_numbers_of_steps_agree() {
@@ -180,6 +201,13 @@ fn refused_fresh_tables_store_nothing() {
     let whole = ReadOnly::new(&[0; TABLE_SIZE]);
     for (threads, objects) in [(0, 1), (33, 1), (1, 0), (1, 65), (u32::MAX, u32::MAX)] {
         assert_eq!(whole.fresh(threads, objects), 22);
+    }
+    for given in [&[4][..], &[0, 0xff], &[3; 64]] {
+        assert_eq!(short.fresh_given(2, 1, given), 11);
+        assert_eq!(whole.fresh_given(33, 1, given), 22);
+    }
+    for given in [&[4][..], &[0, 0xff], &[0, 4, 0]] {
+        assert_eq!(whole.fresh_given(2, 1, given), 27);
     }
     assert_eq!(whole.bytes(), [0; TABLE_SIZE]);
 }

@@ -40,11 +40,13 @@ pub fn with_monitor(holder: u8, depth: u16) -> Table {
 
 /// Puts a thread at a phase of an operation on object 1. A timed wait has one tick left.
 pub fn place(table: &mut Table, thread: u8, operation: Operation, phase: Phase) {
-    *table.thread_mut(thread) = ThreadRecord {
+    let record = table.thread_mut(thread);
+    *record = ThreadRecord {
         operation: Some(operation),
         object: 1,
         phase,
         ticks: u16::from(operation == Operation::TimedWait),
+        rank: record.rank,
         ..ThreadRecord::default()
     };
 }
@@ -58,7 +60,7 @@ pub fn held(word: u32, operation: Operation, phase: Phase) -> Table {
     table
 }
 
-/// Puts a thread at the end of the chain of its phase, with a depth of 7 saved where that has one.
+/// Puts a thread into the chain of its phase, with a depth of 7 saved where that has one.
 pub fn park(table: &mut Table, thread: u8, (operation, phase): (Operation, Phase)) {
     place(table, thread, operation, phase);
     if phase.uses_saved_depth() {

@@ -1,12 +1,15 @@
-//! Thirty-two threads of random operations through the wrapper, behind events that aim at exits which end without going in and at ticks that hand several
-//! monitors, with the plain monitors, an interpreter's run queue and the count of own steps as checks. Every other table takes the threads to be stepped
-//! from that queue alone. On the first tables all events aim at six steps of a thread.
+//! Thirty-two threads of random operations and ranks through the wrapper, behind events that aim at exits which end without going in, at contenders told
+//! while others are queued and at ticks that hand several monitors, with the second engine, the plain monitors, an interpreter's run queue, the count of
+//! own steps and the order of chains as checks. Every other table takes the threads to be stepped from that queue alone. On the first tables all events
+//! aim at six steps of a thread.
 //! Usage: stress [STEPS] [SEED]
 
 use duskclamp::{Answer, Operation, Phase, Refusal, Table, Words};
 use reference::arguments::count_and_seed;
+use reference::chain_order::ChainOrder;
 use reference::checked::check_table;
-use reference::engine::Event;
+use reference::engine::{apply, Event};
+use reference::given::draw_given;
 use reference::met::{Met, Rare};
 use reference::outcome::{Outcome, Returned};
 use reference::own_steps::{OwnSteps, Phases, Start, IDLE, PARKED};
@@ -14,25 +17,27 @@ use reference::plain::PlainMonitors;
 use reference::random::Random;
 use reference::report::Report;
 use reference::run_queue::CheckedQueue;
-use reference::table::MAX_OBJECTS;
+use reference::table::{self, MAX_OBJECTS};
 use reference::thread_set::ThreadSet;
-use reference::{aimed_exits, aimed_steps, aimed_ticks};
+use reference::{aimed_exits, aimed_steps, aimed_ticks, aimed_told};
 use std::collections::BTreeMap;
 use std::process::ExitCode;
-use tables::layout::{decode, phase_byte};
+use tables::compare::compare_bytes;
+use tables::layout::{decode, encode, phase_byte};
 
 const DEFAULT_STEPS: u64 = 10_000_000;
 const THREADS: u32 = 32;
 /// A table is left for a fresh one after so many events, or when all its threads are parked and no tick lets one go on soon.
 const ROUND: u64 = 100_000;
-/// Events between two comparisons of the whole table.
+/// Events between two comparisons of the whole table with plain monitors and run queue.
 const COMPARED: u64 = 64;
 /// On so many tables, the first, all events aim at exits and waits of six steps, once at each object. Few come up at random, since an object's
 /// reservation is cancelled for good.
 const STEP_TABLES: u64 = 12;
-/// How often each other table is begun with events that aim at exits which end without going in, and at ticks that hand several monitors. From so many
-/// steps on, a run must have met what is rare.
+/// How often each other table is begun with events that aim at exits which end without going in, at contenders told while others are queued, and at ticks
+/// that hand several monitors. From so many steps on, a run must have met what is rare.
 const EXIT_AIMS: u64 = 12;
+const TOLD_AIMS: u64 = 12;
 const TICK_AIMS: u64 = 16;
 const WHOLE_RUN: u64 = 1_000_000;
 /// The phase of a thread about to go in.
@@ -130,9 +135,12 @@ struct Round {
     random: Random,
     objects: u32,
     table: Table,
+    /// The second engine's, to which every event is put too.
+    second: table::Table,
     plain: PlainMonitors,
     queue: CheckedQueue,
     own_steps: OwnSteps,
+    chain_order: ChainOrder,
     /// Whether all events aim at six steps.
     aims_at_steps: bool,
     /// Whether threads are chosen by the run queue and their answers, and not by their phases.
@@ -158,13 +166,22 @@ impl Round {
                 random.pick(&[Words::Free, Words::Reserved]),
             ),
         };
+        let ranks = (1..).zip(draw_given(&mut random, THREADS as u8).ranks);
+        let builder = Table::builder(THREADS, objects).words(words);
+        let table = ranks.fold(builder, |builder, (thread, rank)| {
+            builder.rank(thread, rank.into())
+        });
+        let table = table.build().expect("sizes and ranks in range");
+        let second = decode(table.bytes()).expect("the bytes of a table");
         Round {
             random,
             objects,
-            table: Table::fresh(THREADS, objects, words).expect("sizes in range"),
+            table,
             plain: PlainMonitors::new(objects as u8),
             queue: CheckedQueue::default(),
             own_steps: OwnSteps::default(),
+            chain_order: ChainOrder::new(&second),
+            second,
             aims_at_steps,
             by_queue,
             at_work: ThreadSet::default(),
@@ -194,9 +211,9 @@ impl Round {
         self.compare()
     }
 
-    /// Takes the events that aim; the whole table is compared after each.
+    /// Takes the events that aim; plain monitors and run queue are compared after each.
     fn aim(&mut self, steps: u64) -> Result<(), String> {
-        for (place, event) in self.aimed_events()?.into_iter().enumerate() {
+        for (place, event) in self.aimed_events().into_iter().enumerate() {
             if self.tally.steps == steps {
                 break;
             }
@@ -208,19 +225,22 @@ impl Round {
     }
 
     /// Events that aim, made by the second engine.
-    fn aimed_events(&mut self) -> Result<Vec<Event>, String> {
+    fn aimed_events(&mut self) -> Vec<Event> {
         let threads: Vec<u8> = (1..=THREADS as u8).collect();
-        let mut table = decode(self.table.bytes()).ok_or("the bytes are no table")?;
+        let mut table = self.second.clone();
         let (random, objects) = (&mut self.random, self.objects as u8);
         if self.aims_at_steps {
-            return Ok(aimed_steps::events(random, &mut table, &threads, objects));
+            return aimed_steps::events(random, &mut table, &threads, objects);
         }
         let object = random.between(1, objects.into()) as u8;
         let mut events = aimed_exits::events(random, &mut table, &threads, object, EXIT_AIMS);
+        events.extend(aimed_told::events(
+            random, &mut table, &threads, object, TOLD_AIMS,
+        ));
         if objects >= aimed_ticks::LEAST {
             events.extend(aimed_ticks::events(random, &mut table, &threads, TICK_AIMS));
         }
-        Ok(events)
+        events
     }
 
     fn aimed_event(&mut self, event: Event) -> Result<(), String> {
@@ -263,6 +283,18 @@ impl Round {
         let table = decode(self.table.bytes()).ok_or("the bytes are no table")?;
         check_table(&table, &self.plain)?;
         self.queue.check(&table)
+    }
+
+    /// Puts an event to the second engine: the same answer and the same bytes, and what it does to the chains is in order.
+    fn compare_second(&mut self, event: Event, outcome: Outcome) -> Result<(), String> {
+        let before = self.second.clone();
+        let expected = apply(&mut self.second, event);
+        if outcome != expected {
+            return Err(format!("{outcome:?}, by the second engine {expected:?}"));
+        }
+        compare_bytes(self.table.bytes(), &encode(&self.second))?;
+        let met = &mut self.tally.met;
+        self.chain_order.feed(&before, &self.second, event, met)
     }
 
     /// The thread begins something if it is idle, else takes a step. By its answers alone one that was let out is not idle before a step of it.
@@ -381,8 +413,9 @@ impl Round {
         Ok(())
     }
 
-    /// Holds an event to the plain monitors, to the run queue and to the count of own steps: a thread's in the phase, or a tick.
+    /// Holds an event to the second engine, to the plain monitors, to the run queue and to the count of own steps: a thread's in the phase, or a tick.
     fn feed(&mut self, event: Event, phase: Option<u8>, outcome: Outcome) -> Result<(), String> {
+        self.compare_second(event, outcome)?;
         self.plain.feed(event, outcome)?;
         let before = self.phases;
         self.phases = std::array::from_fn(|place| self.phase(place as u32 + 1));
