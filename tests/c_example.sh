@@ -20,7 +20,7 @@ fenced() {
 }
 fenced c >target/readme_snippets.h
 fenced text >target/readme.expected
-check "snippets in README" "$(grep -c '^```c$' README.md)" 3
+check "snippets in README" "$(grep -c '^```c$' README.md)" 4
 
 # Compiles a program, with what stands behind it as the compiler, runs it and compares what it prints; spaces at the end of a line do not count.
 program() {
@@ -35,7 +35,7 @@ program() {
     check "comparing the output of $name" $? 0
 }
 
-for source in examples/c/*.c examples/kiosk/*.c tests/c/run_events.c; do
+for source in examples/c/*.c examples/kiosk/*.c tests/c/run_events.c tests/c/fresh_given.c; do
     program "$source" "${source%.c}.expected" gcc -std=c99
 done
 program tests/c/readme.c target/readme.expected gcc -std=c99

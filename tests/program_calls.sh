@@ -34,6 +34,8 @@ wrong_options() {
     refused 'there is no option --lines' --lines=1-2 "$listing"
     case $name in explain) return ;; esac
     refused 'there is no option --schedule' --schedule 1 "$listing"
+    refused 'there is no option --ranks' --ranks 1 "$listing"
+    refused 'there is no option --ranks' --ranks=1 "$listing"
 }
 
 wrong_values() {
@@ -42,6 +44,11 @@ wrong_values() {
         refused "--schedule takes a number from 1 on, and not '$value'" "--schedule=$value" "$listing"
     done
     refused "--schedule takes a number from 1 on, and not ''" --schedule
+    for value in '' 4 -1 a 3, ,3 3,,1 '3, 1' 03 10 3.1 3-1 0,0,0,4; do
+        refused "--ranks takes ranks of 0 to 3, as 3,0,1 for threads 1, 2 and 3, and not '$value'" --ranks "$value" "$listing"
+        refused "--ranks takes ranks of 0 to 3, as 3,0,1 for threads 1, 2 and 3, and not '$value'" "--ranks=$value" "$listing"
+    done
+    refused "--ranks takes ranks of 0 to 3, as 3,0,1 for threads 1, 2 and 3, and not ''" --ranks
     case $name in explain) return ;; esac
     for value in 0 0-5 -5 9-5 a-b 1-2-3 - '' 1234567890123456789 1-1234567890123456789; do
         refused "--lines takes N, FROM-TO or FROM-, counted from 1, and not '$value'" --lines "$value" "$listing"
@@ -122,6 +129,9 @@ viewer_takes() {
     handed '--schedule 2 listing' --schedule 2 listing
     handed '--schedule 2 listing' listing --schedule=2
     handed '--schedule 3' --schedule=2 --schedule 3 -
+    handed '--ranks 3,0,1 listing' --ranks 3,0,1 listing
+    handed '--ranks 0 --schedule 2 listing' --schedule 2 listing --ranks=0
+    handed '--ranks 2' --ranks=1 --ranks 2 -
     case $name in explain) return ;; esac
     handed '--svg listing' listing --svg
     handed '--lines 5-5 listing' --lines 5 listing
@@ -129,7 +139,7 @@ viewer_takes() {
     handed '--lines 2-3' --lines=2-3 -
     handed '--lines 2-3 listing' --lines 2-3 -- listing
     handed '--lines 4-' --lines 4-
-    handed '--svg --lines 4-4 --schedule 123456789012345678 ./-odd' --schedule=123456789012345678 --lines=4 --svg -- -odd
+    handed '--svg --lines 4-4 --ranks 3 --schedule 123456789012345678 ./-odd' --schedule=123456789012345678 --lines=4 --ranks=3 --svg -- -odd
 }
 
 PATH=$work/bin:$PATH

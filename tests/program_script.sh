@@ -114,8 +114,12 @@ headless
 name=explain script=$here/explain input=$here/examples/cancelled-before-store.txt expected=$here/examples/cancelled-before-store.explained
 calls
 viewer
+input=$here/examples/screen-passes-report.txt expected=$here/examples/screen-passes-report.explained
+check 'explain: ranks' "$(outcome "$script" --ranks 3,0,1 "$input")" 'whole 0'
+check 'explain: ranks in another form, and one more than threads' "$(outcome "$script" --ranks=3,0,1,0,3 <"$input")" 'whole 0'
+input=$here/examples/cancelled-before-store.txt
 name=timeline script=$here/timeline expected=$here/docs/pictures/cancelled-before-store.svg
 check 'timeline: built with explain, and draws' "$(outcome "$script" --svg "$input") $(wc -c <"$work/said")" 'whole 0 0'
-check 'timeline: every option, in another form' "$(outcome "$script" --svg --lines=1- --schedule=1 -- "$input" | sed 's/.* //')" 0
+check 'timeline: every option, in another form' "$(outcome "$script" --svg --lines=1- --ranks=0 --schedule=1 -- "$input" | sed 's/.* //')" 0
 viewer
 finish

@@ -15,16 +15,18 @@ timeline=$1 accident=$2 folder=$3
 examples=$(dirname "$0")/../examples
 mkdir -p "$folder" || exit 1
 
-# A file with several schedules has a picture of each.
+# A file with several schedules has a picture of each. Ranks, where there are any, are in a file beside it.
 for schedule in "$examples"/*.txt; do
     name=$(basename "$schedule" .txt)
     schedules=$(grep -c '^L' "$schedule")
+    ranks=0
+    [ ! -f "$examples/$name.ranks" ] || ranks=$(cat "$examples/$name.ranks")
     if [ "$schedules" -eq 1 ]; then
-        "$timeline" --svg "$schedule" >"$folder/$name.svg" || exit 1
+        "$timeline" --svg --ranks "$ranks" "$schedule" >"$folder/$name.svg" || exit 1
         continue
     fi
     for number in $(seq "$schedules"); do
-        "$timeline" --svg --schedule "$number" "$schedule" >"$folder/$name-$number.svg" || exit 1
+        "$timeline" --svg --ranks "$ranks" --schedule "$number" "$schedule" >"$folder/$name-$number.svg" || exit 1
     done
 done
 # Of the longest the end is drawn.

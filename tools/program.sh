@@ -58,6 +58,11 @@ range() {
     echo "$from-$to"
 }
 
+# Whether it is ranks, of 0 to 3 each, with commas between them.
+ranks_known() {
+    case ,$1, in *,,* | *[!0-3,]* | *[0-3][0-3]*) return 1 ;; esac
+}
+
 # Takes an option, and its value where it has one.
 option() {
     case " $takes " in *" $1 "*) ;; *) misused "there is no option $1" ;; esac
@@ -67,6 +72,10 @@ option() {
     --schedule)
         positive "$2" || misused "--schedule takes a number from 1 on, and not '$2'"
         schedule=$2
+        ;;
+    --ranks)
+        ranks_known "$2" || misused "--ranks takes ranks of 0 to 3, as 3,0,1 for threads 1, 2 and 3, and not '$2'"
+        ranks=$2
         ;;
     esac
 }
@@ -78,7 +87,7 @@ one_file() {
 
 # Reads the arguments: here alone, so that nothing is built for a call that is wrong.
 arguments() {
-    svg='' lines='' schedule='' file=- named=''
+    svg='' lines='' schedule='' ranks='' file=- named=''
     while [ $# -gt 0 ]; do
         case $1 in
         --help | -h)
@@ -86,8 +95,8 @@ arguments() {
             exit 0
             ;;
         --) shift && break ;;
-        --lines=* | --schedule=*) option "${1%%=*}" "${1#*=}" ;;
-        --lines | --schedule)
+        --lines=* | --schedule=* | --ranks=*) option "${1%%=*}" "${1#*=}" ;;
+        --lines | --schedule | --ranks)
             option "$1" "${2-}"
             shift
             ;;

@@ -42,6 +42,7 @@ start() {
     set --
     [ -z "$svg" ] || set -- --svg
     [ -z "$lines" ] || set -- "$@" --lines "$lines"
+    [ -z "$ranks" ] || set -- "$@" --ranks "$ranks"
     [ -z "$schedule" ] || set -- "$@" --schedule "$schedule"
     case $file in
     -) ;;

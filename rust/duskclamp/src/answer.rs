@@ -119,11 +119,13 @@ pub enum Refusal {
     QuantumOutOfRange = 25,
     /// A dispatcher that has not a record for each thread, or one whose script is not as [`Table::dispatch`](crate::Table::dispatch) has it.
     ScriptUnknown = 26,
+    /// A fresh table with a rank above 3.
+    RankOutOfRange = 27,
 }
 
 impl Refusal {
     /// All refusals, in the order of their numbers.
-    pub const ALL: [Refusal; 14] = [
+    pub const ALL: [Refusal; 15] = [
         Refusal::NotSound,
         Refusal::NoSuchThread,
         Refusal::NoSuchObject,
@@ -138,6 +140,7 @@ impl Refusal {
         Refusal::LimitOutOfRange,
         Refusal::QuantumOutOfRange,
         Refusal::ScriptUnknown,
+        Refusal::RankOutOfRange,
     ];
 
     /// The number that the library returned.
@@ -162,6 +165,7 @@ impl Refusal {
             Refusal::LimitOutOfRange => "limit out of range",
             Refusal::QuantumOutOfRange => "quantum out of range",
             Refusal::ScriptUnknown => "script unknown",
+            Refusal::RankOutOfRange => "rank out of range",
         }
     }
 

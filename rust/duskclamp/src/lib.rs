@@ -55,10 +55,12 @@
 //! # Ok::<(), Refusal>(())
 //! ```
 //!
+//! Threads of a higher rank pass those of a lower one in an object's entry chain; [`Table::builder`] makes a table with ranks.
+//!
 //! Whoever has no interpreter, and a script of operations for each thread, has [`Table::dispatch`] run them in turns.
 //!
 //! What the calls answer is proved of the library that this crate links; the declarations in [`raw`] are not checked against its source. The crate needs
-//! `core` alone. A call takes up to 7.1 KB of stack, [`Table::dispatch`] 9.6 KB, as measured by `bench/stack.c` of the repository.
+//! `core` alone. A call takes up to 9.0 KB of stack, [`Table::dispatch`] 11.4 KB, as measured by `bench/stack.c` of the repository.
 
 #![no_std]
 #![deny(missing_docs)]
@@ -67,6 +69,7 @@
 extern crate std;
 
 mod answer;
+mod builder;
 mod event;
 mod phase;
 pub mod raw;
@@ -76,6 +79,7 @@ mod thread_set;
 mod word;
 
 pub use answer::{Answer, Operation, Outcome, Refusal};
+pub use builder::TableBuilder;
 pub use event::{Event, Packed};
 pub use phase::{Onward, Phase};
 pub use record::{Blocker, Chain, Object, Thread};
@@ -86,7 +90,7 @@ pub use word::LockWord;
 use core::fmt;
 
 /// How many bytes a table has.
-pub const TABLE_SIZE: usize = 1122;
+pub const TABLE_SIZE: usize = 1154;
 
 /// The most threads of a table.
 pub const MAX_THREADS: u32 = 32;
@@ -97,6 +101,9 @@ pub const MAX_OBJECTS: u32 = 64;
 /// The longest limit of a timed wait, in ticks; the shortest is 1.
 pub const MAX_TICKS: u32 = 65_535;
 
+/// The highest rank of a thread; the lowest is 0.
+pub const MAX_RANK: u32 = 3;
+
 /// The most steps that a thread takes of its own from beginning an operation, or from being unparked, until it finishes, is refused or parks, in
 /// whatever order the events of the others come; [`Table::step`] has more.
 pub const MAX_STEPS: u32 = 6;
@@ -105,7 +112,7 @@ pub const MAX_STEPS: u32 = 6;
 pub const MAX_QUANTUM: u32 = 100;
 
 /// The version of a table's bytes, which rises whenever they change.
-pub const LAYOUT_VERSION: u32 = 2;
+pub const LAYOUT_VERSION: u32 = 3;
 
 /// The version of the library that is linked: major, minor and patch number.
 ///
@@ -141,7 +148,7 @@ pub struct Table {
 }
 
 impl Table {
-    /// A table with every thread idle.
+    /// A table with every thread idle and of rank 0; [`Table::builder`] gives others.
     ///
     /// ```
     /// use duskclamp::{Refusal, Table, Words};
@@ -154,6 +161,18 @@ impl Table {
             0 => Ok(Table { bytes }),
             number => Err(answer::refusal(number)),
         }
+    }
+
+    /// A fresh table with more than its sizes: which words, and ranks.
+    ///
+    /// ```
+    /// use duskclamp::{Table, Words};
+    /// let table = Table::builder(3, 1).words(Words::Reserved).rank(1, 3).build()?;
+    /// assert_eq!([1, 2, 3].map(|thread| table.rank(thread)), [Ok(3), Ok(0), Ok(0)]);
+    /// # Ok::<(), duskclamp::Refusal>(())
+    /// ```
+    pub fn builder(threads: u32, objects: u32) -> TableBuilder {
+        TableBuilder::new(threads, objects)
     }
 
     /// Bytes that may be a table's. If they are not, every event is refused with `NotSound` and leaves them as they are.
@@ -283,7 +302,7 @@ impl Table {
     /// # Ok::<(), Refusal>(())
     /// ```
     ///
-    /// No thread spins. On a table that came from [`Table::fresh`] by events alone a thread takes at most [`MAX_STEPS`] steps from beginning an enter, an
+    /// No thread spins. On a table that came from a fresh one by events alone a thread takes at most [`MAX_STEPS`] steps from beginning an enter, an
     /// exit or a wait, one from beginning a notify, two from being unparked, or one if it is to resume. Steps refused with anything but `NotOwner` or
     /// `TooDeep` do not count. With the last one that does, it finishes, is refused or parks. Bytes taken from elsewhere may be a sound table that no
     /// events lead to, and there it may take more.
@@ -358,7 +377,7 @@ impl Table {
     /// rising number, then thread 1 again, each for a turn of at most `quantum` steps, 1 to [`MAX_QUANTUM`]. An idle thread first begins the next command of
     /// its script, which is no step and moves its cursor on. A turn ends early with a step that parks the thread, at the script's end, and where the
     /// thread is parked or its step has no rule. A step refused with `NotOwner` or `TooDeep` is one: the script goes on. After a round without a
-    /// step the run ends; then nobody can go on, though threads may be parked for good. On a table that came from [`Table::fresh`] by events alone an
+    /// step the run ends; then nobody can go on, though threads may be parked for good. On a table that came from a fresh one by events alone an
     /// unparked thread with work left gets its step before the others have taken more than the number of threads less one, times `quantum`.
     ///
     /// The record of thread n is `cursors[n - 1]`. Scripts may overlap or be the same. A thread that is at an operation finishes it first; timed waits
@@ -453,6 +472,11 @@ impl Table {
         answer::value(raw::ticks(&self.bytes, thread))
     }
 
+    /// The rank that the thread was given with the fresh table; the same in every phase, idle too.
+    pub fn rank(&self, thread: u32) -> Result<u32, Refusal> {
+        answer::value(raw::rank(&self.bytes, thread))
+    }
+
     /// Who keeps the thread, where it is parked for entry, in phase 5 or 8. An exit there waits for the object's holder alone, though another thread may
     /// own the object by then:
     ///
@@ -507,6 +531,7 @@ impl Table {
             saved_depth: answer::value(raw::saved_depth(bytes, number))?,
             next: answer::value(raw::next(bytes, number))?,
             ticks: self.ticks(number)?,
+            rank: self.rank(number)?,
         })
     }
 
@@ -681,12 +706,14 @@ mod tests {
         for length in [0, 1, TABLE_SIZE - 1, TABLE_SIZE + 1] {
             let mut bytes = vec![0xa5; length];
             assert_eq!(raw::fresh(&mut bytes, 1, 1, 0), 11);
+            assert_eq!(raw::fresh_given(&mut bytes, 0, 1, 0, &[4]), 11);
             assert_eq!(raw::begin(&mut bytes, 1, 1, 1), 11);
             assert_eq!(raw::timed_wait(&mut bytes, 1, 1, 1), 11);
             assert_eq!(raw::step(&mut bytes, 1), 11);
             assert_eq!(raw::tick(&mut bytes), 11);
             assert_eq!(raw::dispatch(&mut bytes, 1, &[], &mut [], &mut []), 11);
             assert_eq!(raw::ticks(&bytes, 1), 11);
+            assert_eq!(raw::rank(&bytes, 1), 11);
             assert_eq!(raw::phase(&bytes, 1), 11);
             assert_eq!(raw::word_kind(&bytes, 1), 11);
             assert_eq!(raw::word_thread(&bytes, 1), 11);

@@ -20,6 +20,15 @@ mod declared {
             objects: u32,
             reserved: u32,
         ) -> u32;
+        pub fn duskclamp_fresh_given(
+            bytes: *mut u8,
+            length: usize,
+            threads: u32,
+            objects: u32,
+            reserved: u32,
+            given: *const u8,
+            given_length: usize,
+        ) -> u32;
         pub fn duskclamp_begin(
             bytes: *mut u8,
             length: usize,
@@ -65,6 +74,7 @@ mod declared {
         pub fn duskclamp_saved_depth(bytes: *const u8, length: usize, thread: u32) -> u64;
         pub fn duskclamp_next(bytes: *const u8, length: usize, thread: u32) -> u64;
         pub fn duskclamp_ticks(bytes: *const u8, length: usize, thread: u32) -> u64;
+        pub fn duskclamp_rank(bytes: *const u8, length: usize, thread: u32) -> u64;
         pub fn duskclamp_blocker(bytes: *const u8, length: usize, thread: u32) -> u64;
         pub fn duskclamp_word(bytes: *const u8, length: usize, object: u32) -> u64;
         pub fn duskclamp_word_kind(bytes: *const u8, length: usize, object: u32) -> u64;
@@ -98,10 +108,32 @@ pub fn table_size() -> usize {
     unsafe { declared::duskclamp_table_size() }
 }
 
-/// Makes a fresh table: 0, or 11 or 22 and the bytes stay.
+/// Makes a fresh table, with every rank 0: 0, or 11 or 22 and the bytes stay.
 pub fn fresh(bytes: &mut [u8], threads: u32, objects: u32, reserved: u32) -> u32 {
     unsafe {
         declared::duskclamp_fresh(bytes.as_mut_ptr(), bytes.len(), threads, objects, reserved)
+    }
+}
+
+/// Makes a fresh table with what it is given, a byte for the rank of each thread from the first on: 0, or 11, 22 or 27 and the bytes stay. What is not
+/// given is as [`fresh`] has it. Ranks past `threads` are not read, nor what lies behind that of the last thread that there can be.
+pub fn fresh_given(
+    bytes: &mut [u8],
+    threads: u32,
+    objects: u32,
+    reserved: u32,
+    given: &[u8],
+) -> u32 {
+    unsafe {
+        declared::duskclamp_fresh_given(
+            bytes.as_mut_ptr(),
+            bytes.len(),
+            threads,
+            objects,
+            reserved,
+            given.as_ptr(),
+            given.len(),
+        )
     }
 }
 
@@ -221,6 +253,11 @@ pub fn next(bytes: &[u8], thread: u32) -> u64 {
 /// The ticks that a timed wait has left, 0 when it ran out; 0 for any other operation.
 pub fn ticks(bytes: &[u8], thread: u32) -> u64 {
     unsafe { declared::duskclamp_ticks(bytes.as_ptr(), bytes.len(), thread) }
+}
+
+/// The rank that the thread was given.
+pub fn rank(bytes: &[u8], thread: u32) -> u64 {
+    unsafe { declared::duskclamp_rank(bytes.as_ptr(), bytes.len(), thread) }
 }
 
 /// Who keeps a thread parked for entry: a thread in bits 0 to 15 of the value, and in bit 16 whether it is the monitor's holder and not the owner.

@@ -22,6 +22,8 @@ pub struct Thread {
     pub next: u32,
     /// The ticks that a timed wait has left, 0 when it ran out; 0 for any other operation.
     pub ticks: u32,
+    /// Where it joins an entry chain; the same in every phase, idle too.
+    pub rank: u32,
 }
 
 /// An object's record, and who owns it.
@@ -52,7 +54,7 @@ pub struct Object {
 /// The three chains of a monitor.
 #[derive(Clone, Copy, Debug, PartialEq, Eq, Hash)]
 pub enum Chain {
-    /// Threads queued for the monitor, in phase 5.
+    /// Threads queued for the monitor, in phase 5: by falling rank, then by the time of joining. The other two are kept by time alone.
     Entry,
     /// Threads that found the object's flat lock owned, in phase 8.
     Contention,

@@ -1,5 +1,6 @@
 //! What both programs share: their arguments, where the input comes from, and the statuses that they end with.
 
+use crate::ranks::Ranks;
 use crate::schedule::Schedule;
 use crate::words::count;
 use std::ffi::OsString;
@@ -38,6 +39,7 @@ pub struct Arguments {
     /// Which of several schedules; else the input is one.
     pub schedule: Option<u64>,
     pub lines: RangeInclusive<u64>,
+    pub ranks: Ranks,
     pub file: Option<OsString>,
 }
 
@@ -49,6 +51,7 @@ pub fn arguments(given: impl IntoIterator<Item = OsString>, pictures: bool) -> O
         svg: false,
         schedule: None,
         lines: 1..=u64::MAX,
+        ranks: Ranks::default(),
         file: None,
     };
     let mut given = given.into_iter();
@@ -57,6 +60,7 @@ pub fn arguments(given: impl IntoIterator<Item = OsString>, pictures: bool) -> O
             "--help" | "-h" => arguments.help = true,
             "--svg" if pictures => arguments.svg = true,
             "--schedule" => arguments.schedule = Some(positive(given.next()?.to_str()?)?),
+            "--ranks" => arguments.ranks = Ranks::read(given.next()?.to_str()?)?,
             "--lines" if pictures => arguments.lines = range(given.next()?.to_str()?)?,
             option if option.starts_with('-') => return None,
             _ if arguments.file.is_some() => return None,
@@ -91,12 +95,13 @@ pub fn open(arguments: &Arguments) -> Result<Schedule<Box<dyn BufRead>>, (String
             (sentence, Status::Usage)
         })?)),
     };
+    let ranks = arguments.ranks.clone();
     let Some(number) = arguments.schedule else {
-        return Ok(Schedule::whole(input));
+        return Ok(Schedule::whole(input).ranked(ranks));
     };
     match Schedule::nth(input, number) {
         Err(error) => Err(read_failed(&error)),
-        Ok(Ok(schedule)) => Ok(schedule),
+        Ok(Ok(schedule)) => Ok(schedule.ranked(ranks)),
         Ok(Err(found)) => Err((
             format!(
                 "there is no schedule {number}: the input has {}",

@@ -96,6 +96,8 @@ pub struct Row {
 #[derive(Clone, Debug, PartialEq, Eq)]
 pub struct Drawing {
     pub header: Header,
+    /// Of thread n at n - 1.
+    pub ranks: Vec<u32>,
     pub rows: Vec<Row>,
     pub bands: Vec<Band>,
     /// The lanes in which something happens.
@@ -142,6 +144,7 @@ impl Collector {
         let mut collector = Collector {
             drawing: Drawing {
                 header,
+                ranks: state.threads.iter().map(|thread| thread.rank).collect(),
                 rows: Vec::new(),
                 bands: Vec::new(),
                 used: BTreeSet::new(),

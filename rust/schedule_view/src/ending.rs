@@ -4,7 +4,7 @@
 use crate::engine::Engine;
 use crate::run::{ObjectSeen, Run, State, ThreadSeen};
 use crate::words;
-use duskclamp::{Blocker, Operation, Phase};
+use duskclamp::{Blocker, Chain, Operation, Phase};
 
 /// How a run stands, a line each. An object or a thread of which there is nothing to say is only counted.
 pub fn lines<E: Engine>(run: &Run<E>) -> Vec<String> {
@@ -69,28 +69,17 @@ fn object_line<E: Engine>(run: &Run<E>, object: &ObjectSeen) -> String {
         line += &format!("; thread {} holds its monitor", record.holder);
     }
     let chains = [
-        (record.entry, "the entry chain"),
-        (record.contention, "the contention chain"),
-        (record.waiting, "the waiting chain"),
+        (Chain::Entry, "the entry chain"),
+        (Chain::Contention, "the contention chain"),
+        (Chain::Waiting, "the waiting chain"),
     ];
-    for (first, name) in chains {
-        let members = members(run, first);
+    for (chain, name) in chains {
+        let members = run.engine().chain(record.number, chain);
         if !members.is_empty() {
             line += &format!("; {} in {name}", words::threads(&members));
         }
     }
     line + "."
-}
-
-/// The threads of a chain, from its first on.
-fn members<E: Engine>(run: &Run<E>, first: u32) -> Vec<u32> {
-    let mut members = Vec::new();
-    let mut next = first;
-    while next != 0 && !members.contains(&next) {
-        members.push(next);
-        next = run.engine().thread(next).next;
-    }
-    members
 }
 
 fn thread_line<E: Engine>(run: &Run<E>, thread: &ThreadSeen) -> String {

@@ -1,11 +1,13 @@
 //! What runs a schedule: a table that takes events and answers questions. The proved library is one; nothing here knows a rule of the locks.
 
 use crate::line::{Event, Header};
-use duskclamp::{Answer, Blocker, LockWord, Object, Operation, Outcome, Phase, Refusal};
+use crate::ranks::Ranks;
+use duskclamp::{Answer, Blocker, Chain, LockWord, Object, Operation, Outcome, Phase, Refusal};
 use duskclamp::{Table, Thread, ThreadSet};
 
 pub trait Engine: Sized {
-    fn fresh(header: Header) -> Result<Self, Refusal>;
+    /// The header's table, with these ranks; those of threads that it has not are dropped.
+    fn fresh(header: Header, ranks: &Ranks) -> Result<Self, Refusal>;
 
     fn apply(&mut self, event: Event) -> Outcome;
 
@@ -21,14 +23,21 @@ pub trait Engine: Sized {
     /// What the object's lock word says.
     fn lock_word(&self, object: u32) -> LockWord;
 
+    /// The threads of a chain of an object of the table, from its first on.
+    fn chain(&self, object: u32, chain: Chain) -> Vec<u32>;
+
     /// Who keeps a thread that is parked for entry.
     fn blocker(&self, thread: u32) -> Option<Blocker>;
 }
 
 /// The proved library, by its wrapper.
 impl Engine for Table {
-    fn fresh(header: Header) -> Result<Table, Refusal> {
-        Table::fresh(header.threads, header.objects, header.words)
+    fn fresh(header: Header, ranks: &Ranks) -> Result<Table, Refusal> {
+        let builder = Table::builder(header.threads, header.objects).words(header.words);
+        let ranked = ranks.given().fold(builder, |builder, (thread, rank)| {
+            builder.rank(thread, rank)
+        });
+        ranked.build()
     }
 
     fn apply(&mut self, event: Event) -> Outcome {
@@ -70,6 +79,11 @@ impl Engine for Table {
 
     fn lock_word(&self, object: u32) -> LockWord {
         Table::lock_word(self, object).expect("an object of the table")
+    }
+
+    fn chain(&self, object: u32, chain: Chain) -> Vec<u32> {
+        let members = Table::chain(self, object, chain);
+        members.expect("an object of the table").collect()
     }
 
     fn blocker(&self, thread: u32) -> Option<Blocker> {

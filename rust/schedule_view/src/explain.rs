@@ -74,8 +74,9 @@ pub fn explain<E: Engine>(
             return Ok(Ended::BadHeader);
         }
     };
-    say(paragraph(&started.line, "", &fresh(started.header)))?;
     let mut run = started.run;
+    let table = fresh(started.header, run.state());
+    say(paragraph(&started.line, "", &table))?;
     let mut counts = Counts::default();
     while let Some(read) = schedule.next().map_err(Failure::Read)? {
         say(match read.says {

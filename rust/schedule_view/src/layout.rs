@@ -64,8 +64,8 @@ impl Layout {
         let objects = (1..=drawing.header.objects).map(Lane::Object);
         for lane in threads.chain(objects) {
             let placed = match drawing.used.contains(&lane) {
-                true => used_lane(lane, left, &widest),
-                false => unused_lane(lane, left),
+                true => used_lane(drawing, lane, left, &widest),
+                false => unused_lane(drawing, lane, left),
             };
             left += placed.place.width + if placed.used { LANE_GAP } else { GAP };
             lanes.insert(lane, placed);
@@ -94,13 +94,22 @@ pub fn caption(column: Column) -> &'static str {
     }
 }
 
-/// A lane's long name, or its short one where nothing happens in it.
-fn name(lane: Lane, used: bool) -> String {
-    match (lane, used) {
+/// A lane's long name, or its short one where nothing happens in it; with the thread's rank where that is not 0.
+fn name(drawing: &Drawing, lane: Lane, used: bool) -> String {
+    let rank = match lane {
+        Lane::Thread(number) => drawing.ranks.get(number as usize - 1).copied().unwrap_or(0),
+        Lane::Object(_) => 0,
+    };
+    let name = match (lane, used) {
         (Lane::Thread(number), true) => format!("thread {number}"),
         (Lane::Object(number), true) => format!("object {number}"),
         (Lane::Thread(number), false) => format!("t{number}"),
         (Lane::Object(number), false) => format!("o{number}"),
+    };
+    match (rank, used) {
+        (0, _) => name,
+        (_, true) => format!("{name}, rank {rank}"),
+        (_, false) => format!("{name} r{rank}"),
     }
 }
 
@@ -139,7 +148,12 @@ fn widest(drawing: &Drawing) -> BTreeMap<(Lane, Option<Column>), i32> {
     widest
 }
 
-fn used_lane(lane: Lane, left: i32, widest: &BTreeMap<(Lane, Option<Column>), i32>) -> PlacedLane {
+fn used_lane(
+    drawing: &Drawing,
+    lane: Lane,
+    left: i32,
+    widest: &BTreeMap<(Lane, Option<Column>), i32>,
+) -> PlacedLane {
     let labels = widest.get(&(lane, None)).copied().unwrap_or(0);
     let mut right = match lane {
         Lane::Thread(_) => left + LABEL + labels + GAP,
@@ -156,7 +170,7 @@ fn used_lane(lane: Lane, left: i32, widest: &BTreeMap<(Lane, Option<Column>), i3
             right += width + GAP;
         }
     }
-    let name = name(lane, true);
+    let name = name(drawing, lane, true);
     let width = (right - left).max(text_width(name.len(), NAME) + GAP);
     PlacedLane {
         lane,
@@ -167,8 +181,8 @@ fn used_lane(lane: Lane, left: i32, widest: &BTreeMap<(Lane, Option<Column>), i3
     }
 }
 
-fn unused_lane(lane: Lane, left: i32) -> PlacedLane {
-    let name = name(lane, false);
+fn unused_lane(drawing: &Drawing, lane: Lane, left: i32) -> PlacedLane {
+    let name = name(drawing, lane, false);
     let width = text_width(name.len(), CAPTION) + GAP;
     PlacedLane {
         lane,

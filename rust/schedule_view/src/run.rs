@@ -2,6 +2,8 @@
 
 use crate::engine::Engine;
 use crate::line::{Event, Header};
+use crate::passing::{Arrivals, Passing};
+use crate::ranks::Ranks;
 use duskclamp::{Answer, Blocker, LockWord, Object, Operation, Outcome, Phase, Refusal};
 use std::collections::BTreeSet;
 
@@ -16,6 +18,7 @@ pub struct ThreadSeen {
     pub phase: Phase,
     /// What a timed wait has left, 0 for any other operation.
     pub ticks: u32,
+    pub rank: u32,
 }
 
 /// An object's record, and what its word says.
@@ -68,6 +71,7 @@ pub struct Happened {
     pub object: Option<u32>,
     pub threads: Vec<Change<ThreadSeen>>,
     pub objects: Vec<Change<ObjectSeen>>,
+    pub passings: Vec<Passing>,
     /// Of the thread whose event it is, where it is parked after the event.
     pub parked: Option<Parked>,
     /// Whether the thread's exit was let out before, and this is its first event since.
@@ -92,11 +96,13 @@ pub struct Run<E> {
     state: State,
     /// The threads whose exit was let out and who have had no event since.
     let_out: BTreeSet<u32>,
+    /// Whether a rank is above 0: else nobody passes anybody.
+    ranked: bool,
 }
 
 impl<E: Engine> Run<E> {
-    pub fn new(header: Header) -> Result<Run<E>, Refusal> {
-        let engine = E::fresh(header)?;
+    pub fn new(header: Header, ranks: &Ranks) -> Result<Run<E>, Refusal> {
+        let engine = E::fresh(header, ranks)?;
         let state = State {
             threads: (1..=header.threads)
                 .map(|n| seen_thread(&engine, n))
@@ -105,10 +111,12 @@ impl<E: Engine> Run<E> {
                 .map(|n| seen_object(&engine, n))
                 .collect(),
         };
+        let ranked = state.threads.iter().any(|thread| thread.rank > 0);
         Ok(Run {
             engine,
             state,
             let_out: BTreeSet::new(),
+            ranked,
         })
     }
 
@@ -123,11 +131,15 @@ impl<E: Engine> Run<E> {
     pub fn take(&mut self, event: Event) -> Happened {
         let thread = event.thread().and_then(|n| self.state.thread(n)).copied();
         let object = self.object_of(event, thread.as_ref());
+        let arrivals = self.arrivals(event, object);
         let outcome = self.engine.apply(event);
         let (threads, objects) = match outcome.result {
             Err(refusal) if leaves_all(refusal) => (Vec::new(), Vec::new()),
             _ => self.look_again(event, object),
         };
+        let passed = arrivals.iter();
+        let passed = passed.flat_map(|arrivals| arrivals.passings(self, outcome.unparked));
+        let passings = passed.collect();
         let parked = thread.and_then(|thread| self.parked(thread.number));
         let let_out = thread.is_some_and(|thread| self.let_out.remove(&thread.number));
         let idle = |n: &u32| self.state.thread(*n).map(|seen| seen.phase) == Some(Phase::Idle);
@@ -139,9 +151,20 @@ impl<E: Engine> Run<E> {
             object,
             threads,
             objects,
+            passings,
             parked,
             let_out,
         }
+    }
+
+    /// Who is at the objects that the event is about, which for a tick are all.
+    fn arrivals(&self, event: Event, object: Option<u32>) -> Vec<Arrivals> {
+        let about = |number: &u32| event == Event::Tick || object == Some(*number);
+        let objects = self.state.objects.iter().map(|object| object.record.number);
+        objects
+            .filter(|number| self.ranked && about(number))
+            .map(|number| Arrivals::before(&self.engine, number, event.thread()))
+            .collect()
     }
 
     /// What keeps the thread, where it is parked.
@@ -204,6 +227,7 @@ fn seen_thread<E: Engine>(engine: &E, thread: u32) -> ThreadSeen {
         object: record.object,
         phase: record.phase,
         ticks: record.ticks,
+        rank: record.rank,
     }
 }
 

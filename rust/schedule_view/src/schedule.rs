@@ -3,6 +3,7 @@
 use crate::input::{Lines, RawLine};
 use crate::line::{self, Event, Header, Line};
 use crate::malformed::{likely_cause, Cause};
+use crate::ranks::Ranks;
 use std::io::{self, BufRead};
 
 /// A line that was read, and what it says or what is likely wrong with it.
@@ -17,6 +18,7 @@ pub struct Schedule<R> {
     ahead: Option<RawLine>,
     /// Whether the next line that begins with L ends the schedule, and is not a malformed line of it.
     one_of_many: bool,
+    ranks: Ranks,
 }
 
 impl<R: BufRead> Schedule<R> {
@@ -26,6 +28,7 @@ impl<R: BufRead> Schedule<R> {
             lines: Lines::new(input),
             ahead: None,
             one_of_many: false,
+            ranks: Ranks::default(),
         }
     }
 
@@ -40,10 +43,20 @@ impl<R: BufRead> Schedule<R> {
                     lines,
                     ahead: Some(line),
                     one_of_many: true,
+                    ranks: Ranks::default(),
                 }));
             }
         }
         Ok(Err(found))
+    }
+
+    /// The same schedule, with ranks for its threads.
+    pub fn ranked(self, ranks: Ranks) -> Schedule<R> {
+        Schedule { ranks, ..self }
+    }
+
+    pub fn ranks(&self) -> &Ranks {
+        &self.ranks
     }
 
     /// The first line; nothing where the input is empty.

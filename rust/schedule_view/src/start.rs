@@ -4,8 +4,9 @@ use crate::engine::Engine;
 use crate::input::RawLine;
 use crate::line::Header;
 use crate::malformed::Cause;
+use crate::ranks;
 use crate::refused;
-use crate::run::Run;
+use crate::run::{Run, State};
 use crate::schedule::Schedule;
 use crate::words::count;
 use duskclamp::{Refusal, Words};
@@ -42,7 +43,7 @@ pub fn start<E: Engine>(
         Ok(header) => header,
         Err(cause) => return Ok(Err(no_header(Some(line), &cause))),
     };
-    Ok(match Run::new(header) {
+    Ok(match Run::new(header, schedule.ranks()) {
         Ok(run) => Ok(Started { line, header, run }),
         Err(_) => Err(NotStarted {
             line: Some(line),
@@ -66,15 +67,19 @@ fn no_header(line: Option<RawLine>, cause: &Cause) -> NotStarted {
     }
 }
 
-/// What a fresh table of the header is.
-pub fn fresh(header: Header) -> String {
+/// What a fresh table of the header is, and who has which rank where somebody has one above 0.
+pub fn fresh(header: Header, state: &State) -> String {
     let words = match header.words {
         Words::Free => "free",
         Words::Reserved => "reserved for nobody yet",
     };
     let threads = count(header.threads.into(), "thread");
     let objects = count(header.objects.into(), "object");
-    format!("A fresh table: {threads}, {objects}, every lock word {words}.")
+    let table = format!("A fresh table: {threads}, {objects}, every lock word {words}.");
+    match ranks::sentence(state) {
+        None => table,
+        Some(ranks) => format!("{table} {ranks}"),
+    }
 }
 
 /// The sentence for a line that is malformed.

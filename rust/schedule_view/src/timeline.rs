@@ -46,7 +46,8 @@ pub fn draw<E: Engine>(
     let mut whole = lines.contains(&started.line.number);
     if whole {
         let begun = collector.insert(Collector::new(header, run.state()));
-        begun.other_line(row(&started.line, String::new(), fresh(header)));
+        let table = fresh(header, run.state());
+        begun.other_line(row(&started.line, String::new(), table));
     }
     while let Some(read) = schedule.next().map_err(Failure::Read)? {
         if read.line.number > *lines.end() {

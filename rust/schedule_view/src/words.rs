@@ -2,6 +2,7 @@
 //! would do is not written down here, so that it cannot be wrong.
 
 use crate::line::Event;
+use crate::passing::Passing;
 use crate::refused;
 use crate::run::{Change, Happened, ObjectSeen, Parked, State, ThreadSeen};
 use duskclamp::{Answer, Blocker, LockWord, Object, Operation, Phase};
@@ -16,6 +17,7 @@ pub fn describe(happened: &Happened, state: &State) -> String {
         (None, Event::Tick) => said.push(ticks(happened)),
     }
     said.extend(others(happened));
+    said.extend(happened.passings.iter().map(|one| passing(one, state)));
     said.extend(objects(happened, state));
     said.join(" ")
 }
@@ -299,6 +301,19 @@ fn other(happened: &Happened, change: &Change<ThreadSeen>) -> Option<String> {
     }
     let left = count(after.ticks.into(), "tick");
     (before.ticks != after.ticks).then(|| format!("{who} has {left} left."))
+}
+
+/// Who is ahead of whom by its rank, in the entry chain or with the monitor in hand.
+fn passing(passing: &Passing, state: &State) -> String {
+    let Passing { thread, others } = passing;
+    let seen = state.thread(*thread);
+    let rank = seen.map_or(0, |seen| seen.rank);
+    let does = match seen.is_some_and(|seen| seen.phase.is_parked()) {
+        true => "queues",
+        false => "is handed the monitor",
+    };
+    let (who, others) = (start_thread(*thread), threads(others));
+    format!("{who} (rank {rank}) {does} ahead of {others}.")
 }
 
 /// What became of the object that the event was about, and of others that it changed.

@@ -1,13 +1,14 @@
 //! The second program's engine behind the questions that a picture asks, so that it can be drawn like the proved one.
 
 use duskclamp as proved;
-use duskclamp::{Blocker, LockWord, Refusal, ThreadSet, Words};
+use duskclamp::{Blocker, Chain, LockWord, Refusal, ThreadSet, Words};
 use reference::engine;
 use reference::outcome::{Outcome, Returned};
-use reference::table::{Onward, Operation, Phase, Table};
+use reference::table::{self, Given, Onward, Operation, Phase, Table};
 use reference::word;
 use schedule_view::engine::Engine;
 use schedule_view::line::{Event, Header};
+use schedule_view::ranks::Ranks;
 
 /// The second program's table.
 pub struct Second {
@@ -15,9 +16,14 @@ pub struct Second {
 }
 
 impl Engine for Second {
-    fn fresh(header: Header) -> Result<Second, Refusal> {
+    fn fresh(header: Header, ranks: &Ranks) -> Result<Second, Refusal> {
+        let (threads, objects) = (narrow(header.threads), narrow(header.objects));
         let reserved = header.words == Words::Reserved;
-        let table = Table::fresh(narrow(header.threads), narrow(header.objects), reserved);
+        let mut given = Given::default();
+        for (place, (_, rank)) in given.ranks.iter_mut().zip(ranks.given()) {
+            *place = rank as u8;
+        }
+        let table = Table::fresh_given(threads, objects, reserved, &given);
         Ok(Second {
             table: table.map_err(refusal)?,
         })
@@ -55,6 +61,7 @@ impl Engine for Second {
             saved_depth: record.saved_depth.into(),
             next: record.next.into(),
             ticks: record.ticks.into(),
+            rank: record.rank.into(),
         }
     }
 
@@ -97,6 +104,18 @@ impl Engine for Second {
                 depth,
             },
         }
+    }
+
+    fn chain(&self, object: u32, chain: Chain) -> Vec<u32> {
+        let chain = match chain {
+            Chain::Entry => table::Chain::Entry,
+            Chain::Contention => table::Chain::Contention,
+            Chain::Waiting => table::Chain::Waiting,
+        };
+        self.table
+            .chain(object as u8, chain)
+            .map(u32::from)
+            .collect()
     }
 
     fn blocker(&self, thread: u32) -> Option<Blocker> {

@@ -1,4 +1,4 @@
-//! Explains a schedule, line by line: `explain [--schedule K] [FILE]`.
+//! Explains a schedule, line by line: `explain [--ranks R,R,..] [--schedule K] [FILE]`.
 
 use duskclamp::Table;
 use schedule_view::command::{self, Status};
@@ -6,7 +6,7 @@ use schedule_view::explain::{explain, Ended, Failure};
 use std::io::Write;
 use std::process::ExitCode;
 
-const USAGE: &str = "usage: explain [--schedule K] [FILE]";
+const USAGE: &str = "usage: explain [--ranks R,R,..] [--schedule K] [FILE]";
 
 fn main() -> ExitCode {
     command::end("explain", run())

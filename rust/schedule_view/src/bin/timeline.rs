@@ -1,11 +1,13 @@
-//! Draws a schedule as a page, or with `--svg` as a picture for documents: `timeline [--svg] [--lines FROM-TO] [--schedule K] [FILE]`.
+//! Draws a schedule as a page, or with `--svg` as a picture for documents:
+//! `timeline [--svg] [--lines FROM-TO] [--ranks R,R,..] [--schedule K] [FILE]`.
 
 use duskclamp::Table;
 use schedule_view::command::{self, Status};
 use schedule_view::timeline;
 use std::process::ExitCode;
 
-const USAGE: &str = "usage: timeline [--svg] [--lines FROM-TO] [--schedule K] [FILE]";
+const USAGE: &str =
+    "usage: timeline [--svg] [--lines FROM-TO] [--ranks R,R,..] [--schedule K] [FILE]";
 
 fn main() -> ExitCode {
     let arguments = command::arguments(std::env::args_os().skip(1), true);

@@ -4,7 +4,8 @@
 use duskclamp::Table;
 use schedule_view::engine::Engine;
 use schedule_view::explain::{explain, Ended};
-use schedule_view::line::{self, Header, Line};
+use schedule_view::line::{self, Line};
+use schedule_view::ranks::Ranks;
 use schedule_view::run::{Happened, ObjectSeen, Run, State, ThreadSeen};
 use schedule_view::schedule::Schedule;
 use std::fs;
@@ -48,23 +49,25 @@ fn repeated(part: &str) -> String {
 
 /// Runs a schedule whose lines all have the form. With what happened at its last line, if that is no header.
 pub fn run(text: &str) -> (Run<Table>, Option<Happened>) {
+    run_ranked(text, "0")
+}
+
+/// The same with ranks.
+pub fn run_ranked(text: &str, ranks: &str) -> (Run<Table>, Option<Happened>) {
     let mut lines = text
         .lines()
         .map(|line| line::read(line.as_bytes()).expect("a line of the form"));
     let Some(Line::Header(header)) = lines.next() else {
         panic!("no header: {text}");
     };
-    let mut run = fresh(header);
+    let ranks = Ranks::read(ranks).expect("ranks");
+    let mut run = Run::new(header, &ranks).expect("sizes in range");
     let happened = lines.map(|line| match line {
         Line::Event(event) => run.take(event),
         Line::Header(_) => panic!("a second header: {text}"),
     });
     let last = happened.last();
     (run, last)
-}
-
-pub fn fresh(header: Header) -> Run<Table> {
-    Run::new(header).expect("sizes in range")
 }
 
 /// What the engine says when it is asked for everything.
@@ -78,6 +81,7 @@ pub fn asked(run: &Run<Table>) -> State {
             object: record.object,
             phase: record.phase,
             ticks: record.ticks,
+            rank: record.rank,
         }
     };
     let object = |number: u32| ObjectSeen {
@@ -92,8 +96,18 @@ pub fn asked(run: &Run<Table>) -> State {
 
 /// What `explain` writes, and how it ends.
 pub fn explained(input: &[u8]) -> (String, Ended) {
+    explanation(Schedule::whole(input))
+}
+
+/// The same with ranks.
+pub fn explained_ranked(input: &[u8], ranks: &str) -> String {
+    let ranks = Ranks::read(ranks).expect("ranks");
+    explanation(Schedule::whole(input).ranked(ranks)).0
+}
+
+fn explanation(schedule: Schedule<&[u8]>) -> (String, Ended) {
     let mut output = Vec::new();
-    let ended = explain::<Table>(Schedule::whole(input), &mut output).expect("memory to write to");
+    let ended = explain::<Table>(schedule, &mut output).expect("memory to write to");
     (String::from_utf8(output).expect("text"), ended)
 }
 

@@ -6,6 +6,7 @@ mod inputs;
 mod markup;
 mod pictures;
 mod programs;
+mod ranks;
 mod scan;
 mod stored;
 mod words;

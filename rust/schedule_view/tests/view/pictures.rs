@@ -10,6 +10,7 @@ use schedule_view::layout::ROW;
 use schedule_view::line::{self, Event, Header, Line};
 use schedule_view::page;
 use schedule_view::picture::BLOCK;
+use schedule_view::ranks::Ranks;
 use schedule_view::schedule::Schedule;
 use schedule_view::timeline::draw;
 use std::collections::{BTreeMap, BTreeSet};
@@ -106,7 +107,7 @@ impl Expected {
         let Some(Some(Line::Header(header))) = lines.next() else {
             panic!("no header");
         };
-        let mut table = <Table as Engine>::fresh(header).expect("a table");
+        let mut table = <Table as Engine>::fresh(header, &Ranks::default()).expect("a table");
         let mut expected = Expected::default();
         expected.note_table(&table, header);
         for line in lines {
@@ -342,6 +343,10 @@ fn a_page_has_what_a_picture_has() {
 fn no_text_is_over_another() {
     for (name, input) in schedules() {
         apart(&name, &picture(&drawing(&input).expect("a picture")));
+        let ranks = Ranks::read("3,0,1,2,3,0,1,2,3").expect("ranks");
+        let ranked = Schedule::whole(&input[..]).ranked(ranks);
+        let ranked = draw::<Table>(ranked, 1..=u64::MAX).expect("a picture");
+        apart(&name, &picture(&ranked));
     }
     let folder = fs::read_dir(repository("docs/pictures")).expect("pictures");
     for entry in folder {

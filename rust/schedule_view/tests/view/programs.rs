@@ -1,6 +1,6 @@
 //! The two programs as they are called: where they read from, what they write where, and the statuses that they end with.
 
-use crate::common::{contents, repository};
+use crate::common::{contents, files, repository};
 use std::ffi::{OsStr, OsString};
 use std::fs::{self, File};
 use std::io::Write;
@@ -73,6 +73,8 @@ fn a_file_and_standard_input_give_the_same() {
         (TIMELINE, &["--svg"]),
         (TIMELINE, &["--lines", "5-9"]),
         (TIMELINE, &["--svg", "--schedule", "1"]),
+        (EXPLAIN, &["--ranks", "0,3"]),
+        (TIMELINE, &["--svg", "--ranks", "0,3", "--schedule", "1"]),
     ] {
         let path = file(LISTING);
         let by_name = [options, &[path.as_str()]].concat();
@@ -100,6 +102,12 @@ fn usage() {
         &["--schedule", "one", &listing],
         &["--schedule", "99999999999999999999", &listing],
         &["--schedule=1", &listing],
+        &["--ranks"],
+        &["--ranks", "", &listing],
+        &["--ranks", "4", &listing],
+        &["--ranks", "3,,1", &listing],
+        &["--ranks", "3,one", &listing],
+        &["--ranks=3", &listing],
     ];
     let pictures: &[&[&str]] = &[
         &["--lines"],
@@ -131,7 +139,8 @@ fn help() {
             let ran = ran(program, &[option], b"");
             assert_eq!((ran.status, ran.said.as_str()), (Some(0), ""));
             assert!(ran.output.starts_with(&format!("usage: {name} [")));
-            assert!(ran.output.contains("[--schedule K]") && ran.output.ends_with("[FILE]\n"));
+            assert!(ran.output.contains("[--ranks R,R,..] [--schedule K]"));
+            assert!(ran.output.ends_with("[FILE]\n"));
         }
     }
 }
@@ -188,6 +197,39 @@ fn one_of_several_schedules() {
     let mut headers = lines.split(|byte| *byte == b'\n').enumerate();
     let header = headers.nth(first_number - 1).expect("a line").1;
     assert!(first_number > 1 && header.starts_with(b"L"));
+}
+
+/// The ranks of an example, which are in a file beside it; else none.
+fn ranks_of(example: &Path) -> String {
+    let ranks = fs::read_to_string(example.with_extension("ranks"));
+    ranks.map_or("0".to_string(), |ranks| ranks.trim_end().to_string())
+}
+
+#[test]
+fn explained_examples() {
+    let stored = files("examples", "explained");
+    assert_eq!(stored.len(), 2);
+    for path in stored {
+        let example = path.with_extension("txt");
+        let name = example.to_str().expect("a plain path");
+        let ran = ran(EXPLAIN, &["--ranks", &ranks_of(&example), name], b"");
+        let expected = fs::read_to_string(&path).expect("what is said");
+        assert_eq!((ran.status, ran.output), (Some(0), expected), "{name}");
+    }
+}
+
+#[test]
+fn ranks_of_every_schedule_of_an_input() {
+    let branches = file("examples/branches.txt");
+    for number in ["2", "3"] {
+        let given = ["--ranks", "0,1", "--schedule", number, &branches];
+        let explained = ran(EXPLAIN, &given, b"").output;
+        let said: Vec<&str> = explained.split_whitespace().collect();
+        let ranks = "Ranks: 1 for thread 2; 0 for all others.";
+        assert!(said.join(" ").contains(ranks), "{number}");
+        let drawn = ran(TIMELINE, &[&["--svg"], &given[..]].concat(), b"").output;
+        assert!(drawn.contains(">thread 2, rank 1<"), "{number}");
+    }
 }
 
 #[test]

@@ -3,6 +3,7 @@
 use crate::common::{asked, files};
 use duskclamp::{Refusal, Table};
 use schedule_view::line::Event;
+use schedule_view::ranks::Ranks;
 use schedule_view::run::{printed, Change, Happened, Run, State};
 use schedule_view::schedule::Schedule;
 use schedule_view::words::describe;
@@ -30,7 +31,7 @@ fn replayed(input: &[u8], mut show: impl FnMut(&Run<Table>, &Happened)) -> Strin
     let Some(Ok(header)) = header.map(|read| read.says) else {
         return format!("{MALFORMED}\n");
     };
-    let mut run = match Run::<Table>::new(header) {
+    let mut run = match Run::<Table>::new(header, &Ranks::default()) {
         Ok(run) => run,
         Err(refusal) => return format!("{}\n", refusal.number()),
     };

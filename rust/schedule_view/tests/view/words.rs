@@ -2,13 +2,14 @@
 
 use crate::common::{asked, explained, paragraph, run, schedule};
 use crate::expected::{answers, endings, malformed};
-use duskclamp::{Answer, Blocker, LockWord, Object, Operation, Outcome, Phase, Refusal};
+use duskclamp::{Answer, Blocker, Chain, LockWord, Object, Operation, Outcome, Phase, Refusal};
 use duskclamp::{Thread, ThreadSet, Words};
 use schedule_view::ending;
 use schedule_view::engine::Engine;
 use schedule_view::explain::Ended;
 use schedule_view::line::{Event, Header};
 use schedule_view::malformed::Cause;
+use schedule_view::ranks::Ranks;
 use schedule_view::run::{Change, Happened, Run, State, ThreadSeen};
 use schedule_view::schedule::Schedule;
 use schedule_view::words::{describe, word};
@@ -186,7 +187,7 @@ fn every_refusal_of_a_schedule() {
 struct Refuser;
 
 impl Engine for Refuser {
-    fn fresh(_: Header) -> Result<Refuser, Refusal> {
+    fn fresh(_: Header, _: &Ranks) -> Result<Refuser, Refusal> {
         Ok(Refuser)
     }
 
@@ -215,6 +216,7 @@ impl Engine for Refuser {
             saved_depth: 0,
             next: 0,
             ticks: 0,
+            rank: 0,
         }
     }
 
@@ -241,6 +243,10 @@ impl Engine for Refuser {
         LockWord::Invalid
     }
 
+    fn chain(&self, _: u32, _: Chain) -> Vec<u32> {
+        Vec::new()
+    }
+
     fn blocker(&self, _: u32) -> Option<Blocker> {
         None
     }
@@ -252,7 +258,7 @@ fn refused_by_all() -> Run<Refuser> {
         objects: 1,
         words: Words::Free,
     };
-    Run::new(header).expect("a table of the refuser")
+    Run::new(header, &Ranks::default()).expect("a table of the refuser")
 }
 
 #[test]

@@ -6,7 +6,8 @@ use schedule_view::command::{self, Status};
 use schedule_view::timeline;
 use std::process::ExitCode;
 
-const USAGE: &str = "usage: accident [--svg] [--lines FROM-TO] [--schedule K] [FILE]";
+const USAGE: &str =
+    "usage: accident [--svg] [--lines FROM-TO] [--ranks R,R,..] [--schedule K] [FILE]";
 const WARNING: &str =
     "WRONG ON PURPOSE, not Duskclamp: this engine's cancel does not send the owner back from its store.";
 
