@@ -1,5 +1,7 @@
 // Schedules in bytes, eight for each event (event_bytes), each run whole from a fresh table by one call; the expected output is beside it. K7 of
 // document 01 is among them. The other cases are executed on the library for C, by tests in Rust (tests/tables).
+#![tactic(auto)]
+
 use libc::STDOUT_FILENO;
 use lock_table::{FreshAnswer, Table};
 

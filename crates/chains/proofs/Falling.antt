@@ -9,7 +9,7 @@ use Rattle.laws.specs.{Choice.pick, Count.count, Filter.failing}
 use Rattle.laws.proofs.Choice.{either_way, equal?, AtMost, at_most}
 use Rattle.laws.proofs.Count.{count_none, count_same, count_other, count_more}
 use Rattle.laws.proofs.Filter.{count_parted}
-use Rattle.chains.proofs.Chain.{Chain, head, chain_head}
+use Rattle.chains.proofs.Listed.{Chain, head, chain_head}
 use Rattle.chains.proofs.Queue.{insert, queue_by, count_insert}
 
 -- nobody stands behind one of lower rank

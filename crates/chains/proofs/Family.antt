@@ -7,7 +7,7 @@ use mathlib.Core.List.{List, []}
 use native.Mathlib.Omega.{arith}
 use Rattle.laws.specs.Count.{count}
 use Rattle.laws.proofs.Count.{count_none}
-use Rattle.chains.proofs.Chain.{Chain, chain_without_zero}
+use Rattle.chains.proofs.Listed.{Chain, chain_without_zero}
 
 -- no thread is in two of the lists
 abbrev pub Apart : (ℕ → List ℕ) → Type 0

@@ -10,7 +10,7 @@ use lib.ListN.{length, take}
 use Rattle.laws.specs.{Update.update, Count.count}
 use Rattle.laws.proofs.{Update.update_id, Count.count_none}
 use Rattle.chains.specs.Joining.{no_ends}
-use Rattle.chains.proofs.Chain.{by_update, Chain, head, chain_head}
+use Rattle.chains.proofs.Listed.{by_update, Chain, head, chain_head}
 use Rattle.chains.proofs.Family.{Chains, chains_zero}
 use Rattle.laws.specs.Filter.{failing}
 use Rattle.laws.proofs.Filter.{passing, length_passing}

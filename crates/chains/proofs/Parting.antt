@@ -15,7 +15,7 @@ use Rattle.laws.proofs.Update.{update_same, update_other}
 use Rattle.laws.proofs.Count.{count_none, count_same, count_other, count_append}
 use Rattle.chains.specs.declared.ends.Ends.{Ends}
 use Rattle.chains.specs.Joining.{no_ends, grown, linked}
-use Rattle.chains.proofs.Chain.{Chain, last, chain_frame, last_member, chain_without_zero, chain_once, chain_link, linked_last, linked_other}
+use Rattle.chains.proofs.Listed.{Chain, last, chain_frame, last_member, chain_without_zero, chain_once, chain_link, linked_last, linked_other}
 use Rattle.chains.proofs.Family.{Chains, Aside}
 use Rattle.laws.specs.Filter.{failing}
 use Rattle.laws.proofs.Filter.{passing, count_parted}

@@ -14,7 +14,7 @@ use Rattle.laws.proofs.Choice.{either_way, equal?}
 use Rattle.laws.proofs.Update.{update_same, update_other, update_id}
 use Rattle.laws.proofs.Count.{count_none, count_same, count_other, count_more}
 use Rattle.chains.specs.declared.place.Place.{Place}
-use Rattle.chains.proofs.Chain.{by_update, Chain, chain_frame, chain_first_once}
+use Rattle.chains.proofs.Listed.{by_update, Chain, chain_frame, chain_first_once}
 use Rattle.chains.proofs.Family.{Chains, Aside, chains_aside, none_aside}
 use Rattle.chains.proofs.Relink.{relink_aside}
 

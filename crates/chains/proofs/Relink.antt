@@ -9,7 +9,7 @@ use Rattle.laws.specs.{Update.update, Count.count}
 use Rattle.laws.proofs.Choice.{either_way, equal?}
 use Rattle.laws.proofs.Update.{update_same, update_other}
 use Rattle.laws.proofs.Count.{count_none, count_same, count_other, count_append}
-use Rattle.chains.proofs.Chain.{by_update, Chain, chain_frame, chain_first_once, chain_once, chain_leave}
+use Rattle.chains.proofs.Listed.{by_update, Chain, chain_frame, chain_first_once, chain_once, chain_leave}
 use Rattle.chains.proofs.Family.{Chains, Aside, chains_aside, none_aside, others}
 
 -- Chain c becomes the list `new`, with other next indexes: of its threads and of those that come in; whoever left has none.

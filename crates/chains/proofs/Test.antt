@@ -12,7 +12,7 @@ use Rattle.laws.specs.{Choice.pick, Count.count}
 use Rattle.laws.proofs.Choice.{either_way, false≢true, equal?, Equal, equal}
 use Rattle.laws.proofs.Count.{count_none, count_same, count_other}
 use Rattle.chains.specs.Chain.{members, chain_test, in_chain}
-use Rattle.chains.proofs.Chain.{Chain}
+use Rattle.chains.proofs.Listed.{Chain}
 
 -- the chain is this list, it ends within `fuel` links, and each of its threads passes `ok`
 pub record Passes (fuel : ℕ) (next : ℕ → ℕ) (ok : ℕ → Bool) (first : ℕ) (list : List ℕ) : Type 0 where

@@ -10,7 +10,7 @@ use Rattle.laws.specs.{Choice.pick, Update.update, Count.count}
 use Rattle.laws.proofs.Choice.{either_way, equal?}
 use Rattle.laws.proofs.Update.{update_same, update_other}
 use Rattle.laws.proofs.Count.{count_none, count_same, count_other}
-use Rattle.chains.proofs.Chain.{Chain, chain_first_once}
+use Rattle.chains.proofs.Listed.{Chain, chain_first_once}
 
 -- each member's record is changed, from the first on
 unfoldable pub walk : {A : Type 0} → ℕ → (ℕ → ℕ) → (A → A) → (ℕ → A) → ℕ → ℕ → A

@@ -12,7 +12,7 @@ pub fn first_with(front: u8, back: u8) -> u8
     front
 }
 
-#[derive(Drop)]
+#[derive(Clone, Copy)]
 pub struct Ends {
     pub first: u8,
     pub last: u8,

@@ -1,5 +1,5 @@
 // The three chains of an object: document 01, "The table".
-#[derive(Drop)]
+#[derive(Clone, Copy)]
 pub enum Chain {
     Entry, // threads that wait for the monitor
     Contention, // threads that wait for the word

@@ -1,5 +1,5 @@
 // A place in a chain, at which a thread joins it: behind `last` and before `here`, 0 for nobody.
-#[derive(Drop)]
+#[derive(Clone, Copy)]
 pub struct Place {
     pub last: u8,
     pub here: u8,

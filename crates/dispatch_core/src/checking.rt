@@ -38,6 +38,7 @@ fn operations_known(scripts: &[u8], objects: u8, start: u32, length: u32) -> boo
 }
 
 // A script is among the operations lent, its cursor is not past its end, and all of it is known.
+#[tactic(auto, unfolding(dispatch_rules::specs::Script::script_known))]
 fn script_known(scripts: &[u8], objects: u8, cursor: ScriptCursor) -> bool
     ensures { result ≡ script_known scripts.now objects cursor }
 {
@@ -106,6 +107,7 @@ pub(crate) fn dispatch_answer(
 }
 
 // Document 02's number for an answer.
+#[tactic(auto, unfolding(dispatch_rules::specs::Dispatch::dispatch_returned))]
 pub fn dispatch_returned(answer: DispatchAnswer) -> u8
     ensures { result ≡ dispatch_returned answer }
 {

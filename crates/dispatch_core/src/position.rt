@@ -16,7 +16,7 @@ const STEP_WEIGHT: u64 = 205;
 // What a step that parks its thread returns.
 const PARKED: u8 = 2;
 
-#[derive(Drop)]
+#[derive(Clone, Copy)]
 pub(crate) struct Position {
     pub thread: u8,
     pub left: u32,
@@ -73,6 +73,7 @@ fn over() -> Position
 }
 
 // The first thread's turn, or over at once where the run is refused.
+#[tactic(auto, unfolding(crate::specs::Position::first_position))]
 pub(crate) fn first_position(answer: DispatchAnswer, quantum: u32, rounds: u64) -> Position
     ensures { result ≡ first_position answer quantum rounds }
 {
@@ -85,6 +86,7 @@ pub(crate) fn first_position(answer: DispatchAnswer, quantum: u32, rounds: u64) 
 }
 
 // A thread whose turn is over: the next one's, or the first one's in another round, if this one had a step.
+#[tactic(auto, unfolding(crate::specs::Position::after_turn))]
 fn after_turn(threads: u8, quantum: u32, thread: u8, stepped: bool, rounds: u64) -> Position
     ensures { result ≡ after_turn threads quantum thread stepped rounds }
 {
@@ -101,6 +103,7 @@ fn after_turn(threads: u8, quantum: u32, thread: u8, stepped: bool, rounds: u64)
 }
 
 // After a thread might take a step: it did, or not, and its turn may go on, or not.
+#[tactic(auto, unfolding(crate::specs::Position::next_position))]
 pub(crate) fn next_position(
     threads: u8,
     quantum: u32,

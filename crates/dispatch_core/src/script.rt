@@ -42,6 +42,7 @@ pub(crate) fn object_of(scripts: &[u8], start: u32, place: u32) -> u8
 }
 
 // Whether the thread is idle and its cursor is before its script's end, so that it begins the next operation.
+#[tactic(auto, unfolding(dispatch_rules::specs::Script::begins))]
 pub(crate) fn begins(status: ThreadStatus, cursor: ScriptCursor) -> bool
     ensures { result ≡ begins status cursor }
 {
@@ -53,6 +54,7 @@ pub(crate) fn begins(status: ThreadStatus, cursor: ScriptCursor) -> bool
 }
 
 // The thread's record when it may take a step.
+#[tactic(auto, unfolding(crate::specs::Records::record_ready))]
 pub(crate) fn record_ready(
     begins: bool,
     scripts: &[u8],
@@ -70,6 +72,7 @@ pub(crate) fn record_ready(
 }
 
 // Beginning moves the cursor on. Who begins has an operation left; the test is there so that one more fits.
+#[tactic(auto, unfolding(crate::specs::Records::cursor_after))]
 pub(crate) fn cursor_after(begins: bool, cursor: ScriptCursor) -> ScriptCursor
     ensures { result ≡ cursor_after begins cursor }
 {

@@ -13,6 +13,7 @@ const BEGUN_UNIT: u64 = 131072;
 const THREAD_UNIT: u64 = 16777216;
 
 // The step's answer, with its thread and whether the thread began its operation just before.
+#[tactic(auto, unfolding(dispatch_rules::specs::Dispatch::trace_entry))]
 pub(crate) fn trace_entry(
     thread: u8,
     begun: bool,

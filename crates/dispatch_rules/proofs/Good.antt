@@ -11,7 +11,7 @@ use lib.Dec.{eqb}
 use Rattle.laws.specs.Choice.{within}
 use Rattle.laws.proofs.Choice.{split, by_test, either_way, equal?, false≢true, both_first, both_second}
 use Rattle.laws.proofs.Every.{all_at}
-use Rattle.lock_rules.proofs.Gate.{within_says}
+use Rattle.lock_rules.proofs.Gating.{within_says}
 use Rattle.lock_rules.specs.declared.event.ThreadStatus.TheVariants.{Idle}
 use Rattle.lock_rules.specs.declared.event.Event.{Event}
 use Rattle.lock_rules.specs.declared.event.Event.TheVariants.{Step}

@@ -1,9 +1,11 @@
 // The dispatcher's types (document 02, L6): a thread's script, what runs, and what a run answers. Definitions, claims and proofs about them, and no code.
+#![tactic(auto)]
+
 use lock_table::Table;
 
 // Where the script of a thread is in the operations that are lent, and how far it has come. So it lies in memory, for callers in C.
 #[repr(C)]
-#[derive(Drop)]
+#[derive(Clone, Copy)]
 pub struct ScriptCursor {
     // its first operation; they count from 0
     pub start: u32,
@@ -13,7 +15,7 @@ pub struct ScriptCursor {
     pub cursor: u32,
 }
 
-#[derive(Drop)]
+#[derive(Clone, Copy)]
 pub enum DispatchAnswer {
     // 0
     Ended,
@@ -26,7 +28,7 @@ pub enum DispatchAnswer {
 }
 
 // What a run gives back: the table that it came to, its answer, and how many steps it took.
-#[derive(Drop)]
+#[derive(Clone, Copy)]
 pub struct Dispatched {
     pub table: Table,
     pub answer: DispatchAnswer,
@@ -34,7 +36,7 @@ pub struct Dispatched {
 }
 
 // And the cursors that it came to, for those who lent them.
-#[derive(Drop)]
+#[derive(Clone, Copy)]
 pub struct ScriptRun {
     pub cursors: [ScriptCursor; 32],
     pub dispatched: Dispatched,

@@ -1,5 +1,7 @@
 // An event in bytes, for callers that hand over many at once: kind, thread, operation, object, and a limit in four bytes, the lowest first; and its answer
 // as one number.
+#![tactic(auto)]
+
 ghost use Rattle.std.specs.Prelude.{◌≡◌, ◌%◌, ◌<◌};
 ghost use Rattle.event_bytes.specs.Encoding.{limit_from, event_from};
 ghost use Rattle.event_bytes.specs.Answer.{set_unit, free_unit, packed_of};
@@ -24,6 +26,7 @@ const COMMITS_UNIT: u64 = 65536;
 const SET_UNIT: u64 = 4294967296;
 
 // The limit of these bytes.
+#[tactic(auto, unfolding(crate::specs::Encoding::limit_from))]
 pub fn limit_from(first: u8, second: u8, third: u8, fourth: u8) -> u32
     ensures { result ≡ limit_from first second third fourth }
 {
@@ -31,6 +34,7 @@ pub fn limit_from(first: u8, second: u8, third: u8, fourth: u8) -> u32
 }
 
 // The event of these bytes. A kind that is none is taken as the begin of no operation, which the engine refuses with 17.
+#[tactic(auto, unfolding(crate::specs::Encoding::event_from))]
 pub fn event_from(kind: u8, thread: u8, operation: u8, object: u8, limit: u32) -> Event
     ensures { result ≡ event_from kind thread operation object limit }
 {
@@ -57,6 +61,7 @@ pub fn event_from(kind: u8, thread: u8, operation: u8, object: u8, limit: u32) -
 }
 
 // An answer: the returned number, the woken number, whether the event committed, and the set of threads that it unparked. Bits 17 to 31 are not used.
+#[tactic(auto, unfolding(crate::specs::Answer::packed_of))]
 pub fn packed(returned: u8, woken: u8, commits: bool, unparked: u32) -> u64
     ensures value { result ≡ packed_of returned woken commits unparked }
     ensures free { result % set_unit < free_unit }

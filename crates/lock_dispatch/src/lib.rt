@@ -1,5 +1,7 @@
 // The dispatcher over records that the caller lends (document 02, L6). They are copied into an array for the run, and back after it: the borrow checker does not
 // cover a slice of structs, so each function that holds it is proved by a walk of its MIR, by hand, and does no more than it must.
+#![tactic(auto)]
+
 ghost use Rattle.std.specs.Prelude.{◌≡◌, ◌≤◌, ◌<◌, length};
 ghost use Rattle.lock_table.specs.Limits.{thread_limit};
 ghost use Rattle.dispatch_rules.specs.Dispatch.{most_steps, steps_room};
@@ -37,6 +39,7 @@ fn store(cursors: &mut [ScriptCursor], array: [ScriptCursor; 32], count: usize)
 }
 
 // As many of the records lent as a table can have threads.
+#[tactic(auto, unfolding(crate::specs::Lent::fitting))]
 fn fitting(lent: usize) -> usize
     ensures { result ≡ fitting lent }
 {

@@ -19,7 +19,7 @@ use Rattle.lock_rules.specs.declared.{ChainWork.ChainWork, Action.Action, Doing.
 use Rattle.lock_rules.specs.declared.ChainWork.TheVariants.{Stay}
 use Rattle.lock_rules.specs.declared.Action.TheVariants.{Unruled, Do}
 use Rattle.lock_rules.specs.declared.ThreadState.TheVariants.{Idle, Running, Queued, Contending, Waiting}
-use Rattle.lock_rules.proofs.Gate.{Passed, by_gate}
+use Rattle.lock_rules.proofs.Gating.{Passed, by_gate}
 use Rattle.lock_table.specs.Limits.{thread_limit, object_limit}
 use Rattle.lock_table.specs.Record.{with_next, with_monitor}
 use Rattle.lock_table.specs.Access.{thread_at, set_thread, object_at, set_object, next_of}

@@ -12,6 +12,7 @@ use lock_work::{work_done, work_stays};
 
 // What an event makes of the two records, of a table that is taken to be sound or not. The waiters are counted here, and nowhere else; where nobody
 // waits there is nothing to walk.
+#[tactic(auto, using(laws::proofs::Choice::either_way, crate::proofs::InPlace::none_wait))]
 pub fn turn_with(
     table: Table,
     event: Event,
@@ -38,6 +39,7 @@ pub fn turn_with(
 }
 
 // For a caller that knows whether the table is sound.
+#[tactic(auto, using(crate::proofs::InPlace::stored_so, crate::proofs::InPlace::worked_so, lock_table::proofs::Places::place_inside))]
 pub fn handle_trusting(table: Table, event: Event, issound: bool) -> Outcome
     ensures { result ≡ handle_trusting table event issound }
 {
@@ -71,6 +73,7 @@ pub fn handle_trusting(table: Table, event: Event, issound: bool) -> Outcome
 }
 
 // Every event on every table.
+#[tactic(auto, unfolding(crate::specs::Handle::handle))]
 pub fn handle(table: Table, event: Event) -> Outcome
     ensures { result ≡ handle table event }
 {

@@ -6,7 +6,7 @@ ghost use Rattle.lock_engine.specs.Outcome.{reply_returned, reply_woken};
 use lock_rules::{Answer, Refusal};
 use lock_table::Table;
 
-#[derive(Drop)]
+#[derive(Clone, Copy)]
 pub enum Reply {
     // 0, of a begin or a tick
     Accepted,
@@ -15,7 +15,7 @@ pub enum Reply {
     Answered(Answer),
 }
 
-#[derive(Drop)]
+#[derive(Clone, Copy)]
 pub struct Outcome {
     pub table: Table,
     pub reply: Reply,
@@ -26,6 +26,7 @@ pub struct Outcome {
 }
 
 // The number of a refusal before any rule.
+#[tactic(auto, unfolding(lock_rules::specs::Numbers::refusal_number))]
 pub fn refusal_number(refusal: Refusal) -> u8
     ensures { result ≡ refusal_number refusal }
 {
@@ -68,6 +69,7 @@ fn answer_woken(answer: Answer) -> u8
 }
 
 // The number returned.
+#[tactic(auto, unfolding(crate::specs::Outcome::reply_returned))]
 pub fn returned(reply: Reply) -> u8
     ensures { result ≡ reply_returned reply }
 {
@@ -79,6 +81,7 @@ pub fn returned(reply: Reply) -> u8
 }
 
 // With 1, how many threads a notify woke, and of a timed wait 1 if it ran out; else 0.
+#[tactic(auto, unfolding(crate::specs::Outcome::reply_woken))]
 pub fn woken(reply: Reply) -> u8
     ensures { result ≡ reply_woken reply }
 {

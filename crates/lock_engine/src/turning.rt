@@ -14,7 +14,7 @@ use lock_work::Work;
 use rule_decide::decide;
 
 // What an event makes of the two records, the work that is left to do, and what it replies.
-#[derive(Drop)]
+#[derive(Clone, Copy)]
 pub struct Turn {
     pub own: ThreadRecord,
     pub object: ObjectRecord,
@@ -46,6 +46,7 @@ fn narrow_limit(limit: u32) -> Ticks
 }
 
 // The limit of a timed wait; no other operation has ticks.
+#[tactic(auto, unfolding(crate::specs::Turn::given_ticks))]
 fn given_ticks(operation: Operation, limit: u32) -> Ticks
     ensures { result ≡ given_ticks operation limit }
 {
@@ -121,6 +122,7 @@ fn effect_turn(thread: u8, own: ThreadRecord, object: ObjectRecord, effect: Effe
 }
 
 // 20 leaves both records.
+#[tactic(auto, unfolding(crate::specs::Turn::action_turn))]
 fn action_turn(thread: u8, own: ThreadRecord, object: ObjectRecord, action: Action) -> Turn
     ensures { result ≡ action_turn thread own object action }
 {
@@ -137,6 +139,7 @@ fn action_turn(thread: u8, own: ThreadRecord, object: ObjectRecord, action: Acti
 }
 
 // What is no lock word is no sound table's; the test before has seen to it that this does not occur.
+#[tactic(auto, unfolding(crate::specs::Turn::word_turn))]
 fn word_turn(
     thread: u8,
     own: ThreadRecord,
@@ -158,6 +161,7 @@ fn word_turn(
     )
 }
 
+#[tactic(auto, unfolding(crate::specs::Turn::state_turn))]
 fn state_turn(
     thread: u8,
     own: ThreadRecord,
@@ -183,6 +187,7 @@ fn state_turn(
     }
 }
 
+#[tactic(auto, unfolding(crate::specs::Turn::step_turn))]
 fn step_turn(thread: u8, own: ThreadRecord, object: ObjectRecord, waiters: u8) -> Turn
     ensures { result ≡ step_turn thread own object waiters }
 {
@@ -192,6 +197,7 @@ fn step_turn(thread: u8, own: ThreadRecord, object: ObjectRecord, waiters: u8) -
     refused(own, object, Refusal::NotSound)
 }
 
+#[tactic(auto, unfolding(crate::specs::Turn::open_turn))]
 fn open_turn(event: Event, own: ThreadRecord, object: ObjectRecord, waiters: u8) -> Turn
     ensures { result ≡ open_turn event own object waiters }
 {
@@ -207,6 +213,7 @@ fn open_turn(event: Event, own: ThreadRecord, object: ObjectRecord, waiters: u8)
     }
 }
 
+#[tactic(auto, unfolding(crate::specs::Turn::gate_turn))]
 fn gate_turn(gate: Gate, event: Event, own: ThreadRecord, object: ObjectRecord, waiters: u8) -> Turn
     ensures { result ≡ gate_turn gate event own object waiters }
 {

@@ -23,6 +23,7 @@ use table_bytes::{
 
 const NO_LIMIT: u32 = 0;
 
+#[tactic(auto, unfolding(crate::specs::Calls::answer_changes))]
 fn answer_changes(answer: Answer) -> bool
     ensures { result ≡ answer_changes answer }
 {
@@ -36,6 +37,7 @@ fn answer_changes(answer: Answer) -> bool
     }
 }
 
+#[tactic(auto, unfolding(crate::specs::Calls::reply_changes))]
 pub(crate) fn reply_changes(reply: Reply) -> bool
     ensures { result ≡ reply_changes reply }
 {
@@ -46,6 +48,7 @@ pub(crate) fn reply_changes(reply: Reply) -> bool
     }
 }
 
+#[tactic(auto, unfolding(crate::specs::Calls::stored_over))]
 pub(crate) fn store(bytes: &mut [u8], table: Table, changed: bool)
     ensures { bytes.new ≡ stored_over changed bytes.old table }
 {
@@ -57,6 +60,7 @@ pub(crate) fn store(bytes: &mut [u8], table: Table, changed: bool)
 // On bytes that are a table, the event on the table that they say. Nothing is stored where nothing changed, so that a refused event, which leaves no
 // work, can be tried on memory that may only be read; and no more than the two records where there is no more work. These are read from the bytes: to
 // read them from the table would copy it.
+#[tactic(auto, using(laws::proofs::Choice::either_way, crate::proofs::EventTurns::turn_answers, crate::proofs::EventTurns::turn_stores), unfolding(crate::specs::Calls::store_turn))]
 fn handle_if_table(bytes: &mut [u8], event: Event, istable: bool) -> u64
     ensures value { result ≡ event_answer istable (handle (table_of bytes.old) event) }
     ensures bytes_after { bytes.new ≡ event_over istable bytes.old (table_of bytes.old) event }
@@ -90,6 +94,7 @@ fn handle_if_table(bytes: &mut [u8], event: Event, istable: bool) -> u64
 }
 
 // With the right number of bytes, a fresh table as asked.
+#[tactic(auto, using(laws::proofs::Choice::either_way), unfolding(crate::specs::Calls::keep_made))]
 pub(crate) fn fresh_if_sized(bytes: &mut [u8], request: FreshRequest, fits: bool) -> u32
     ensures value { result ≡ fresh_answer fits (fresh_of request) }
     ensures bytes_after { bytes.new ≡ fresh_if_sized fits bytes.old (fresh_of request) }
@@ -116,6 +121,7 @@ pub extern "C" fn duskclamp_table_size() -> usize
 
 // A fresh table with every word free, or with `reserved` not 0 anonymously reserved: 0, or 11 or 22 and the bytes stay.
 #[unsafe(no_mangle)]
+#[tactic(auto, using(lock_table::proofs::Narrowed::narrow_fresh, crate::proofs::FreshWritten::fresh_written))]
 pub extern "C" fn duskclamp_fresh(
     bytes: &mut [u8],
     threads: u32,
@@ -137,6 +143,7 @@ pub extern "C" fn duskclamp_fresh(
 // The thread begins the operation with this number on the object, without a limit. Refused, it leaves every byte, and its answer
 // carries no set.
 #[unsafe(no_mangle)]
+#[tactic(auto, using(lock_engine::proofs::Narrow::narrow_begin, crate::proofs::RefusedBytes::begin_promised))]
 pub extern "C" fn duskclamp_begin(bytes: &mut [u8], thread: u32, operation: u32, object: u32) -> u64
     ensures value { result ≡ event_answer (is_table bytes.old) (begun_on bytes.old thread operation object 0) }
     ensures bytes_after { bytes.new ≡ event_bytes (is_table bytes.old) bytes.old (begun_on bytes.old thread operation object 0) }
@@ -154,6 +161,7 @@ pub extern "C" fn duskclamp_begin(bytes: &mut [u8], thread: u32, operation: u32,
 
 // The thread begins a timed wait on the object, with this limit in ticks. Refused, it leaves every byte, and its answer carries no set.
 #[unsafe(no_mangle)]
+#[tactic(auto, using(lock_engine::proofs::Narrow::narrow_begin, crate::proofs::RefusedBytes::begin_promised), unfolding(lock_table::specs::Narrow::narrow_of))]
 pub extern "C" fn duskclamp_timed_wait(
     bytes: &mut [u8],
     thread: u32,
@@ -176,6 +184,7 @@ pub extern "C" fn duskclamp_timed_wait(
 
 // The thread takes one step. Refused, it leaves every byte, and its answer carries no set; with 18 and 19, every byte but those of the thread's record.
 #[unsafe(no_mangle)]
+#[tactic(auto, using(lock_engine::proofs::Narrow::narrow_step, crate::proofs::RefusedBytes::step_promised))]
 pub extern "C" fn duskclamp_step(bytes: &mut [u8], thread: u32) -> u64
     ensures value { result ≡ event_answer (is_table bytes.old) (stepped_on bytes.old thread) }
     ensures bytes_after { bytes.new ≡ event_bytes (is_table bytes.old) bytes.old (stepped_on bytes.old thread) }
@@ -190,6 +199,7 @@ pub extern "C" fn duskclamp_step(bytes: &mut [u8], thread: u32) -> u64
 
 // One tick of the clock. Refused, it leaves every byte, and its answer carries no set.
 #[unsafe(no_mangle)]
+#[tactic(auto, using(crate::proofs::RefusedBytes::tick_promised))]
 pub extern "C" fn duskclamp_tick(bytes: &mut [u8]) -> u64
     ensures value { result ≡ event_answer (is_table bytes.old) (ticked_on bytes.old) }
     ensures bytes_after { bytes.new ≡ event_bytes (is_table bytes.old) bytes.old (ticked_on bytes.old) }

@@ -15,6 +15,7 @@ use lock_work::{work_done, work_stays};
 use table_bytes::{is_table, read_table};
 
 // As many events as there are whole ones, and as there is room for answers.
+#[tactic(auto, unfolding(crate::specs::Run::run_count))]
 fn run_count(events: usize, answers: usize) -> usize
     ensures { result ≡ run_count events answers }
 {

@@ -1,4 +1,6 @@
 // Which refusal an event gets before any rule (document 01, "Returned first"), and whose record and which object's it is about.
+#![tactic(auto)]
+
 ghost use Rattle.std.specs.Prelude.{◌≡◌};
 ghost use Rattle.lock_rules.specs.Gate.{first_refusing, idle_rows, ready_rows, begin_rows, step_rows, limit_fits, event_rows, gate, event_thread, event_object};
 ghost use Rattle.lock_gate.specs.Status.{thread_status};
@@ -12,6 +14,7 @@ pub const TIMED_WAIT: u8 = 6;
 // The operations are numbered from 1 to this.
 const OPERATION_LIMIT: u8 = TIMED_WAIT;
 
+#[tactic(auto, unfolding(crate::specs::Status::thread_status))]
 pub fn thread_status(phase: Phase) -> ThreadStatus
     ensures { result ≡ thread_status phase }
 {

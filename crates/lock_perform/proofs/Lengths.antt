@@ -4,7 +4,7 @@ use mathlib.Core.Path.{◌≡◌, ap}
 use native.Mathlib.Omega.{arith}
 use lib.ListN.{length}
 use Rattle.chains.specs.Chain.{chain_length}
-use Rattle.chains.proofs.Chain.{members_none}
+use Rattle.chains.proofs.Listed.{members_none}
 use Rattle.lock_table.specs.Access.{next_of}
 use Rattle.lock_table.specs.declared.record.Table.{Table}
 

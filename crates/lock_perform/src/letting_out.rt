@@ -16,6 +16,7 @@ pub fn queued_exit(thread: ThreadRecord) -> bool
 }
 
 // A thread of the entry chain, in no chain yet: idle if it goes.
+#[tactic(auto, unfolding(crate::specs::Moving::let_out))]
 pub fn let_out(thread: ThreadRecord, goes: bool) -> ThreadRecord
     ensures { result ≡ let_out thread goes }
 {

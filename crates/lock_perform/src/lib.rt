@@ -1,5 +1,7 @@
 // A step's action on records: threads read from and written to their records, what a rule sees of its object, and what an effect does to words,
 // monitors and the records of chains (document 01, "Steps").
+#![tactic(auto)]
+
 mod letting_out;
 mod moving;
 mod parting;

@@ -12,7 +12,7 @@ use lock_table::{Monitor, Phase, THREADS, ThreadRecord, handed, moved, narrow, n
 
 // What a work does: the record that it changes as it is then, the monitor before anybody joins a chain of it, whom it unparks, and who joins which
 // chain: a thread, or a chain from its first thread on, 0 for nobody.
-#[derive(Drop)]
+#[derive(Clone, Copy)]
 pub struct ChainPlan {
     pub changed: ThreadRecord,
     pub monitor: Monitor,
@@ -32,6 +32,7 @@ fn look_again(thread: ThreadRecord) -> ThreadRecord
 }
 
 // A thread in phase 2 goes back to phase 1.
+#[tactic(auto, unfolding(crate::specs::Moving::back_from))]
 fn back_from(thread: ThreadRecord, phase: Phase) -> ThreadRecord
     ensures { result ≡ back_from thread phase }
 {
@@ -55,6 +56,7 @@ fn back_from(thread: ThreadRecord, phase: Phase) -> ThreadRecord
     }
 }
 
+#[tactic(auto, unfolding(crate::specs::Moving::sent_back_of))]
 fn sent_back(object: u8, thread: ThreadRecord) -> ThreadRecord
     ensures { result ≡ sent_back_of object thread }
 {
@@ -183,6 +185,7 @@ fn plan(
 }
 
 // The record of a number that has one, else the other.
+#[tactic(auto, unfolding(crate::specs::InPlace::if_record))]
 pub fn if_record(number: u8, there: ThreadRecord, other: ThreadRecord) -> ThreadRecord
     ensures { result ≡ if_record number there other }
 {

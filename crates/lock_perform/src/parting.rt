@@ -10,7 +10,7 @@ use chains::{Ends, no_ends};
 use lock_table::{Table, ThreadRecord};
 
 // The chain of those that stay, that of those that go, if they go together, and the set of those that go.
-#[derive(Drop)]
+#[derive(Clone, Copy)]
 pub struct Parting {
     pub left: Ends,
     pub taken: Ends,
@@ -18,7 +18,7 @@ pub struct Parting {
 }
 
 // A table, and what a chain of it was parted into.
-#[derive(Drop)]
+#[derive(Clone, Copy)]
 pub struct PartedChain {
     pub table: Table,
     pub parting: Parting,
@@ -35,6 +35,7 @@ pub fn no_parting() -> Parting
 }
 
 // The last thread of the chain that a thread joins, 0 where it joins none or is the first.
+#[tactic(auto, unfolding(crate::specs::Parting::last_behind))]
 pub fn last_behind(parting: Parting, goes: bool) -> u8
     ensures { result ≡ last_behind parting goes }
 {
@@ -44,6 +45,7 @@ pub fn last_behind(parting: Parting, goes: bool) -> u8
     parting.left.last
 }
 
+#[tactic(auto, unfolding(crate::specs::Parting::taken_with))]
 fn taken_with(together: bool, taken: Ends, thread: u8) -> Ends
     ensures { result ≡ taken_with together taken thread }
 {
@@ -54,6 +56,7 @@ fn taken_with(together: bool, taken: Ends, thread: u8) -> Ends
 }
 
 // The parting with one more thread, which stays or goes.
+#[tactic(auto, unfolding(crate::specs::Parting::passed))]
 pub fn passed(together: bool, parting: Parting, goes: bool, thread: u8) -> Parting
     ensures { result ≡ passed together parting goes thread }
 {

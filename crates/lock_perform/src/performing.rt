@@ -8,6 +8,7 @@ use lock_rules::{ChainWork, Effect, WordChange};
 use lock_table::{Monitor, OBJECTS, ObjectRecord, ThreadRecord};
 use lock_word::Depth;
 
+#[tactic(auto, unfolding(crate::specs::Perform::word_after))]
 fn word_after(thread: u8, object: u8, word: u32, change: WordChange) -> u32
     ensures { result ≡ word_after thread object word change }
 {
@@ -41,6 +42,7 @@ pub fn object_after(thread: u8, number: u8, object: ObjectRecord, effect: Effect
 }
 
 // Whether an effect leaves the chains alone.
+#[tactic(auto, unfolding(crate::specs::Perform::stays))]
 pub fn stays(work: ChainWork) -> bool
     ensures { result ≡ stays work }
 {
@@ -63,6 +65,7 @@ pub fn own_written(thread: u8, own: ThreadRecord, there: ThreadRecord) -> Thread
 }
 
 // The record of a number that has one, else the other.
+#[tactic(auto, unfolding(crate::specs::InPlace::if_object))]
 fn if_object(number: u8, there: ObjectRecord, other: ObjectRecord) -> ObjectRecord
     ensures { result ≡ if_object number there other }
 {

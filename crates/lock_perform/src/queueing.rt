@@ -9,7 +9,7 @@ use chains::{Chain, Place};
 use lock_table::{THREADS, Table, ThreadRecord, thread_place};
 
 // A table, and the first of the chain that threads have joined.
-#[derive(Drop)]
+#[derive(Clone, Copy)]
 pub struct JoinedChain {
     pub table: Table,
     pub first: u8,
@@ -27,6 +27,7 @@ pub fn joining_rank(chain: Chain, thread: ThreadRecord) -> u8
 }
 
 // Whether the walk to the place of one who joins goes on past `there`, the record of thread `here`: nobody of a lower rank stays before it.
+#[tactic(auto, unfolding(crate::specs::InPlace::stays_before))]
 fn stays_before(here: u8, left: u8, there: ThreadRecord, rank: u8) -> bool
     ensures { result ≡ stays_before here left there rank }
 {
@@ -52,6 +53,7 @@ pub fn place_for(threads: [ThreadRecord; 32], first: u8, rank: u8) -> Place
 }
 
 // The first of a chain that this thread has joined behind `last`, 0 for in front.
+#[tactic(auto, unfolding(crate::specs::Queueing::first_at))]
 pub fn first_at(last: u8, first: u8, thread: u8) -> u8
     ensures { result ≡ first_at last first thread }
 {

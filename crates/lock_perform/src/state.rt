@@ -9,6 +9,7 @@ use lock_table::{Activity, Onward, Operation, Phase, ThreadRecord, no_activity};
 use lock_word::{Depth, Ticks};
 
 // The limit of a wait: a timed one's is the ticks that it has left.
+#[tactic(auto, unfolding(crate::specs::State::limit_of))]
 fn limit(operation: Operation, ticks: Ticks) -> Limit
     ensures { result ≡ limit_of operation ticks }
 {
@@ -23,6 +24,7 @@ fn limit(operation: Operation, ticks: Ticks) -> Limit
     }
 }
 
+#[tactic(auto, unfolding(crate::specs::State::look_of))]
 fn look(operation: Operation, limit: Limit) -> ThreadState
     ensures { result ≡ look_of operation limit }
 {
@@ -37,6 +39,7 @@ fn look(operation: Operation, limit: Limit) -> ThreadState
     }
 }
 
+#[tactic(auto, unfolding(crate::specs::State::store_of))]
 fn store(operation: Operation, count: u8) -> ThreadState
     ensures { result ≡ store_of operation count }
 {
@@ -51,6 +54,7 @@ fn store(operation: Operation, count: u8) -> ThreadState
     }
 }
 
+#[tactic(auto, unfolding(crate::specs::State::cancel_of))]
 fn cancel(operation: Operation, limit: Limit) -> ThreadState
     ensures { result ≡ cancel_of operation limit }
 {
@@ -65,6 +69,7 @@ fn cancel(operation: Operation, limit: Limit) -> ThreadState
     }
 }
 
+#[tactic(auto, unfolding(crate::specs::State::go_in_of))]
 fn go_in(operation: Operation, limit: Limit) -> ThreadState
     ensures { result ≡ go_in_of operation limit }
 {
@@ -79,6 +84,7 @@ fn go_in(operation: Operation, limit: Limit) -> ThreadState
     }
 }
 
+#[tactic(auto, unfolding(crate::specs::State::carried_of))]
 fn carried(onward: Onward, suspension: Suspension) -> OnwardStep
     ensures { result ≡ carried_of onward suspension }
 {
@@ -91,6 +97,7 @@ fn carried(onward: Onward, suspension: Suspension) -> OnwardStep
     }
 }
 
+#[tactic(auto, unfolding(crate::specs::State::state_by))]
 fn state(phase: Phase, operation: Operation, count: u8, suspension: Suspension) -> ThreadState
     ensures { result ≡ state_by phase operation count suspension }
 {
@@ -154,6 +161,7 @@ pub fn activity_of(
 }
 
 // A wait in this phase: one with a limit is a timed wait, which keeps what is left of it.
+#[tactic(auto, unfolding(crate::specs::State::wait_activity))]
 fn wait_activity(object: u8, phase: Phase, saved: Depth, limit: Limit) -> Activity
     ensures { result ≡ wait_activity object phase saved limit }
 {
@@ -184,6 +192,7 @@ fn store_activity(operation: Operation, number: u8, object: u8, count: u8) -> Ac
 }
 
 // A wait that has given up.
+#[tactic(auto, unfolding(crate::specs::State::wait_activity))]
 fn suspended_activity(object: u8, phase: Phase, suspension: Suspension) -> Activity
     ensures { result ≡ wait_activity object phase suspension.depth suspension.limit }
 {
@@ -191,6 +200,7 @@ fn suspended_activity(object: u8, phase: Phase, suspension: Suspension) -> Activ
     wait_activity(object, phase, suspension.depth, limit)
 }
 
+#[tactic(auto, unfolding(crate::specs::State::doing_activity))]
 fn doing_activity(number: u8, object: u8, doing: Doing) -> Activity
     ensures { result ≡ doing_activity number object doing }
 {
@@ -218,6 +228,7 @@ fn doing_activity(number: u8, object: u8, doing: Doing) -> Activity
     }
 }
 
+#[tactic(auto, unfolding(crate::specs::State::carried_activity))]
 fn carried_activity(object: u8, carried: OnwardStep) -> Activity
     ensures { result ≡ carried_activity object carried }
 {
@@ -251,6 +262,7 @@ fn carried_activity(object: u8, carried: OnwardStep) -> Activity
 }
 
 // What is written of thread `number`, which is at `object` in this state.
+#[tactic(auto, unfolding(crate::specs::State::write_activity))]
 fn write_activity(number: u8, object: u8, state: ThreadState) -> Activity
     ensures { result ≡ write_activity number object state }
 {

@@ -12,7 +12,7 @@ use Rattle.laws.proofs.Choice.{by_equal, either_way, equal?}
 use Rattle.laws.proofs.Count.{count_none, count_same, count_other}
 use Rattle.laws.proofs.Update.{update_same}
 use Rattle.chains.specs.declared.{named.Chain.Chain, ends.Ends.Ends}
-use Rattle.chains.proofs.Chain.{by_update, Chain as ChainOf, head}
+use Rattle.chains.proofs.Listed.{by_update, Chain as ChainOf, head}
 use Rattle.chains.proofs.Walk.{walk}
 use Rattle.chains.proofs.Links.{Links, leave_links, leave_lists, move_links, drop_links, leave_within, leave_short, represent_leave, represent_left, represent_move}
 use Rattle.chains.proofs.{Family.others, Queue.queued, Queue.length_queue}

@@ -4,7 +4,7 @@ use mathlib.Core.Path.{◌≡◌, refl, sym, ap, ◌∙◌}
 use mathlib.Core.Bool.{true}
 use lib.Dec.{T}
 use Rattle.laws.proofs.Choice.{either_way, equal?}
-use Rattle.chains.proofs.Chain.{head}
+use Rattle.chains.proofs.Listed.{head}
 use Rattle.chains.specs.declared.named.Chain.{Chain}
 use Rattle.lock_word.specs.declared.meaning.{WordSeen.WordSeen, Ownership.Ownership}
 use Rattle.lock_rules.specs.Feed.{Plain}

@@ -12,7 +12,7 @@ use Rattle.chains.proofs.Links.{Links}
 use Rattle.lock_word.specs.declared.reading.Decoded.TheVariants.{Valid}
 use Rattle.lock_rules.specs.Numbers.{phase_of_doing, phase_of}
 use Rattle.lock_word.specs.Meaning.{owner_of, depth_of, ownership_of}
-use Rattle.lock_word.proofs.Ownership.{owned_both}
+use Rattle.lock_word.proofs.Owning.{owned_both}
 use Rattle.lock_word.specs.declared.meaning.{Ownership.Ownership, WordSeen.WordSeen}
 use Rattle.lock_table.proofs.FreshTables.{fresh_rank}
 use Rattle.lock_rules.proofs.Each.{each_suspension, each_doing, each_state}

@@ -9,7 +9,7 @@ use borrow.Author.Tests.{ltb-true, ltb-false, leb-true, leb-false}
 use Rattle.laws.specs.Count.{count}
 use Rattle.laws.proofs.Choice.{split, either_way, equal?}
 use Rattle.laws.proofs.Count.{count_none}
-use Rattle.chains.proofs.Chain.{Chain as Linked, members_none, chain_once}
+use Rattle.chains.proofs.Listed.{Chain as Linked, members_none, chain_once}
 use Rattle.lock_rules.proofs.Each.{each_chain}
 use Rattle.lock_rules.specs.Numbers.{phase_of}
 use Rattle.lock_rules.specs.declared.ThreadState.{ThreadState}

@@ -7,7 +7,7 @@ use borrow.Author.Tests.{eq-eqb, ne_eqb}
 use Rattle.laws.specs.Count.{count}
 use Rattle.laws.proofs.Choice.{either_way, equal?}
 use Rattle.laws.proofs.Count.{count_none, count_same, count_other}
-use Rattle.chains.proofs.Chain.{head}
+use Rattle.chains.proofs.Listed.{head}
 use Rattle.lock_rules.specs.PlainMonitor.{above_zero}
 use Rattle.lock_rules.specs.declared.Taken.TheVariants.{First}
 use Rattle.lock_rules.proofs.Perform.{taken}

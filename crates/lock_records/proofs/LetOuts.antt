@@ -11,7 +11,7 @@ use Rattle.laws.specs.{Choice.pick, Choice.either, Count.count}
 use Rattle.laws.proofs.Choice.{split}
 use Rattle.laws.proofs.Filter.{passing, count_passing, count_parted}
 use Rattle.chains.specs.Joining.{no_ends}
-use Rattle.chains.proofs.Chain.{Chain}
+use Rattle.chains.proofs.Listed.{Chain}
 use Rattle.chains.proofs.Parting.{part}
 use Rattle.lock_rules.specs.PlainMonitor.{above_zero}
 use Rattle.lock_rules.specs.declared.ThreadState.{ThreadState}

@@ -12,7 +12,7 @@ use Rattle.laws.specs.{Choice.pick, Update.update, Count.count}
 use Rattle.laws.proofs.Choice.{either_way, split, equal?, pick_same}
 use Rattle.laws.proofs.Update.{update_same, update_other, update_id}
 use Rattle.laws.proofs.Count.{count_same}
-use Rattle.chains.proofs.Chain.{Chain, chain_some}
+use Rattle.chains.proofs.Listed.{Chain, chain_some}
 use Rattle.chains.proofs.Walk.{walk}
 use Rattle.lock_rules.proofs.Changes.{moved, sent_back}
 use Rattle.lock_rules.specs.declared.ThreadState.{ThreadState}

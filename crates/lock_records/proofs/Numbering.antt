@@ -12,7 +12,7 @@ use borrow.Author.Tests.{le-leb}
 use Rattle.laws.specs.{Choice.pick, Update.update, Count.count, Filter.failing}
 use Rattle.laws.proofs.Choice.{by_equal, either_way, equal?}
 use Rattle.laws.proofs.Update.{update_same, update_other}
-use Rattle.chains.proofs.Chain.{head}
+use Rattle.chains.proofs.Listed.{head}
 use Rattle.chains.proofs.Queue.{queue_by, insert_last, length_queue}
 use Rattle.chains.proofs.Links.{Links, LinksRepresent, leave_links, leave_lists, join_links, join_lists, move_links, move_lists, shift_links}
 use Rattle.chains.proofs.Links.{shift_lists, drop_links, drop_lists, represent_drop, leave_within, leave_short, represent_leave, represent_join, represent_move, represent_shift}

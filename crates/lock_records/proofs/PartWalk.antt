@@ -14,7 +14,7 @@ use Rattle.laws.proofs.Update.{update_other, update_id}
 use Rattle.laws.proofs.Count.{count_none, count_same, count_other, count_append}
 use Rattle.laws.proofs.Filter.{passing}
 use Rattle.chains.specs.Joining.{no_ends}
-use Rattle.chains.proofs.Chain.{Chain, chain_head, last_member, chain_first_once}
+use Rattle.chains.proofs.Listed.{Chain, chain_head, last_member, chain_first_once}
 use Rattle.chains.proofs.Parting.{Parted, behind, part, end, Midway, part_start, midway_passes, midway_fails}
 use Rattle.chains.proofs.Walk.{walk}
 use Rattle.lock_rules.specs.declared.ThreadState.{ThreadState}

@@ -11,7 +11,7 @@ use Rattle.laws.specs.{Choice.pick, Update.update, Count.count}
 use Rattle.laws.proofs.Choice.{by_equal, either_way, equal?}
 use Rattle.laws.proofs.Update.{update_same, update_other, update_id}
 use Rattle.laws.proofs.Count.{count_none, count_same, count_other}
-use Rattle.chains.proofs.Chain.{Chain, head}
+use Rattle.chains.proofs.Listed.{Chain, head}
 use Rattle.chains.proofs.Walk.{walk, if_counted, walk_changes}
 use Rattle.lock_rules.proofs.Changes.{sent_back}
 use Rattle.lock_rules.specs.declared.ThreadState.{ThreadState}

@@ -14,7 +14,7 @@ use Rattle.laws.proofs.Update.{update_id}
 use Rattle.laws.proofs.Count.{count_same, count_other, count_more}
 use Rattle.chains.specs.declared.place.Place.{Place}
 use Rattle.chains.specs.declared.named.Chain.{Chain as ChainName}
-use Rattle.chains.proofs.Chain.{Chain, chain_frame, chain_first_once}
+use Rattle.chains.proofs.Listed.{Chain, chain_frame, chain_first_once}
 use Rattle.chains.proofs.Queue.{place_in, put, put_first, queued, queued_end, insert, count_insert, length_insert, put_in_chain}
 use Rattle.lock_rules.proofs.Tables.{ListThread}
 use Rattle.lock_table.specs.{Limits.thread_limit, Record.with_next}

@@ -10,7 +10,7 @@ use lib.ListN.{length}
 use borrow.Author.Tests.{eq-eqb, ne_eqb}
 use Rattle.laws.proofs.Choice.{either_way, equal?}
 use Rattle.chains.specs.Chain.{members}
-use Rattle.chains.proofs.Chain.{Chain as ChainOf, head, chain_members}
+use Rattle.chains.proofs.Listed.{Chain as ChainOf, head, chain_members}
 use Rattle.chains.proofs.Links.{first_head, head_real}
 use Rattle.lock_word.specs.Read.{read_word}
 use Rattle.lock_word.specs.declared.reading.Decoded.TheVariants.{Valid}

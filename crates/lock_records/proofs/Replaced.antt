@@ -8,7 +8,7 @@ use lib.ListN.{length}
 use Rattle.laws.specs.{Update.update}
 use Rattle.laws.proofs.Choice.{equal?}
 use Rattle.laws.proofs.Update.{update_same, update_other}
-use Rattle.chains.proofs.Chain.{by_update, head}
+use Rattle.chains.proofs.Listed.{by_update, head}
 use Rattle.chains.proofs.Links.{Links, LinksRepresent, first_head}
 use Rattle.lock_rules.specs.declared.{ThreadState.ThreadState}
 use Rattle.lock_rules.proofs.Objects.{ListObject, chain_of}

@@ -6,7 +6,7 @@ use mathlib.Core.Bool.{true}
 use native.Mathlib.Omega.{arith}
 use lib.Dec.{T}
 use Rattle.laws.specs.Count.{count}
-use Rattle.chains.proofs.Chain.{Chain as Linked, head, chain_members}
+use Rattle.chains.proofs.Listed.{Chain as Linked, head, chain_members}
 use Rattle.chains.proofs.Falling.{falling_links}
 use Rattle.lock_rules.specs.Numbers.{phase_of}
 use Rattle.lock_rules.proofs.{Status.unfinished, ListSound.SoundTable, Objects.chain_of}

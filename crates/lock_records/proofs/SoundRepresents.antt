@@ -8,7 +8,7 @@ use lib.ListN.{length}
 use Rattle.laws.specs.Count.{count}
 use Rattle.laws.proofs.Choice.{either_way, equal?}
 use Rattle.chains.specs.Chain.{members}
-use Rattle.chains.proofs.Chain.{Chain as Linked, head, chain_head, members_none}
+use Rattle.chains.proofs.Listed.{Chain as Linked, head, chain_head, members_none}
 use Rattle.chains.proofs.Falling.{links_falling}
 use Rattle.chains.proofs.Links.{Links, LinksRepresent}
 use Rattle.lock_word.specs.{Read.read_word, Depth.depth_limit}

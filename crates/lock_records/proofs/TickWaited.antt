@@ -15,7 +15,7 @@ use Rattle.laws.proofs.Choice.{either_way, equal?, by_test}
 use Rattle.laws.proofs.Update.{update_other}
 use Rattle.chains.specs.Joining.{no_ends}
 use Rattle.chains.specs.declared.named.Chain.{Chain}
-use Rattle.chains.proofs.Chain.{Chain as ChainOf, head}
+use Rattle.chains.proofs.Listed.{Chain as ChainOf, head}
 use Rattle.chains.proofs.{Walk.walk, Family.others, Queue.queued}
 use Rattle.chains.proofs.Parting.{Parted, part, chains_part}
 use Rattle.chains.proofs.Links.{Links, LinksRepresent, part_links, part_lists, represent_part, first_head, leave_links, leave_lists, represent_leave}

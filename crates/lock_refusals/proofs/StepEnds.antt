@@ -7,7 +7,7 @@ use mathlib.Core.List.{List, [], ◌∷◌}
 use lib.Dec.{eqb}
 use Rattle.laws.specs.Choice.{pick}
 use Rattle.lock_word.specs.Meaning.{seen_word, owner_of, depth_of}
-use Rattle.lock_word.proofs.Ownership.{owner_owned}
+use Rattle.lock_word.proofs.Owning.{owner_owned}
 use Rattle.lock_word.specs.declared.reading.LockWord.{LockWord}
 use Rattle.lock_word.specs.declared.reading.Decoded.TheVariants.{Valid}
 use Rattle.lock_word.specs.Depth.{depth_limit}

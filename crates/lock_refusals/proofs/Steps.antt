@@ -18,7 +18,7 @@ use Rattle.lock_rules.specs.declared.event.ThreadStatus.TheVariants.{Ready}
 use Rattle.lock_rules.specs.declared.event.Refusal.TheVariants.{NotSound}
 use Rattle.lock_rules.specs.declared.{Doing.Doing, ThreadState.ThreadState}
 use Rattle.lock_rules.specs.declared.ThreadState.TheVariants.{Idle, Running, Queued, Contending, Waiting}
-use Rattle.lock_rules.proofs.Gate.{Passed, by_gate}
+use Rattle.lock_rules.proofs.Gating.{Passed, by_gate}
 use Rattle.lock_rules.proofs.TableKinds.{status_of}
 use Rattle.lock_table.specs.Limits.{thread_limit, object_limit}
 use Rattle.lock_table.specs.{Operation.operation_number, Phase.phase_number, WellTyped.WellTyped, Record.activity}

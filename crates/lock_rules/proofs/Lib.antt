@@ -8,7 +8,7 @@ pub mod Perform
 pub mod Tick
 pub mod Quiet
 pub mod RefusalNumbers
-pub mod Gate
+pub mod Gating
 pub mod TableKinds
 pub mod Tables
 pub mod Invariant

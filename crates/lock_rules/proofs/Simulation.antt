@@ -11,7 +11,7 @@ use Rattle.lock_rules.specs.declared.ThreadState.TheVariants.{Idle, Running, Que
 use Rattle.lock_rules.specs.declared.event.Event.{Event}
 use Rattle.lock_rules.specs.declared.event.Event.TheVariants.{Begin, Step, Tick}
 use Rattle.lock_rules.specs.declared.event.Gate.TheVariants.{Open}
-use Rattle.lock_rules.proofs.Gate.{Passed, within_says, by_gate, gate_same}
+use Rattle.lock_rules.proofs.Gating.{Passed, within_says, by_gate, gate_same}
 use Rattle.lock_rules.proofs.TableKinds.{TurnOf, Kind, status_of, status_idle, begin_asked, step_thread, through, turn_on, final_on, shown_on}
 use Rattle.lock_rules.proofs.Tables.{ListTable, begin_at, step_at, tick_all, tick_all_unparks, list_kind, turn, final, shown}
 

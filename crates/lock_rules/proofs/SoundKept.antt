@@ -25,7 +25,7 @@ use Rattle.lock_rules.proofs.Objects.{empty, sight_of}
 use Rattle.lock_rules.proofs.Tables.{ListThread, ListTable, seen_from, states_at, perform_at, begin_at, step_at, ticked_at, tick_where, list_kind, turn, final}
 use Rattle.lock_rules.proofs.Tables.{fresh_word, fresh, seen_idle, seen_here, seen_elsewhere}
 use Rattle.lock_rules.proofs.Lift.{seen_there, seen_as_before, tick_seen}
-use Rattle.lock_rules.proofs.{Gate.within_says, TickRules.ticked_idle}
+use Rattle.lock_rules.proofs.{Gating.within_says, TickRules.ticked_idle}
 use Rattle.lock_rules.proofs.ListSound.{LimitFine, StateFine, WordFine, SoundObject, InTable, SoundTable}
 use Rattle.lock_rules.proofs.SoundEffects.{ActionFine, either_way, decide_fine}
 use Rattle.lock_rules.proofs.SoundTick.{ticked_fine, ticked_sound}

@@ -17,7 +17,7 @@ use Rattle.lock_rules.specs.declared.event.Gate.TheVariants.{Open, Shut}
 use Rattle.lock_rules.specs.Gate.{is_idle, limit_fits, gate, event_thread}
 use Rattle.lock_rules.specs.Events.{Reply, Accepted, Refused, Shown}
 use Rattle.lock_rules.proofs.Each.{each_state}
-use Rattle.lock_rules.proofs.Gate.{Passed, by_gate}
+use Rattle.lock_rules.proofs.Gating.{Passed, by_gate}
 
 -- what the gate looks at
 abbrev pub status_of : ThreadState → ThreadStatus

@@ -1,7 +1,7 @@
 // Events, and what can refuse one before any rule (document 01, "Returned first").
 
 // A thread begins the operation with this number on an object, or takes a single step; or the clock ticks.
-#[derive(Drop)]
+#[derive(Clone, Copy)]
 pub enum Event {
     Begin {
         operation: u8,
@@ -16,7 +16,7 @@ pub enum Event {
 }
 
 // What a refusal asks of the event's thread.
-#[derive(Drop)]
+#[derive(Clone, Copy)]
 pub enum ThreadStatus {
     Idle, // phase 0
     Ready, // it can take a step
@@ -24,7 +24,7 @@ pub enum ThreadStatus {
 }
 
 // The refusals before any rule.
-#[derive(Drop)]
+#[derive(Clone, Copy)]
 pub enum Refusal {
     NotSound, // 11
     NoSuchThread, // 12
@@ -37,7 +37,7 @@ pub enum Refusal {
 }
 
 // Whether an event is let through to its rule.
-#[derive(Drop)]
+#[derive(Clone, Copy)]
 pub enum Gate {
     Open,
     Shut(Refusal),

@@ -1,5 +1,7 @@
 // What a thread is doing, what it sees of its object, and what a step decides: document 01, "The table" and "Steps".
 // Nothing here knows of tables or of the links of a chain.
+#![tactic(auto)]
+
 mod event;
 
 use chains::Chain;
@@ -7,21 +9,21 @@ pub use event::{Event, Gate, Refusal, ThreadStatus};
 use lock_word::{Depth, WordSeen};
 
 // How long a wait goes on: until it is notified, or for so many ticks of the clock at most.
-#[derive(Drop)]
+#[derive(Clone, Copy)]
 pub enum Limit {
     Unlimited,
     Ticks(lock_word::Ticks), // ticks left
 }
 
 // What a wait keeps from giving the monitor up until it resumes.
-#[derive(Drop)]
+#[derive(Clone, Copy)]
 pub struct Suspension {
     pub depth: Depth, // saved depth
     pub limit: Limit, // what is left of it
 }
 
 // What a queued thread goes on with when the monitor is handed to it.
-#[derive(Drop)]
+#[derive(Clone, Copy)]
 pub enum OnwardStep {
     ToCheck, // 6, an enter
     ToTell, // 10, an exit
@@ -30,7 +32,7 @@ pub enum OnwardStep {
 }
 
 // Operation and phase of a thread that can take a step. A store holds the count of its kept word, a wait its limit.
-#[derive(Drop)]
+#[derive(Clone, Copy)]
 pub enum Doing {
     EnterLook, // enter, 1 look
     EnterStore(u8), // enter, 2 store
@@ -55,7 +57,7 @@ pub enum Doing {
 }
 
 // A thread: idle, able to take a step, or parked in one of the three chains of its object.
-#[derive(Drop)]
+#[derive(Clone, Copy)]
 pub enum ThreadState {
     Idle, // 0
     Running(Doing), // every other phase
@@ -65,7 +67,7 @@ pub enum ThreadState {
 }
 
 // What a rule does to the word. A rule puts no thread but its own into a word.
-#[derive(Drop)]
+#[derive(Clone, Copy)]
 pub enum WordChange {
     Unchanged,
     Freed,
@@ -76,7 +78,7 @@ pub enum WordChange {
 }
 
 // What a rule sees of its object.
-#[derive(Drop)]
+#[derive(Clone, Copy)]
 pub struct Sight {
     pub word: WordSeen,
     pub flag: bool, // contention flag
@@ -88,14 +90,14 @@ pub struct Sight {
 }
 
 // Which threads of a chain a move takes.
-#[derive(Drop)]
+#[derive(Clone, Copy)]
 pub enum Taken {
     First, // the first, if there is one
     All, // all, in order
 }
 
 // What a step does with the chains of its object. A moved thread goes to the end of entry and is queued: a contender carries 6, a waiter 15.
-#[derive(Drop)]
+#[derive(Clone, Copy)]
 pub enum ChainWork {
     Stay, // nothing
     Join(Chain), // the thread joins that chain
@@ -107,7 +109,7 @@ pub enum ChainWork {
 }
 
 // What a step answers.
-#[derive(Drop)]
+#[derive(Clone, Copy)]
 pub enum Answer {
     GoneOn, // 0
     Finished(u8), // 1, with the woken number: how many a notify woke; of a wait 1 if it ran out
@@ -119,7 +121,7 @@ pub enum Answer {
 
 // What a rule does: the work on chains, the thread's next state, the word, flag, holder and depth after it, the answer, and whether it commits.
 // Where the work hands the monitor over, holder and depth are set by the handing.
-#[derive(Drop)]
+#[derive(Clone, Copy)]
 pub struct Effect {
     pub work: ChainWork,
     pub state: ThreadState,
@@ -132,7 +134,7 @@ pub struct Effect {
 }
 
 // What a step decides: no rule fits, or one is carried out.
-#[derive(Drop)]
+#[derive(Clone, Copy)]
 pub enum Action {
     Unruled, // 20, and nothing changes
     Do(Effect),

@@ -25,7 +25,7 @@ use Rattle.lock_rules.specs.declared.event.Gate.TheVariants.{Open}
 use Rattle.lock_rules.specs.declared.{Doing.Doing, ThreadState.ThreadState, Action.Action}
 use Rattle.lock_rules.specs.declared.ThreadState.TheVariants.{Idle, Running, Queued, Contending, Waiting}
 use Rattle.lock_rules.specs.declared.Action.TheVariants.{Unruled, Do}
-use Rattle.lock_rules.proofs.Gate.{Passed, within_says, by_gate}
+use Rattle.lock_rules.proofs.Gating.{Passed, within_says, by_gate}
 use Rattle.lock_rules.proofs.TableKinds.{TurnOf, status_of, refuse, begin_asked, step_thread, through, turn_on}
 use Rattle.lock_table.specs.Limits.{thread_limit, object_limit}
 use Rattle.lock_table.specs.Operation.{operation_from}

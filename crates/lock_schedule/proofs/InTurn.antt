@@ -11,7 +11,7 @@ use Rattle.laws.specs.Count.{count}
 use Rattle.laws.proofs.{Choice.either_way, Choice.equal?, Choice.split, Count.count_none}
 use Rattle.chains.specs.Chain.{members, Ahead}
 use Rattle.chains.specs.declared.named.Chain.{Chain}
-use Rattle.chains.proofs.{Chain.members_none, Ahead.Rightly, Ahead.ahead_inside, Ahead.ahead_falls}
+use Rattle.chains.proofs.{Listed.members_none, Ahead.Rightly, Ahead.ahead_inside, Ahead.ahead_falls}
 use Rattle.lock_rules.specs.declared.event.Event.{Event}
 use Rattle.lock_rules.proofs.Tables.{ListTable, turn}
 use Rattle.lock_rules.proofs.{ListSound.SoundTable, InTurn.ranks_turn, InTurn.turn_in_turn}

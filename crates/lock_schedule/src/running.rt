@@ -8,7 +8,7 @@ use event_bytes::{EVENT_SIZE, event_from, limit_from};
 use lock_engine::handle;
 use lock_table::{FreshAnswer, FreshRequest, Table};
 
-#[derive(Drop)]
+#[derive(Clone, Copy)]
 pub struct RunResult {
     // whether a table was made
     pub answer: FreshAnswer,
@@ -45,6 +45,7 @@ fn run_events(table: Table, events: &[u8]) -> Table
     current
 }
 
+#[tactic(auto, unfolding(crate::specs::Runs::run_fresh))]
 fn run_fresh(answer: FreshAnswer, table: Table, events: &[u8]) -> RunResult
     ensures { result ≡ run_fresh answer table (events_of events.now) }
 {
@@ -61,6 +62,7 @@ fn run_fresh(answer: FreshAnswer, table: Table, events: &[u8]) -> RunResult
 }
 
 // The schedule from a fresh table as asked for.
+#[tactic(auto, using(crate::proofs::Runs::run_same, crate::proofs::Runs::run_claimed, crate::proofs::Runs::run_steps))]
 pub fn run(request: FreshRequest, events: &[u8]) -> RunResult
     ensures same { result ≡ run_of request (events_of events.now) }
     ensures claimed { ClaimOfRun request (events_of events.now) result }

@@ -9,7 +9,7 @@ use lib.ListN.{length}
 use Rattle.laws.specs.{Choice.pick, Count.count}
 use Rattle.laws.proofs.Choice.{Equal, equal}
 use Rattle.chains.specs.Chain.{members, chain_test}
-use Rattle.chains.proofs.Chain.{Chain, chain_without_zero}
+use Rattle.chains.proofs.Listed.{Chain, chain_without_zero}
 use Rattle.chains.proofs.Test.{chain_test_reads, chain_test_of}
 use Rattle.laws.proofs.Facts.{Reads}
 

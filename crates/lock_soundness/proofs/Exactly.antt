@@ -8,7 +8,7 @@ use lib.Dec.{eqb}
 use Rattle.laws.specs.Choice.{both}
 use Rattle.laws.specs.Count.{count, one_if}
 use Rattle.laws.proofs.Choice.{Equal, equal}
-use Rattle.chains.proofs.Chain.{Chain, chain_once}
+use Rattle.chains.proofs.Listed.{Chain, chain_once}
 use Rattle.lock_table.specs.Access.{thread_at, next_of}
 use Rattle.lock_table.specs.Parked.{thread_chain, chain_first}
 use Rattle.lock_table.specs.declared.record.Table.{Table}

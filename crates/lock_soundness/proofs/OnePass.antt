@@ -14,7 +14,7 @@ use Rattle.laws.specs.{Count.count, Every.all_up_to}
 use Rattle.laws.proofs.Choice.{false≢true, equal?, both_first, both_second, either_no, either_yes}
 use Rattle.laws.proofs.Count.{count_none}
 use Rattle.chains.specs.Chain.{members, chain_test}
-use Rattle.chains.proofs.Chain.{members_none}
+use Rattle.chains.proofs.Listed.{members_none}
 use Rattle.lock_table.specs.Limits.{thread_limit, object_limit}
 use Rattle.lock_table.specs.Phase.{phase_number}
 use Rattle.lock_table.specs.Record.{no_thread, no_object}

@@ -46,6 +46,7 @@ fn walk_passes(
 }
 
 // An empty chain is not walked, and nothing is copied for it.
+#[tactic(auto, using(crate::proofs::OnePassTurns::empty_passes, crate::proofs::Marks::marked_none), unfolding(crate::specs::OnePass::chain_passes, crate::specs::OnePass::chain_marks))]
 fn chain_passes(
     threads: [ThreadRecord; 32],
     threadcount: u8,
@@ -64,6 +65,7 @@ fn chain_passes(
 }
 
 // The three chains of an object.
+#[tactic(auto, unfolding(crate::specs::OnePass::chains_pass, crate::specs::OnePass::chains_marks))]
 pub fn chains_pass(
     threads: [ThreadRecord; 32],
     threadcount: u8,

@@ -1,6 +1,8 @@
 // Soundness of a table (document 01, "Lock words", the sentence "Sound means"), in one pass: one loop over the object records, which walks their
 // chains and marks the threads that it meets, and one over the thread records, in which a parked thread has to be marked. Each record is read once
 // and in place, since a table that is passed on is copied.
+#![tactic(auto)]
+
 mod chain;
 
 ghost use Rattle.std.specs.Prelude.{◌≡◌};
@@ -13,6 +15,7 @@ use chain::chains_pass;
 use lock_table::{OBJECTS, ObjectRecord, THREADS, Table, ThreadRecord};
 use sound_records::{empty_object, thread_passes, used_object_fits, within};
 
+#[tactic(auto, unfolding(crate::specs::Sound::sizes_fit))]
 fn sizes_fit(threads: u8, objects: u8) -> bool
     ensures { result ≡ sizes_fit threads objects }
 {
@@ -20,6 +23,7 @@ fn sizes_fit(threads: u8, objects: u8) -> bool
 }
 
 // An empty record passes at once, and most are. Any other is one of an object in use, with its chains.
+#[tactic(auto, using(crate::proofs::OnePassTurns::empty_object_turn), unfolding(crate::specs::OnePass::object_passes))]
 fn object_passes(
     threads: [ThreadRecord; 32],
     threadcount: u8,
@@ -88,6 +92,7 @@ fn threads_pass(table: Table, met: &[bool; 32]) -> bool
 }
 
 // Whether the table is sound.
+#[tactic(auto, using(crate::proofs::OnePass::one_pass_is), unfolding(crate::specs::OnePass::one_pass))]
 pub fn sound(table: Table) -> bool
     ensures { result ≡ sound_of table }
 {

@@ -5,6 +5,7 @@ ghost use Rattle.lock_table.specs.Place.{place_within, thread_place, object_plac
 
 use crate::record::{OBJECTS, ObjectRecord, THREADS, Table, ThreadRecord, no_object, no_thread};
 
+#[tactic(auto, unfolding(crate::specs::Access::thread_at))]
 pub fn thread_at(table: Table, number: u8) -> ThreadRecord
     ensures { result ≡ thread_at table number }
 {
@@ -18,6 +19,7 @@ pub fn thread_at(table: Table, number: u8) -> ThreadRecord
     table.threads[place]
 }
 
+#[tactic(auto, unfolding(crate::specs::Access::set_thread))]
 pub fn set_thread(table: Table, number: u8, thread: ThreadRecord) -> Table
     ensures { result ≡ set_thread table number thread }
 {
@@ -33,6 +35,7 @@ pub fn set_thread(table: Table, number: u8, thread: ThreadRecord) -> Table
     changed
 }
 
+#[tactic(auto, unfolding(crate::specs::Access::object_at))]
 pub fn object_at(table: Table, number: u8) -> ObjectRecord
     ensures { result ≡ object_at table number }
 {
@@ -46,6 +49,7 @@ pub fn object_at(table: Table, number: u8) -> ObjectRecord
     table.objects[place]
 }
 
+#[tactic(auto, unfolding(crate::specs::Access::set_object))]
 pub fn set_object(table: Table, number: u8, object: ObjectRecord) -> Table
     ensures { result ≡ set_object table number object }
 {
@@ -63,6 +67,7 @@ pub fn set_object(table: Table, number: u8, object: ObjectRecord) -> Table
 
 // Where the record of a number is in an array of `limit` records. A number that has none gets the first place;
 // who reads there makes no use of it.
+#[tactic(auto, unfolding(crate::specs::Place::place_within))]
 fn place_within(limit: u8, number: u8) -> usize
     ensures { result ≡ place_within limit number }
 {

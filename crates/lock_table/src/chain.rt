@@ -6,6 +6,7 @@ use crate::phase::{Onward, Phase, onward_phase};
 use crate::record::ThreadRecord;
 
 // The phase that a thread goes on with when it is handed the monitor.
+#[tactic(auto, unfolding(crate::specs::Chain::carried_of))]
 fn carried(phase: Phase) -> Phase
     ensures { result ≡ carried_of phase }
 {
@@ -37,6 +38,7 @@ pub fn handed(thread: ThreadRecord) -> ThreadRecord
     thread.with_phase(carried(phase)).with_next(0)
 }
 
+#[tactic(auto, unfolding(crate::specs::Chain::moved_phase))]
 fn moved_phase(phase: Phase) -> Phase
     ensures { result ≡ moved_phase phase }
 {

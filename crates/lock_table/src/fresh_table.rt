@@ -10,20 +10,20 @@ use crate::record::{
 };
 
 // What a thread of a fresh table is given, beside its number. It stays in every phase.
-#[derive(Drop)]
+#[derive(Clone, Copy)]
 pub struct ThreadGiven {
     pub rank: u8,
 }
 
 // What an object is given.
-#[derive(Drop)]
+#[derive(Clone, Copy)]
 pub struct ObjectGiven {
     // an anonymously reserved word, else a free one
     pub reserved: bool,
 }
 
 // What a fresh table is asked to be.
-#[derive(Drop)]
+#[derive(Clone, Copy)]
 pub struct FreshRequest {
     pub threads: u16,
     pub objects: u16,
@@ -33,7 +33,7 @@ pub struct FreshRequest {
     pub tothreads: [ThreadGiven; 32],
 }
 
-#[derive(Drop)]
+#[derive(Clone, Copy)]
 pub enum FreshRefusal {
     // 22
     SizeOutOfRange,
@@ -41,13 +41,13 @@ pub enum FreshRefusal {
     RankOutOfRange,
 }
 
-#[derive(Drop)]
+#[derive(Clone, Copy)]
 pub enum FreshAnswer {
     Made,
     Refused(FreshRefusal),
 }
 
-#[derive(Drop)]
+#[derive(Clone, Copy)]
 pub struct FreshTable {
     pub answer: FreshAnswer,
     // all zero where none was made
@@ -73,6 +73,7 @@ pub fn sized_request(threads: u16, objects: u16, reserved: bool) -> FreshRequest
     }
 }
 
+#[tactic(auto, unfolding(crate::specs::Fresh::first_word))]
 fn first_word(reserved: bool) -> u32
     ensures { result ≡ first_word reserved }
 {
@@ -83,6 +84,7 @@ fn first_word(reserved: bool) -> u32
 }
 
 // What the thread at a place is given, which counts from 0: nothing is read past T.
+#[tactic(auto, unfolding(crate::specs::Fresh::thread_given))]
 fn thread_given(request: FreshRequest, place: usize) -> ThreadGiven
     ensures { result ≡ thread_given request place }
 {
@@ -96,6 +98,7 @@ fn thread_given(request: FreshRequest, place: usize) -> ThreadGiven
 }
 
 // The same of the object at a place. All are given the same word.
+#[tactic(auto, unfolding(crate::specs::Fresh::object_given))]
 fn object_given(request: FreshRequest, place: usize) -> ObjectGiven
     ensures { result ≡ object_given request place }
 {
@@ -162,6 +165,7 @@ fn table_of(request: FreshRequest) -> Table
     }
 }
 
+#[tactic(auto, unfolding(crate::specs::Fresh::in_range))]
 fn in_range(request: FreshRequest) -> bool
     ensures { result ≡ in_range request }
 {
@@ -185,6 +189,7 @@ fn ranks_fit(request: FreshRequest) -> bool
 }
 
 // Whether a table is made, or which refusal comes first.
+#[tactic(auto, unfolding(crate::specs::Fresh::fresh_answer))]
 fn fresh_answer(request: FreshRequest) -> FreshAnswer
     ensures { result ≡ fresh_answer request }
 {
@@ -198,6 +203,7 @@ fn fresh_answer(request: FreshRequest) -> FreshAnswer
 }
 
 // The request, or one of nothing where it is refused.
+#[tactic(auto, unfolding(crate::specs::Fresh::met_request))]
 fn met_request(answer: FreshAnswer, request: FreshRequest) -> FreshRequest
     ensures { result ≡ met_request answer request }
 {
@@ -208,6 +214,7 @@ fn met_request(answer: FreshAnswer, request: FreshRequest) -> FreshRequest
 }
 
 // A fresh table as asked, or the first refusal. One table is made either way, so that there is room for no more than one on the stack.
+#[tactic(auto, using(crate::proofs::FreshTables::met_fits), unfolding(crate::specs::Fresh::fresh_of))]
 pub fn fresh(request: FreshRequest) -> FreshTable
     ensures { result ≡ fresh_of request }
 {
@@ -218,6 +225,7 @@ pub fn fresh(request: FreshRequest) -> FreshTable
     }
 }
 
+#[tactic(auto, unfolding(crate::specs::Fresh::refusal_returned))]
 fn refusal_returned(refusal: FreshRefusal) -> u8
     ensures { result ≡ refusal_returned refusal }
 {
@@ -228,6 +236,7 @@ fn refusal_returned(refusal: FreshRefusal) -> u8
 }
 
 // The number returned.
+#[tactic(auto, unfolding(crate::specs::Fresh::fresh_returned))]
 pub fn fresh_returned(answer: FreshAnswer) -> u8
     ensures { result ≡ fresh_returned answer }
 {

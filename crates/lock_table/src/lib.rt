@@ -1,4 +1,6 @@
 // Tables: thread and object records, access by number, chains, monitors and fresh tables (document 01, "The table").
+#![tactic(auto)]
+
 mod access;
 mod chain;
 mod fresh_table;

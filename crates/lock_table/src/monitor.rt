@@ -8,14 +8,14 @@ use chains::Chain;
 use lock_word::Depth;
 
 // A monitor, and the thread that was handed it; 0 for nobody.
-#[derive(Drop)]
+#[derive(Clone, Copy)]
 pub struct Handed {
     pub monitor: Monitor,
     pub thread: u8,
 }
 
 // A monitor, and the set of the threads that were let out of its entry chain: bit n - 1 for thread n.
-#[derive(Drop)]
+#[derive(Clone, Copy)]
 pub struct LetOut {
     pub monitor: Monitor,
     pub threads: u32,

@@ -2,7 +2,7 @@
 ghost use Rattle.std.specs.Prelude.{◌≡◌};
 ghost use Rattle.lock_table.specs.Operation.{operation_number, operation_from};
 
-#[derive(Drop)]
+#[derive(Clone, Copy)]
 pub enum Operation {
     // 0: none, the thread is idle
     Idle,
@@ -20,6 +20,7 @@ pub enum Operation {
     TimedWait,
 }
 
+#[tactic(auto, unfolding(crate::specs::Operation::operation_number))]
 pub fn operation_number(operation: Operation) -> u8
     ensures { result ≡ operation_number operation }
 {
@@ -35,6 +36,7 @@ pub fn operation_number(operation: Operation) -> u8
 }
 
 // The operation of a number; a number that is none of theirs gives the idle case.
+#[tactic(auto, unfolding(crate::specs::Operation::operation_from))]
 pub fn operation_from(number: u8) -> Operation
     ensures { result ≡ operation_from number }
 {

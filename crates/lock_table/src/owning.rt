@@ -6,6 +6,7 @@ use crate::access::object_at;
 use crate::record::{Monitor, ObjectRecord, Table};
 use lock_word::{Decoded, Ownership, ownership_of, read_word, seen_word};
 
+#[tactic(auto, unfolding(crate::specs::Ownership::ownership_in))]
 fn ownership_in(decoded: Decoded, monitor: Monitor) -> Ownership
     ensures { result ≡ ownership_in decoded monitor }
 {

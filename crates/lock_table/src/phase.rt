@@ -3,7 +3,7 @@ ghost use Rattle.std.specs.Prelude.{◌≡◌};
 ghost use Rattle.lock_table.specs.Phase.{phase_number, onward_number, carried_number, onward_phase};
 
 // What a queued thread goes on with when it becomes the monitor's holder.
-#[derive(Drop)]
+#[derive(Clone, Copy)]
 pub enum Onward {
     // 6
     ToCheck,
@@ -15,7 +15,7 @@ pub enum Onward {
     ToResume,
 }
 
-#[derive(Drop)]
+#[derive(Clone, Copy)]
 pub enum Phase {
     // 0
     Idle,
@@ -51,6 +51,7 @@ pub enum Phase {
     Resume,
 }
 
+#[tactic(auto, unfolding(crate::specs::Phase::onward_number))]
 pub fn onward_number(onward: Onward) -> u8
     ensures { result ≡ onward_number onward }
 {
@@ -62,6 +63,7 @@ pub fn onward_number(onward: Onward) -> u8
     }
 }
 
+#[tactic(auto, unfolding(crate::specs::Phase::phase_number))]
 pub fn phase_number(phase: Phase) -> u8
     ensures { result ≡ phase_number phase }
 {
@@ -86,6 +88,7 @@ pub fn phase_number(phase: Phase) -> u8
 }
 
 // The number of the phase that a queued thread carries, 0 for any other.
+#[tactic(auto, unfolding(crate::specs::Phase::carried_number))]
 pub fn carried_number(phase: Phase) -> u8
     ensures { result ≡ carried_number phase }
 {
@@ -109,6 +112,7 @@ pub fn carried_number(phase: Phase) -> u8
     }
 }
 
+#[tactic(auto, unfolding(crate::specs::Phase::onward_phase))]
 pub fn onward_phase(onward: Onward) -> Phase
     ensures { result ≡ onward_phase onward }
 {

@@ -16,7 +16,7 @@ pub const OBJECTS: u8 = 64;
 // The highest rank.
 pub const RANKS: u8 = 3;
 
-#[derive(Drop)]
+#[derive(Clone, Copy)]
 pub struct ThreadRecord {
     // the reserved word read in phase 1 and about to be stored in phase 2
     pub kept: u32,
@@ -33,7 +33,7 @@ pub struct ThreadRecord {
 }
 
 // What an operation writes of a thread: what the thread is doing, and what its phase keeps. All else in the record stays from event to event.
-#[derive(Drop)]
+#[derive(Clone, Copy)]
 pub struct Activity {
     pub kept: u32,
     pub saved: Depth,
@@ -43,7 +43,7 @@ pub struct Activity {
     pub phase: Phase,
 }
 
-#[derive(Drop)]
+#[derive(Clone, Copy)]
 pub struct Monitor {
     pub depth: Depth,
     pub holder: u8,
@@ -53,7 +53,7 @@ pub struct Monitor {
     pub waiting: u8,
 }
 
-#[derive(Drop)]
+#[derive(Clone, Copy)]
 pub struct ObjectRecord {
     pub word: u32,
     pub monitor: Monitor,
@@ -61,7 +61,7 @@ pub struct ObjectRecord {
     pub flag: bool,
 }
 
-#[derive(Drop)]
+#[derive(Clone, Copy)]
 pub struct Table {
     // how many of the records are in use: document 01's T and N
     pub threadcount: u8,

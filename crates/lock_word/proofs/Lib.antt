@@ -1,5 +1,5 @@
 -- The laws of lock words.
 pub mod KindTable
 pub mod RoundTrip
-pub mod Ownership
+pub mod Owning
 pub mod Cases

@@ -19,6 +19,7 @@ const NONE: u8 = 3;
 const KINDS: [u8; 8] = [FLAT, FAT, RESERVED, NONE, FLAT, NONE, RESERVED, NONE];
 
 // Which of those eight stands for a low byte.
+#[tactic(auto, unfolding(crate::specs::KindTable::kind_place))]
 fn kind_place(low: u8) -> u8
     ensures { result ≡ kind_place low }
 {
@@ -28,6 +29,7 @@ fn kind_place(low: u8) -> u8
     low % COUNT_UNIT + COUNT_UNIT
 }
 
+#[tactic(auto, using(crate::proofs::KindTable::place_inside), unfolding(laws::specs::Sequence::tabulate, crate::specs::KindTable::kind_of))]
 pub fn kind_of(low: u8) -> u8
     ensures { result ≡ kind_of low }
 {

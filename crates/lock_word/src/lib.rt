@@ -7,6 +7,8 @@
 //
 //  s shape: 0 flat or reserved, 1 fat.   r reserved.   count: six bits.   number: a thread, or of a fat word its object.
 //  flat, number 0, count 0: free.   reserved, number 0, count 0: anonymous.   Number 0 with a count is no lock word.
+#![tactic(auto)]
+
 mod depth;
 mod kinds;
 mod layout;

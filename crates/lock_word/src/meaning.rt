@@ -7,7 +7,7 @@ use crate::reading::{Decoded, LockWord, read_word};
 use crate::writing::{anonymous_word, flat_word, free_word, reserved_word};
 
 // A lock word as the rules see it. The numbers are a thread and a count; a fat word's number is its object.
-#[derive(Drop)]
+#[derive(Clone, Copy)]
 pub enum WordSeen {
     Free,
     Anonymous, // reserved for nobody yet
@@ -17,12 +17,13 @@ pub enum WordSeen {
 }
 
 // The thread that owns an object, and its depth; 0 and 0 where nobody does.
-#[derive(Drop)]
+#[derive(Clone, Copy)]
 pub struct Ownership {
     pub thread: u16,
     pub depth: Depth,
 }
 
+#[tactic(auto, unfolding(crate::specs::Meaning::seen_word))]
 pub fn seen_word(word: LockWord) -> WordSeen
     ensures { result ≡ seen_word word }
 {
@@ -36,6 +37,7 @@ pub fn seen_word(word: LockWord) -> WordSeen
 }
 
 // The count of a kept word, which in a sound table is reserved.
+#[tactic(auto, unfolding(crate::specs::Meaning::kept_count))]
 pub fn kept_count(decoded: Decoded) -> u8
     ensures { result ≡ kept_count decoded }
 {
@@ -86,6 +88,7 @@ fn depth_of(word: WordSeen, depth: Depth) -> Depth
     }
 }
 
+#[tactic(auto, unfolding(crate::specs::Meaning::owned_by))]
 fn owned_by(owner: u16, depth: Depth) -> Ownership
     ensures { result ≡ owned_by owner depth }
 {
@@ -127,6 +130,7 @@ fn cancel_seen(word: WordSeen) -> WordSeen
     }
 }
 
+#[tactic(auto, unfolding(crate::specs::Meaning::rewritten_of))]
 fn rewritten(word: u32, seen: WordSeen) -> u32
     ensures { result ≡ rewritten_of word seen }
 {
@@ -139,6 +143,7 @@ fn rewritten(word: u32, seen: WordSeen) -> u32
     }
 }
 
+#[tactic(auto, unfolding(crate::specs::Meaning::cancel_read))]
 fn cancel_read(word: u32, decoded: Decoded) -> u32
     ensures { result ≡ cancel_read word decoded }
 {
@@ -148,6 +153,7 @@ fn cancel_read(word: u32, decoded: Decoded) -> u32
     rewritten(word, cancel_seen(seen_word(meaning)))
 }
 
+#[tactic(auto, unfolding(crate::specs::Meaning::cancel_of))]
 pub fn cancel(word: u32) -> u32
     ensures { result ≡ cancel_of word }
 {

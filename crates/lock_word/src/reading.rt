@@ -8,14 +8,14 @@ use crate::layout::{FIRST_BEYOND, NUMBER_UNIT};
 
 // A thread's number and a monitor's number: the same fifteen bits, and neither can be passed for the other.
 // The fields are private to this file.
-#[derive(Drop)]
+#[derive(Clone, Copy)]
 pub struct ThreadNumber(u16);
 
-#[derive(Drop)]
+#[derive(Clone, Copy)]
 pub struct MonitorNumber(u16);
 
 // What a lock word says.
-#[derive(Drop)]
+#[derive(Clone, Copy)]
 pub enum LockWord {
     Free,
     // the thread, and its nested count: it owns the object at depth count + 1
@@ -26,7 +26,7 @@ pub enum LockWord {
     Fat(MonitorNumber),
 }
 
-#[derive(Drop)]
+#[derive(Clone, Copy)]
 pub enum Decoded {
     Valid(LockWord),
     Invalid,
@@ -49,6 +49,7 @@ impl MonitorNumber {
 }
 
 // A flat word of this count and number.
+#[tactic(auto, unfolding(crate::specs::Read::read_flat))]
 fn read_flat(count: u8, number: u16) -> Decoded
     ensures { result ≡ read_flat count number }
 {
@@ -62,6 +63,7 @@ fn read_flat(count: u8, number: u16) -> Decoded
 }
 
 // A reserved word of this count and number.
+#[tactic(auto, unfolding(crate::specs::Read::read_reserved))]
 fn read_reserved(count: u8, number: u16) -> Decoded
     ensures { result ≡ read_reserved count number }
 {
@@ -75,6 +77,7 @@ fn read_reserved(count: u8, number: u16) -> Decoded
 }
 
 // A fat word of this number. No object has number 0.
+#[tactic(auto, unfolding(crate::specs::Read::fat_of))]
 fn read_fat(number: u16) -> Decoded
     ensures { result ≡ fat_of number }
 {
@@ -85,6 +88,7 @@ fn read_fat(number: u16) -> Decoded
 }
 
 // The kind picks the reader.
+#[tactic(auto, unfolding(crate::specs::KindTable::by_kind))]
 fn by_kind(kind: u8, count: u8, number: u16) -> Decoded
     ensures { result ≡ by_kind kind count number }
 {
@@ -101,6 +105,7 @@ fn by_kind(kind: u8, count: u8, number: u16) -> Decoded
 }
 
 // What the word means, or that it is no lock word.
+#[tactic(auto, using(crate::proofs::KindTable::beyond, crate::proofs::KindTable::read_by_kind))]
 pub fn read_word(word: u32) -> Decoded
     ensures { result ≡ read_word word }
 {

@@ -38,6 +38,7 @@ pub fn fat_word(object: u16) -> u32
 }
 
 // The word that is written for a meaning.
+#[tactic(auto, unfolding(crate::specs::Write::write_word))]
 pub fn write_word(meaning: LockWord) -> u32
     ensures { result ≡ write_word meaning }
 {

@@ -13,13 +13,14 @@ use lock_perform::{
 use lock_rules::ChainWork;
 use lock_table::{ObjectRecord, THREADS, Table, ThreadRecord, object_place, thread_place};
 
-#[derive(Drop)]
+#[derive(Clone, Copy)]
 pub enum Work {
     Chains(ChainWork), // a rule's, on the chains of its object
     Tick, // on every waiting chain
 }
 
 // Whether the two records of the event are all that it changes.
+#[tactic(auto, unfolding(crate::specs::Work::work_stays))]
 pub fn work_stays(work: Work) -> bool
     ensures { result ≡ work_stays work }
 {
@@ -30,7 +31,7 @@ pub fn work_stays(work: Work) -> bool
 }
 
 // The table with the work done, and the set of threads that it unparked: bit n - 1 for thread n.
-#[derive(Drop)]
+#[derive(Clone, Copy)]
 pub struct WorkDone {
     pub table: Table,
     pub unparked: u32,
@@ -91,6 +92,7 @@ fn chains_done(
 }
 
 // The work of an event that leaves some.
+#[tactic(auto, unfolding(crate::specs::Work::work_done))]
 pub fn work_done(
     table: Table,
     thread: u8,

@@ -11,6 +11,7 @@ use lock_rules::ChainWork;
 use lock_table::{Monitor, OBJECTS, THREADS, Table, thread_place};
 
 // The work that hands a monitor which nobody holds.
+#[tactic(auto, unfolding(crate::specs::Tick::handing))]
 fn handing(monitor: Monitor) -> ChainWork
     ensures { result ≡ handing monitor }
 {

@@ -16,6 +16,7 @@ fn ticks_after(ticks: Ticks) -> Ticks
 }
 
 // Whether a waiter runs out with this tick: no wait without a limit does.
+#[tactic(auto, unfolding(crate::specs::Waiters::runs_out))]
 pub(crate) fn runs_out(waiter: ThreadRecord) -> bool
     ensures { result ≡ runs_out waiter.operation (ticks_after waiter.ticks) }
 {
@@ -32,6 +33,7 @@ pub(crate) fn runs_out(waiter: ThreadRecord) -> bool
 }
 
 // A waiter after the tick, in no chain yet: queued for 15 if it has run out.
+#[tactic(auto, unfolding(crate::specs::Waiters::waiter_after))]
 pub(crate) fn waiter_after(waiter: ThreadRecord, goes: bool) -> ThreadRecord
     ensures { result ≡ waiter_after waiter (ticks_after waiter.ticks) goes }
 {

@@ -10,6 +10,7 @@ use replay_text::{REPORT_ROOM, has_room, put_answer};
 use report_tally::{MOST_LINES, Tally, put_report};
 
 // The report, once, and not where 24 was printed.
+#[tactic(auto, using(replay_text::proofs::Stores::wrote_nothing, replay_text::proofs::Room::written_put), unfolding(report_tally::specs::Rows::report_text))]
 fn put_report_end(out: &mut [u8], at: usize, tally: Tally) -> usize
     requires { at + report_room ≤ length out.old }
     ensures { Wrote out.old out.new at result (report_end tally) }
@@ -23,6 +24,7 @@ fn put_report_end(out: &mut [u8], at: usize, tally: Tally) -> usize
     put_report(out, at, tally)
 }
 
+#[tactic(auto, using(replay_text::proofs::Room::written_put), unfolding(crate::specs::Take::closing_text))]
 fn put_end(out: &mut [u8], at: usize, state: State) -> usize
     requires { at + report_room ≤ length out.old }
     ensures { Wrote out.old out.new at result (closing_text state) }
@@ -38,6 +40,7 @@ fn put_end(out: &mut [u8], at: usize, state: State) -> usize
 }
 
 // What the end of the input prints, where there is room for any.
+#[tactic(auto, using(replay_text::proofs::Room::put_written, replay_text::proofs::Room::put_refused))]
 pub fn put_closing(out: &mut [u8], at: usize, state: State) -> usize
     ensures { Put report_room out.old out.new at result (closing_text state) }
 {
@@ -48,6 +51,7 @@ pub fn put_closing(out: &mut [u8], at: usize, state: State) -> usize
 }
 
 // The state after it.
+#[tactic(auto, unfolding(crate::specs::Take::closed_state))]
 pub fn closed_state(state: State) -> State
     ensures { result ≡ closed_state state }
 {

@@ -1,5 +1,7 @@
 // What a program keeps between two lines, and what a line and the end of the input do to it. There are two programs: the replay answers the lines
 // of one schedule (document 01, "The replay program"), the report counts what the lines of many do (document 02, L4).
+#![tactic(auto)]
+
 mod closing;
 mod state;
 mod taking;

@@ -8,7 +8,7 @@ ghost use Rattle.program_state.specs.Take.{state_over};
 use replay_session::{Session, Stage, fresh_session, session_over};
 use report_tally::{MOST_LINES, Tally, fresh_tally};
 
-#[derive(Drop)]
+#[derive(Clone, Copy)]
 pub struct State {
     // the program is the report
     pub reporting: bool,
@@ -50,6 +50,7 @@ pub fn fresh_state(reporting: bool) -> State
 }
 
 // Whether the run has ended before its input: the replay's by a bad header, the report's by too many lines.
+#[tactic(auto, unfolding(crate::specs::Take::state_over))]
 pub fn state_over(state: State) -> bool
     ensures { result ≡ state_over state }
 {

@@ -14,6 +14,7 @@ use report_tally::MOST_LINES;
 const TOO_MANY_LINES: u16 = 24;
 
 // One line more than a run may hold is answered, and those behind it are not.
+#[tactic(auto, unfolding(crate::specs::Take::excess_answer))]
 fn excess_answer(lines: u16) -> Answer
     ensures { result ≡ excess_answer lines }
 {
@@ -26,6 +27,7 @@ fn excess_answer(lines: u16) -> Answer
 }
 
 // What a line does to the session: a header of the report ends the schedule before it and opens another, if it is good; a line too many does nothing.
+#[tactic(auto, unfolding(crate::specs::Trusting::line_reaction))]
 pub fn line_reaction(
     reporting: bool,
     lines: u16,
@@ -56,6 +58,7 @@ pub fn line_reaction(
 }
 
 // What is printed of it: the report prints no answer of a session.
+#[tactic(auto, unfolding(crate::specs::Trusting::line_answer))]
 pub fn line_answer(reporting: bool, lines: u16, line: Line, answer: Answer) -> Answer
     ensures { result ≡ line_answer reporting lines line answer }
 {
@@ -72,6 +75,7 @@ pub fn line_answer(reporting: bool, lines: u16, line: Line, answer: Answer) -> A
 }
 
 // The counter stops one line behind the most that a run may hold.
+#[tactic(auto, unfolding(crate::specs::Trusting::one_further))]
 fn one_further(lines: u16) -> u16
     ensures { result ≡ one_further lines }
 {
@@ -82,6 +86,7 @@ fn one_further(lines: u16) -> u16
 }
 
 // The report counts the lines that are no headers.
+#[tactic(auto, unfolding(crate::specs::Trusting::lines_after))]
 pub fn lines_after(reporting: bool, lines: u16, line: Line) -> u16
     ensures { result ≡ lines_after reporting lines line }
 {
@@ -104,6 +109,7 @@ fn larger(first: u8, second: u8) -> u8
 }
 
 // And keeps the most objects that a header's table has: a bad header's has none.
+#[tactic(auto, unfolding(crate::specs::Trusting::largest_after))]
 pub fn largest_after(reporting: bool, largest: u8, line: Line, objects: u8) -> u8
     ensures { result ≡ largest_after reporting largest line objects }
 {
@@ -117,6 +123,7 @@ pub fn largest_after(reporting: bool, largest: u8, line: Line, objects: u8) -> u
 }
 
 // Whether the session's table is sound after the line: a header of the report opens another session, whose table is new, and so sound.
+#[tactic(auto, unfolding(crate::specs::Trusting::sound_after))]
 pub fn sound_after(reporting: bool, line: Line, issound: bool) -> bool
     ensures { result ≡ sound_after reporting line issound }
 {
@@ -128,6 +135,7 @@ pub fn sound_after(reporting: bool, line: Line, issound: bool) -> bool
 
 // Whether a line is an event of a thread that a caller may carry out in place: a running session's, and for the report while a run may hold
 // more lines.
+#[tactic(auto, unfolding(crate::specs::Trusting::runs_in_place))]
 pub fn runs_in_place(reporting: bool, lines: u16, stage: Stage, line: Line) -> bool
     ensures { result ≡ runs_in_place reporting lines stage line }
 {

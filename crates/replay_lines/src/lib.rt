@@ -8,6 +8,8 @@
 //   C                       one tick of the clock
 //
 // Each reader gets the part of the line that starts where it reads, and hands on the part behind what it has read.
+#![tactic(auto)]
+
 mod bytes;
 mod cutting;
 mod number;

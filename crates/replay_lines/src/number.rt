@@ -9,12 +9,13 @@ use replay_text::{DIGIT_ZERO, SPACE};
 const NUMBER_LIMIT: u32 = 65535;
 
 // What stands at the start of some bytes: a number and how many bytes it takes, or none.
-#[derive(Drop)]
+#[derive(Clone, Copy)]
 pub enum Number {
     Found { value: u16, length: usize },
     Absent,
 }
 
+#[tactic(auto, unfolding(crate::specs::Number::is_digit))]
 fn is_digit(byte: u8) -> bool
     ensures { result ≡ is_digit byte }
 {
@@ -56,6 +57,7 @@ fn read_digits(text: &[u8], first: u8) -> Number
 }
 
 // A number. A zero stands alone: what follows it is not of the number.
+#[tactic(auto, using(crate::proofs::Fields::no_bytes, crate::proofs::Fields::first_byte, crate::proofs::Fields::digit_low), unfolding(crate::specs::Number::read_number))]
 fn read_number(text: &[u8]) -> Number
     ensures { result ≡ read_number text.now }
 {
@@ -76,6 +78,7 @@ fn read_number(text: &[u8]) -> Number
 }
 
 // A single space and a number.
+#[tactic(auto, using(crate::proofs::Fields::rest_of, crate::proofs::Fields::no_bytes, crate::proofs::Fields::first_byte, crate::proofs::Fields::number_within, crate::proofs::Fields::found_within), unfolding(crate::specs::Number::read_field))]
 pub fn read_field(text: &[u8]) -> Number
     ensures { result ≡ read_field text.now }
 {

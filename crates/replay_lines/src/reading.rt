@@ -11,7 +11,7 @@ use replay_text::NEWLINE;
 // The number of the one operation that has a limit.
 const TIMED_WAIT: u8 = 6;
 
-#[derive(Drop)]
+#[derive(Clone, Copy)]
 pub enum Line {
     Header {
         threads: u16,
@@ -37,6 +37,7 @@ pub enum Line {
 }
 
 // The line, if the newline is all that is left of its text.
+#[tactic(auto, using(crate::proofs::Grammar::end_other, crate::proofs::Grammar::end_one))]
 fn end_line(text: &[u8], line: Line) -> Line
     ensures { result ≡ end_line text.now line }
 {
@@ -50,6 +51,7 @@ fn end_line(text: &[u8], line: Line) -> Line
 }
 
 // Behind S: the thread.
+#[tactic(auto, using(crate::proofs::Grammar::field_fits, crate::proofs::Grammar::field_next), unfolding(crate::specs::Grammar::read_step))]
 fn read_step(text: &[u8]) -> Line
     ensures { result ≡ read_step text.now }
 {
@@ -60,6 +62,7 @@ fn read_step(text: &[u8]) -> Line
 }
 
 // Behind the letter of an operation: the thread.
+#[tactic(auto, using(crate::proofs::Grammar::field_fits, crate::proofs::Grammar::field_next), unfolding(crate::specs::Grammar::read_begin))]
 fn read_begin(operation: u8, text: &[u8]) -> Line
     ensures { result ≡ read_begin operation text.now }
 {
@@ -73,6 +76,7 @@ fn read_begin(operation: u8, text: &[u8]) -> Line
 }
 
 // Behind the thread: the object.
+#[tactic(auto, using(crate::proofs::Grammar::field_fits, crate::proofs::Grammar::field_next), unfolding(crate::specs::Grammar::read_begin_object))]
 fn read_begin_object(operation: u8, thread: u16, text: &[u8]) -> Line
     ensures { result ≡ read_begin_object operation thread text.now }
 {
@@ -83,6 +87,7 @@ fn read_begin_object(operation: u8, thread: u16, text: &[u8]) -> Line
 }
 
 // Behind the object: the limit of a timed wait, or the end of the line.
+#[tactic(auto, using(crate::proofs::Grammar::field_fits, crate::proofs::Grammar::field_next), unfolding(crate::specs::Grammar::read_begin_limit))]
 fn read_begin_limit(operation: u8, thread: u16, object: u16, text: &[u8]) -> Line
     ensures { result ≡ read_begin_limit operation thread object text.now }
 {
@@ -112,6 +117,7 @@ fn read_begin_limit(operation: u8, thread: u16, object: u16, text: &[u8]) -> Lin
 }
 
 // Behind L: how many threads.
+#[tactic(auto, using(crate::proofs::Grammar::field_fits, crate::proofs::Grammar::field_next), unfolding(crate::specs::Grammar::read_header))]
 fn read_header(text: &[u8]) -> Line
     ensures { result ≡ read_header text.now }
 {
@@ -122,6 +128,7 @@ fn read_header(text: &[u8]) -> Line
 }
 
 // Behind the threads: how many objects.
+#[tactic(auto, using(crate::proofs::Grammar::field_fits, crate::proofs::Grammar::field_next), unfolding(crate::specs::Grammar::read_header_objects))]
 fn read_header_objects(threads: u16, text: &[u8]) -> Line
     ensures { result ≡ read_header_objects threads text.now }
 {
@@ -132,6 +139,7 @@ fn read_header_objects(threads: u16, text: &[u8]) -> Line
 }
 
 // Behind the objects: 1 for reserved words, 0 for free ones.
+#[tactic(auto, using(crate::proofs::Fields::rest_of, crate::proofs::Grammar::field_fits), unfolding(crate::specs::Grammar::read_header_reserved))]
 fn read_header_reserved(threads: u16, objects: u16, text: &[u8]) -> Line
     ensures { result ≡ read_header_reserved threads objects text.now }
 {
@@ -152,6 +160,7 @@ fn read_header_reserved(threads: u16, objects: u16, text: &[u8]) -> Line
 }
 
 // What a line says that begins with L: a header, of its form or not.
+#[tactic(auto, unfolding(crate::specs::Grammar::header_or_bad))]
 fn header_or_bad(line: Line) -> Line
     ensures { result ≡ header_or_bad line }
 {
@@ -179,6 +188,7 @@ fn header_or_bad(line: Line) -> Line
 }
 
 // Whether a line begins with L.
+#[tactic(auto, unfolding(crate::specs::Grammar::is_header))]
 pub fn is_header(line: Line) -> bool
     ensures { result ≡ is_header line }
 {
@@ -202,6 +212,7 @@ pub fn is_header(line: Line) -> bool
 }
 
 // The number of the operation with this letter, 0 if there is none.
+#[tactic(auto, using(laws::proofs::Choice::tests), unfolding(crate::specs::Grammar::operation_of))]
 fn operation_of(letter: u8) -> u8
     ensures { result ≡ operation_of letter }
 {
@@ -227,6 +238,7 @@ fn operation_of(letter: u8) -> u8
 }
 
 // What a whole line says, its newline with it.
+#[tactic(auto, using(crate::proofs::Fields::rest_of, crate::proofs::Fields::no_bytes, crate::proofs::Fields::first_byte), unfolding(crate::specs::Grammar::read_line))]
 pub fn read_line(line: &[u8]) -> Line
     ensures { result ≡ read_line line.now }
 {

@@ -14,6 +14,7 @@ fn move_down(buffer: &mut [u8], from: usize, count: usize)
 }
 
 // Moves the bytes from `from` up to `to` to the front. Where there are no such bytes nothing is moved.
+#[tactic(auto, unfolding(crate::specs::Keeping::keep_rest))]
 pub fn keep_rest(buffer: &mut [u8], from: usize, to: usize)
     ensures { buffer.new ≡ keep_rest from to buffer.old }
 {

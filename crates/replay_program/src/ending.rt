@@ -6,7 +6,7 @@ use crate::moving::interrupted;
 
 const ENDING_FILENO: i32 = 3;
 
-#[derive(Drop)]
+#[derive(Clone, Copy)]
 pub enum Ending {
     AllRead,
     // before its input: the replay's by a bad header or none, the report's by too many lines
@@ -16,6 +16,7 @@ pub enum Ending {
 }
 
 // The digit of the exit status that stands for the ending.
+#[tactic(auto, unfolding(crate::specs::Run::ending_byte, crate::specs::Run::status_of))]
 fn ending_byte(ending: Ending) -> u8
     ensures { result ≡ ending_byte ending }
 {

@@ -1,6 +1,8 @@
 // A program, from standard input to standard output: the replay (document 01, "The replay program") or the report (document 02, L4).
 // Input and output pass through two fixed buffers, so that neither has a limit. The run ends with the input, before it where the state is over, or at
 // the first read or write that fails.
+#![tactic(auto)]
+
 mod ending;
 mod moving;
 mod running;
@@ -10,7 +12,7 @@ ghost use Rattle.replay_program.specs.Run.{Tells};
 use running::Ran;
 
 // How a run went, and the byte that told descriptor 3 of it.
-#[derive(Drop)]
+#[derive(Clone, Copy)]
 pub struct Told {
     pub ran: Ran,
     pub byte: u8,

@@ -6,7 +6,7 @@ ghost use Rattle.replay_program.specs.Messages.{output_name, input_name};
 use libc::{STDERR_FILENO, STDIN_FILENO, STDOUT_FILENO};
 
 // How many bytes a read or a write moved, and whether it failed.
-#[derive(Drop)]
+#[derive(Clone, Copy)]
 pub struct Moved {
     pub count: usize,
     pub failed: bool,
@@ -23,6 +23,7 @@ pub(crate) fn interrupted(got: isize) -> bool
 }
 
 // What a failure is named by on standard error, in the program's name.
+#[tactic(auto, unfolding(crate::specs::Messages::output_name))]
 fn output_name(reporting: bool) -> [u8; 23]
     ensures { result ≡ output_name reporting }
 {
@@ -32,6 +33,7 @@ fn output_name(reporting: bool) -> [u8; 23]
     *b"replay: standard output"
 }
 
+#[tactic(auto, unfolding(crate::specs::Messages::input_name))]
 fn input_name(reporting: bool) -> [u8; 22]
     ensures { result ≡ input_name reporting }
 {

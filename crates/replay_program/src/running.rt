@@ -10,7 +10,7 @@ use program_state::state_over;
 use replay_stream::Stream;
 
 // A stream, where the bytes that it has not taken begin, and whether a write failed.
-#[derive(Drop)]
+#[derive(Clone, Copy)]
 pub struct Drained {
     pub stream: Stream,
     pub from: usize,
@@ -18,7 +18,7 @@ pub struct Drained {
 }
 
 // A stream, how many bytes that it has not taken stand at the front of the buffer, and whether a write failed.
-#[derive(Drop)]
+#[derive(Clone, Copy)]
 pub struct Held {
     pub stream: Stream,
     pub held: usize,
@@ -26,7 +26,7 @@ pub struct Held {
 }
 
 // The stream at the end of a run, and how many bytes that it has not taken stand at the front of the buffer.
-#[derive(Drop)]
+#[derive(Clone, Copy)]
 pub struct Ran {
     pub stream: Stream,
     pub held: usize,
@@ -66,6 +66,7 @@ fn drain(reporting: bool, start: Stream, input: &[u8], last: bool, out: &mut [u8
 }
 
 // Feeds the bytes that the buffer holds, and keeps what is left of them at its front.
+#[tactic(auto, using(crate::proofs::Counts::counted, crate::proofs::Taking::taken_part))]
 fn take_part(
     reporting: bool,
     start: Stream,

@@ -1,4 +1,6 @@
 // The session of a replay: no header yet, a table, or ended; and what each line does to it (document 01, "The replay program").
+#![tactic(auto)]
+
 mod reacting;
 mod session;
 

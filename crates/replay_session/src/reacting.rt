@@ -15,7 +15,7 @@ use lock_table::{
 use replay_lines::Line;
 use replay_text::Answer;
 
-#[derive(Drop)]
+#[derive(Clone, Copy)]
 pub struct Reaction {
     pub session: Session,
     pub answer: Answer,
@@ -35,6 +35,7 @@ fn stay(stage: Stage, table: Table, answer: Answer) -> Reaction
     }
 }
 
+#[tactic(auto, unfolding(crate::specs::Session::opened_by))]
 fn opened(answer: FreshAnswer, table: Table) -> Reaction
     ensures { result ≡ opened_by answer table }
 {
@@ -50,6 +51,7 @@ fn opened(answer: FreshAnswer, table: Table) -> Reaction
     }
 }
 
+#[tactic(auto, unfolding(crate::specs::Session::opened_by))]
 fn open_with(made: FreshTable) -> Reaction
     ensures { result ≡ opened_by made.answer made.table }
 {
@@ -59,6 +61,7 @@ fn open_with(made: FreshTable) -> Reaction
 }
 
 // The first line is the header, or the run is over.
+#[tactic(auto, unfolding(crate::specs::Session::open_by))]
 fn open_by(table: Table, line: Line) -> Reaction
     ensures { result ≡ open_by table line }
 {
@@ -97,6 +100,7 @@ fn word_of(table: Table, object: u8) -> u32
 }
 
 // Numbers from this one on are refusals, which print alone.
+#[tactic(auto, unfolding(lock_rules::specs::Numbers::refusal_number))]
 fn first_refusal() -> u8
     ensures { result ≡ first_refusal }
 {
@@ -104,6 +108,7 @@ fn first_refusal() -> u8
 }
 
 // A refusal prints its number alone, whatever is printed of an event that is accepted.
+#[tactic(auto, unfolding(crate::specs::Session::answer_from))]
 fn answer_from(first: u8, number: u8, accepted: Answer) -> Answer
     ensures { result ≡ answer_from first number accepted }
 {
@@ -183,6 +188,7 @@ fn after_tick(outcome: Outcome) -> Reaction
 }
 
 // A line behind a good header.
+#[tactic(auto, unfolding(crate::specs::Trusting::run_by))]
 fn run_by(table: Table, line: Line, issound: bool) -> Reaction
     ensures { result ≡ run_by table line issound }
 {
@@ -220,6 +226,7 @@ fn run_by(table: Table, line: Line, issound: bool) -> Reaction
     }
 }
 
+#[tactic(auto, unfolding(crate::specs::Trusting::react_by))]
 fn react_by(stage: Stage, table: Table, line: Line, issound: bool) -> Reaction
     ensures { result ≡ react_by stage table line issound }
 {
@@ -241,6 +248,7 @@ pub fn react_trusting(session: Session, line: Line, issound: bool) -> Reaction
 }
 
 // The event of a thread that a line asks for; of other lines the answer is not used.
+#[tactic(auto, unfolding(crate::specs::Trusting::line_event))]
 pub fn line_event(line: Line) -> Event
     ensures { result ≡ line_event line }
 {
@@ -270,6 +278,7 @@ pub fn line_event(line: Line) -> Event
     }
 }
 
+#[tactic(auto, unfolding(crate::specs::Trusting::is_thread_event))]
 fn is_thread_event(line: Line) -> bool
     ensures { result ≡ is_thread_event line }
 {
@@ -294,6 +303,7 @@ fn is_thread_event(line: Line) -> bool
 
 // Whether a line is an event of a thread in a running session, which a caller may carry out in place. A tick, which touches every object, is left to
 // react_trusting.
+#[tactic(auto, unfolding(crate::specs::Trusting::runs_thread_event))]
 pub fn runs_thread_event(stage: Stage, line: Line) -> bool
     ensures { result ≡ runs_thread_event stage line }
 {
@@ -317,6 +327,7 @@ pub fn turn_answer(reply: Reply, phase: Phase, word: u32, unparked: u32) -> Answ
     )
 }
 
+#[tactic(auto, unfolding(crate::specs::Session::closing_by))]
 fn closing_by(stage: Stage, table: Table) -> Reaction
     ensures { result ≡ closing_by stage table }
 {

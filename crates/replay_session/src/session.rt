@@ -5,7 +5,7 @@ ghost use Rattle.replay_session.specs.Trusting.{sound_by, session_sound};
 
 use lock_table::Table;
 
-#[derive(Drop)]
+#[derive(Clone, Copy)]
 pub enum Stage {
     // the header is to come
     Opening,
@@ -14,7 +14,7 @@ pub enum Stage {
     Over,
 }
 
-#[derive(Drop)]
+#[derive(Clone, Copy)]
 pub struct Session {
     pub stage: Stage,
     // all zero unless the stage is Running
@@ -38,6 +38,7 @@ pub fn fresh_session() -> Session
     }
 }
 
+#[tactic(auto, unfolding(crate::specs::Trusting::sound_by))]
 fn sound_by(stage: Stage, table: Table) -> bool
     ensures { result ≡ sound_by stage table }
 {
@@ -57,6 +58,7 @@ pub fn session_sound(session: Session) -> bool
     sound_by(stage, table)
 }
 
+#[tactic(auto, unfolding(crate::specs::Session::over_by))]
 fn over_by(stage: Stage) -> bool
     ensures { result ≡ over_by stage }
 {

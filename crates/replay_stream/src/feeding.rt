@@ -25,13 +25,13 @@ use replay_text::{Answer, LINE_ROOM, put_answer};
 use report_tally::{Tally, Way, way_finished, with_enter};
 
 // A state, and whether the input goes on inside a line that was answered already, being too long.
-#[derive(Drop)]
+#[derive(Clone, Copy)]
 pub struct Stream {
     pub state: State,
     pub inside: bool,
 }
 
-#[derive(Drop)]
+#[derive(Clone, Copy)]
 pub struct Progress {
     pub stream: Stream,
     pub used: usize,
@@ -85,6 +85,7 @@ fn event_answer(turn: Turn, unparked: u32) -> Answer
 }
 
 // The way in which an event of a thread finished an enter, if it did, by the records before it.
+#[tactic(auto, unfolding(report_tally::specs::Way::way_finished))]
 fn event_way(event: Event, own: ThreadRecord, object: ObjectRecord, turn: Turn) -> Way
     ensures { result ≡ way_finished event own object.word (reply_returned turn.reply) }
 {
@@ -164,6 +165,7 @@ fn take_lines(start: State, input: &[u8], out: &mut [u8]) -> Progress
 }
 
 // What is left of a line that was answered already.
+#[tactic(auto, using(replay_parts::proofs::Taken::skipped_part, replay_parts::proofs::Taken::skipped_line))]
 fn skip_line(state: State, input: &[u8], out: &mut [u8]) -> Progress
     ensures { FedLines state true input.now out.old out.new result }
 {
@@ -189,6 +191,7 @@ fn skip_line(state: State, input: &[u8], out: &mut [u8]) -> Progress
 }
 
 // The start of a line that is too long for any form: it is answered, and what is left of it will be skipped.
+#[tactic(auto, using(replay_parts::proofs::Taken::long_part))]
 fn take_long_line(state: State, input: &[u8], out: &mut [u8]) -> Progress
     requires { (line_limit < length input.now) × (line_end input.now ≡ 0) × (line_room ≤ length out.old) }
     ensures { FedLines state false input.now out.old out.new result }

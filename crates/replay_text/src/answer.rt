@@ -7,7 +7,7 @@ use crate::bytes::{NEWLINE, SPACE};
 use crate::fields::{has_room, put_field, put_hexadecimal};
 
 // What the program prints of one line of its input.
-#[derive(Drop)]
+#[derive(Clone, Copy)]
 pub enum Answer {
     // of a header that opens the schedule, and of what follows the end of the run
     Silent,
@@ -38,6 +38,7 @@ const WORD_DIGITS: usize = 6;
 const SET_DIGITS: usize = 8;
 
 // All of an accepted tick's line.
+#[tactic(auto, using(crate::proofs::Stores::wrote_both), unfolding(crate::specs::Text::tick_line))]
 fn put_tick(out: &mut [u8], at: usize, returned: u8, unparked: u32) -> usize
     requires { at + line_room ≤ length out.old }
     ensures { Wrote out.old out.new at result (tick_line returned unparked) }
@@ -47,6 +48,7 @@ fn put_tick(out: &mut [u8], at: usize, returned: u8, unparked: u32) -> usize
 }
 
 // All of the line of a thread's accepted event.
+#[tactic(auto, using(crate::proofs::Lengths::hexadecimal_length, crate::proofs::Stores::wrote_both), unfolding(crate::specs::Text::answer_line))]
 fn put_fields(
     out: &mut [u8],
     at: usize,
@@ -67,6 +69,7 @@ fn put_fields(
 }
 
 // The line of an answer, if it has one, where there is room for any.
+#[tactic(auto, using(crate::proofs::Stores::wrote_nothing), unfolding(crate::specs::Text::answer_text))]
 fn put_line(out: &mut [u8], at: usize, answer: Answer) -> usize
     requires { at + line_room ≤ length out.old }
     ensures { Wrote out.old out.new at result (answer_text answer) }
@@ -86,6 +89,7 @@ fn put_line(out: &mut [u8], at: usize, answer: Answer) -> usize
 }
 
 // The line of an answer, if it has one.
+#[tactic(auto, using(crate::proofs::Room::put_written, crate::proofs::Room::put_refused))]
 pub fn put_answer(out: &mut [u8], at: usize, answer: Answer) -> usize
     ensures { Put line_room out.old out.new at result (answer_text answer) }
 {

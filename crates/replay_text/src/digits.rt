@@ -7,6 +7,7 @@ use crate::bytes::{DIGIT_ZERO, LOWER_A, put_byte};
 
 const DECIMAL: u32 = 10;
 
+#[tactic(auto, unfolding(crate::specs::Digits::digit_byte))]
 fn digit_byte(digit: u32) -> u8
     requires { digit < 16 }
     ensures { result ≡ digit_byte digit }
@@ -33,6 +34,7 @@ pub(crate) fn put_digits(out: &mut [u8], at: usize, base: u32, width: usize, num
 }
 
 // How many decimal digits the number has. Small numbers, which are the most, are found first.
+#[tactic(auto, using(laws::proofs::Choice::tests), unfolding(crate::specs::Digits::places_from, crate::specs::Digits::places_of))]
 fn places(number: u32) -> usize
     ensures { result ≡ places_of number }
 {
@@ -67,6 +69,7 @@ fn places(number: u32) -> usize
 }
 
 // Most numbers that are printed have one digit.
+#[tactic(auto, using(crate::proofs::Lengths::places_fit, crate::proofs::Lengths::one_digit), unfolding(crate::specs::Digits::decimal))]
 pub(crate) fn put_decimal(out: &mut [u8], at: usize, number: u32) -> usize
     requires { at + decimal_limit ≤ length out.old }
     ensures { Wrote out.old out.new at result (decimal number) }

@@ -9,6 +9,7 @@ use crate::digits::{put_decimal, put_digits};
 const HEXADECIMAL: u32 = 16;
 
 // Whether so many bytes are left from a place on.
+#[tactic(auto, using(crate::proofs::Room::room_test, crate::proofs::Room::room_none))]
 pub fn has_room(room: usize, length: usize, at: usize) -> bool
     ensures { result ≡ leb (at + room) length }
 {
@@ -19,6 +20,7 @@ pub fn has_room(room: usize, length: usize, at: usize) -> bool
 }
 
 // A number in decimal and a byte behind it.
+#[tactic(auto, using(crate::proofs::Lengths::decimal_fits, crate::proofs::Stores::wrote_both), unfolding(crate::specs::Text::field_text))]
 pub(crate) fn put_field(out: &mut [u8], at: usize, number: u32, end: u8) -> usize
     requires { at + field_limit ≤ length out.old }
     ensures wrote { Wrote out.old out.new at result (field_text number end) }
@@ -29,6 +31,7 @@ pub(crate) fn put_field(out: &mut [u8], at: usize, number: u32, end: u8) -> usiz
 }
 
 // A number in so many hexadecimal digits and a byte behind them.
+#[tactic(auto, using(crate::proofs::Stores::digits_length, crate::proofs::Stores::wrote_both), unfolding(crate::specs::Text::hexadecimal_text))]
 pub(crate) fn put_hexadecimal(
     out: &mut [u8],
     at: usize,

@@ -9,6 +9,8 @@
 // A line is written into bytes that the caller lends, from a place on; the place behind it comes back. Where less than
 // `LINE_ROOM` bytes are left, for a row `ROW_ROOM`, nothing is written and the place itself comes back: no line is empty, so the
 // two can be told apart.
+#![tactic(auto)]
+
 mod answer;
 mod bytes;
 mod digits;

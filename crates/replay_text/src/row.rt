@@ -7,7 +7,7 @@ use crate::bytes::{NEWLINE, SPACE};
 use crate::fields::{has_room, put_field};
 
 // The enters finished in each of the five ways, in the order in which they are printed.
-#[derive(Drop)]
+#[derive(Clone, Copy)]
 pub struct Figures {
     pub anonymous: u16,
     pub reserved: u16,
@@ -17,7 +17,7 @@ pub struct Figures {
 }
 
 // What is printed of each of the five: its figure, its share or its remainder.
-#[derive(Drop)]
+#[derive(Clone, Copy)]
 struct FiveFields {
     anonymous: u32,
     reserved: u32,
@@ -45,6 +45,7 @@ fn figures_sum(figures: Figures) -> u32
         + figures.monitor as u32
 }
 
+#[tactic(auto, unfolding(crate::specs::Row::share))]
 fn share(figure: u16, sum: u32) -> u32
     ensures { result ≡ share figure sum }
 {
@@ -54,6 +55,7 @@ fn share(figure: u16, sum: u32) -> u32
     (WHOLE_SHARE * figure as u32) / sum
 }
 
+#[tactic(auto, unfolding(crate::specs::Row::remainder))]
 fn remainder(figure: u16, sum: u32) -> u32
     ensures { result ≡ remainder figure sum }
 {
@@ -100,6 +102,7 @@ fn remainder_fields(figures: Figures, sum: u32) -> FiveFields
 }
 
 // Five fields, and a byte behind the last.
+#[tactic(auto, using(crate::proofs::Stores::wrote_both), unfolding(crate::specs::Row::five_text))]
 fn put_five(out: &mut [u8], at: usize, five: FiveFields, end: u8) -> usize
     requires { at + five_limit ≤ length out.old }
     ensures wrote { Wrote out.old out.new at result (five_text five end) }
@@ -113,6 +116,7 @@ fn put_five(out: &mut [u8], at: usize, five: FiveFields, end: u8) -> usize
 }
 
 // All of a row.
+#[tactic(auto, using(crate::proofs::Stores::wrote_both), unfolding(crate::specs::Row::row_text))]
 fn put_row_text(out: &mut [u8], at: usize, number: u8, figures: Figures) -> usize
     requires { at + row_room ≤ length out.old }
     ensures { Wrote out.old out.new at result (row_text number figures) }
@@ -125,6 +129,7 @@ fn put_row_text(out: &mut [u8], at: usize, number: u8, figures: Figures) -> usiz
 }
 
 // The row of a number, for an object or for all.
+#[tactic(auto, using(crate::proofs::Room::put_written, crate::proofs::Room::put_refused))]
 pub fn put_row(out: &mut [u8], at: usize, number: u8, figures: Figures) -> usize
     ensures { Put row_room out.old out.new at result (row_text number figures) }
 {

@@ -11,7 +11,7 @@ use Rattle.lock_rules.specs.declared.event.Gate.{Gate}
 use Rattle.lock_rules.specs.declared.event.Event.TheVariants.{Step}
 use Rattle.lock_rules.specs.declared.event.Refusal.TheVariants.{NotSound}
 use Rattle.lock_rules.specs.declared.event.ThreadStatus.TheVariants.{Ready}
-use Rattle.lock_rules.proofs.Gate.{by_gate}
+use Rattle.lock_rules.proofs.Gating.{by_gate}
 use Rattle.lock_table.specs.Limits.{object_limit}
 use Rattle.lock_table.specs.Phase.{phase_number}
 use Rattle.lock_table.specs.Access.{thread_at, object_at}

@@ -1,4 +1,6 @@
 // What the report counts (document 02, L4): in which of five ways each enter finished, for its object and in all; and the rows that it prints.
+#![tactic(auto)]
+
 mod report_text;
 mod tally;
 mod way;

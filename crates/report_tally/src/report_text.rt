@@ -9,6 +9,7 @@ use lock_table::OBJECTS;
 use replay_text::{Figures, REPORT_ROOM, has_room, put_row};
 
 // Up to the largest number, and no further than there are objects in a table.
+#[tactic(auto, unfolding(crate::specs::Rows::row_count))]
 fn row_count(largest: u8) -> u8
     ensures { result ≡ row_count largest }
 {
@@ -36,6 +37,7 @@ fn put_rows(out: &mut [u8], at: usize, largest: u8, objects: [Figures; 64]) -> u
 }
 
 // All of the report.
+#[tactic(auto, using(replay_text::proofs::Stores::wrote_both, replay_text::proofs::Stores::wrote_length, replay_text::proofs::Room::written_put), unfolding(crate::specs::Rows::report_text))]
 fn put_report_text(out: &mut [u8], at: usize, tally: Tally) -> usize
     requires { at + report_room ≤ length out.old }
     ensures { Wrote out.old out.new at result (report_text tally) }
@@ -46,6 +48,7 @@ fn put_report_text(out: &mut [u8], at: usize, tally: Tally) -> usize
 }
 
 // The report, where there is room for any.
+#[tactic(auto, using(replay_text::proofs::Room::put_written, replay_text::proofs::Room::put_refused))]
 pub fn put_report(out: &mut [u8], at: usize, tally: Tally) -> usize
     ensures { Put report_room out.old out.new at result (report_text tally) }
 {

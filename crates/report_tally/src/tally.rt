@@ -8,7 +8,7 @@ use replay_text::Figures;
 // Lines that a run may hold, headers not counted.
 pub const MOST_LINES: u16 = 60000;
 
-#[derive(Drop)]
+#[derive(Clone, Copy)]
 pub struct Tally {
     // lines that are no headers, up to one more than a run may hold, which ends the run
     pub lines: u16,
@@ -45,6 +45,7 @@ pub fn fresh_tally() -> Tally
 }
 
 // A figure stops at the lines that a run may hold. In a run none is stopped: each enter that finishes has a line of its own.
+#[tactic(auto, unfolding(crate::specs::Tally::one_more))]
 fn one_more(figure: u16) -> u16
     ensures { result ≡ one_more figure }
 {
@@ -55,6 +56,7 @@ fn one_more(figure: u16) -> u16
 }
 
 // The figures with one enter more that finished this way.
+#[tactic(auto, unfolding(crate::specs::Tally::with_enter))]
 pub fn with_enter(figures: Figures, way: Way) -> Figures
     ensures { result ≡ with_enter figures way }
 {

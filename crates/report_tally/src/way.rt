@@ -7,7 +7,7 @@ use lock_rules::{Answer, Event};
 use lock_table::{Operation, Phase, ThreadRecord};
 use lock_word::{Decoded, LockWord, read_word};
 
-#[derive(Drop)]
+#[derive(Clone, Copy)]
 pub enum Way {
     // no enter finished
     NoEnter,
@@ -24,12 +24,14 @@ pub enum Way {
 }
 
 // The number that a step returns which finishes its operation.
+#[tactic(auto, unfolding(lock_engine::specs::Outcome::reply_returned))]
 fn finished() -> u16
     ensures { result ≡ finished_number }
 {
     returned(Reply::Answered(Answer::Finished(0))) as u16
 }
 
+#[tactic(auto, unfolding(crate::specs::Way::is_enter))]
 fn is_enter(operation: Operation) -> bool
     ensures { result ≡ is_enter operation }
 {
@@ -45,6 +47,7 @@ fn is_enter(operation: Operation) -> bool
 }
 
 // Whether an event is a step that finishes an enter, by the operation that its thread was in and the number returned.
+#[tactic(auto, unfolding(crate::specs::Way::finishes_enter))]
 fn finishes_enter(event: Event, operation: Operation, number: u16) -> bool
     ensures { result ≡ finishes_enter event operation number }
 {
@@ -60,6 +63,7 @@ fn finishes_enter(event: Event, operation: Operation, number: u16) -> bool
     }
 }
 
+#[tactic(auto, unfolding(crate::specs::Way::way_by_meaning))]
 fn way_by_meaning(word: LockWord) -> Way
     ensures { result ≡ way_by_meaning word }
 {
@@ -72,6 +76,7 @@ fn way_by_meaning(word: LockWord) -> Way
     }
 }
 
+#[tactic(auto, unfolding(crate::specs::Way::way_by_word))]
 fn way_by_word(decoded: Decoded) -> Way
     ensures { result ≡ way_by_word decoded }
 {
@@ -81,6 +86,7 @@ fn way_by_word(decoded: Decoded) -> Way
     }
 }
 
+#[tactic(auto, unfolding(crate::specs::Way::way_of))]
 fn way_of(phase: Phase, word: u32) -> Way
     ensures { result ≡ way_of phase word }
 {
@@ -105,6 +111,7 @@ fn way_of(phase: Phase, word: u32) -> Way
 }
 
 // The way in which an event finished an enter, if it did, by the thread's record and the object's word before it and by the number returned.
+#[tactic(auto, unfolding(crate::specs::Way::way_finished))]
 pub fn way_finished(event: Event, own: ThreadRecord, word: u32, number: u16) -> Way
     ensures { result ≡ way_finished event own word number }
 {

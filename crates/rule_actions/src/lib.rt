@@ -1,4 +1,6 @@
 // The actions that several rules share: each function is the definition of the same name in lock_rules.
+#![tactic(auto)]
+
 mod actions;
 
 pub use actions::{

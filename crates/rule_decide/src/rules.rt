@@ -19,6 +19,7 @@ fn by_owner(thread: u8, sight: Sight, action: Action) -> Action
     owner_only(thread, sight, owner_seen(sight), action)
 }
 
+#[tactic(auto, unfolding(lock_rules::specs::Rules::decide))]
 pub fn decide(thread: u8, sight: Sight, doing: Doing) -> Action
     ensures { result ≡ decide thread sight doing }
 {

@@ -1,4 +1,6 @@
 // The rules of phases 1 to 3, computed: each function is the definition of the same name in lock_rules (document 01, "Steps").
+#![tactic(auto)]
+
 mod look;
 
 pub use look::{

@@ -28,6 +28,7 @@ pub fn owner_only(thread: u8, sight: Sight, owner: u16, action: Action) -> Actio
 }
 
 // 1 look, enter.
+#[tactic(auto, unfolding(lock_rules::specs::Rules::enter_look))]
 pub fn enter_look(thread: u8, sight: Sight, word: WordSeen) -> Action
     ensures { result ≡ enter_look thread sight word }
 {
@@ -72,6 +73,7 @@ fn deflation(sight: Sight) -> WordChange
 }
 
 // 1 look, exit, by the owner.
+#[tactic(auto, unfolding(lock_rules::specs::Rules::exit_owned))]
 pub fn exit_owned(sight: Sight, word: WordSeen) -> Action
     ensures { result ≡ exit_owned sight word }
 {
@@ -95,6 +97,7 @@ pub fn exit_owned(sight: Sight, word: WordSeen) -> Action
 }
 
 // 1 look, wait, by the owner.
+#[tactic(auto, unfolding(lock_rules::specs::Rules::wait_owned))]
 pub fn wait_owned(sight: Sight, limit: Limit, word: WordSeen) -> Action
     ensures { result ≡ wait_owned sight limit word }
 {
@@ -108,6 +111,7 @@ pub fn wait_owned(sight: Sight, limit: Limit, word: WordSeen) -> Action
 }
 
 // 1 look, notify, by the owner.
+#[tactic(auto, unfolding(lock_rules::specs::Rules::notify_owned))]
 pub fn notify_owned(sight: Sight, word: WordSeen) -> Action
     ensures { result ≡ notify_owned sight word }
 {
@@ -132,6 +136,7 @@ pub fn notify_owned(sight: Sight, word: WordSeen) -> Action
 }
 
 // 1 look, notify all, by the owner.
+#[tactic(auto, unfolding(lock_rules::specs::Rules::notify_all_owned))]
 pub fn notify_all_owned(sight: Sight, word: WordSeen) -> Action
     ensures { result ≡ notify_all_owned sight word }
 {
@@ -151,6 +156,7 @@ pub fn notify_all_owned(sight: Sight, word: WordSeen) -> Action
 }
 
 // 2 store, enter.
+#[tactic(auto, unfolding(lock_rules::specs::Rules::enter_store))]
 pub fn enter_store(sight: Sight, count: u8) -> Action
     ensures { result ≡ enter_store sight count }
 {
@@ -161,6 +167,7 @@ pub fn enter_store(sight: Sight, count: u8) -> Action
 }
 
 // 2 store, exit.
+#[tactic(auto, unfolding(lock_rules::specs::Rules::exit_store))]
 pub fn exit_store(sight: Sight, count: u8) -> Action
     ensures { result ≡ exit_store sight count }
 {
@@ -171,6 +178,7 @@ pub fn exit_store(sight: Sight, count: u8) -> Action
 }
 
 // 3 cancel; `look` is where the operation goes back to.
+#[tactic(auto, unfolding(lock_rules::specs::Rules::cancel))]
 pub fn cancel(sight: Sight, look: Doing, word: WordSeen) -> Action
     ensures { result ≡ cancel sight look word }
 {

@@ -1,4 +1,6 @@
 // The rules of phases 4 to 15, computed: each function is the definition of the same name in lock_rules (document 01, "Steps").
+#![tactic(auto)]
+
 mod monitor;
 
 pub use monitor::{

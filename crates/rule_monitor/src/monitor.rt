@@ -24,6 +24,7 @@ fn onward(carried: OnwardStep) -> Doing
 }
 
 // 4 go in, by the holder itself.
+#[tactic(auto, unfolding(lock_rules::specs::Rules::go_in_again))]
 fn go_in_again(sight: Sight, carried: OnwardStep) -> Action
     ensures { result ≡ go_in_again sight carried }
 {
@@ -50,6 +51,7 @@ fn go_in_again(sight: Sight, carried: OnwardStep) -> Action
 }
 
 // 4 go in; `carried` is what the thread goes on with as holder.
+#[tactic(auto, unfolding(lock_rules::specs::Rules::go_in))]
 pub fn go_in(thread: u8, sight: Sight, carried: OnwardStep) -> Action
     ensures { result ≡ go_in thread sight carried }
 {
@@ -69,6 +71,7 @@ pub fn go_in(thread: u8, sight: Sight, carried: OnwardStep) -> Action
 }
 
 // 4 go in, of an exit: with flag 0 there is nobody to tell, and it does not go in.
+#[tactic(auto, unfolding(lock_rules::specs::Rules::exit_go_in))]
 pub fn exit_go_in(thread: u8, sight: Sight) -> Action
     ensures { result ≡ exit_go_in thread sight }
 {
@@ -89,6 +92,7 @@ pub fn holder_only(thread: u8, sight: Sight, action: Action) -> Action
 }
 
 // 6 check.
+#[tactic(auto, unfolding(lock_rules::specs::Rules::enter_check))]
 pub fn enter_check(thread: u8, sight: Sight, word: WordSeen) -> Action
     ensures { result ≡ enter_check thread sight word }
 {
@@ -118,6 +122,7 @@ pub fn enter_check(thread: u8, sight: Sight, word: WordSeen) -> Action
 }
 
 // 7 try.
+#[tactic(auto, unfolding(lock_rules::specs::Rules::enter_try))]
 pub fn enter_try(thread: u8, sight: Sight, word: WordSeen) -> Action
     ensures { result ≡ enter_try thread sight word }
 {
@@ -142,6 +147,7 @@ pub fn enter_try(thread: u8, sight: Sight, word: WordSeen) -> Action
 }
 
 // 9 test.
+#[tactic(auto, unfolding(lock_rules::specs::Rules::exit_test))]
 pub fn exit_test(sight: Sight) -> Action
     ensures { result ≡ exit_test sight }
 {
@@ -152,6 +158,7 @@ pub fn exit_test(sight: Sight) -> Action
 }
 
 // 10 tell.
+#[tactic(auto, unfolding(lock_rules::specs::Rules::exit_tell))]
 pub fn exit_tell(sight: Sight) -> Action
     ensures { result ≡ exit_tell sight }
 {
@@ -171,6 +178,7 @@ pub fn exit_tell(sight: Sight) -> Action
 }
 
 // 11 leave.
+#[tactic(auto, unfolding(lock_rules::specs::Rules::exit_leave))]
 pub fn exit_leave(sight: Sight) -> Action
     ensures { result ≡ exit_leave sight }
 {
@@ -187,6 +195,7 @@ pub fn exit_leave(sight: Sight) -> Action
 }
 
 // 12 inflate.
+#[tactic(auto, unfolding(lock_rules::specs::Rules::wait_inflate))]
 pub fn wait_inflate(thread: u8, sight: Sight, limit: Limit, word: WordSeen) -> Action
     ensures { result ≡ wait_inflate thread sight limit word }
 {
@@ -211,6 +220,7 @@ pub fn wait_inflate(thread: u8, sight: Sight, limit: Limit, word: WordSeen) -> A
 }
 
 // 13 wait.
+#[tactic(auto, unfolding(lock_rules::specs::Rules::wait_give_up))]
 pub fn wait_give_up(sight: Sight, limit: Limit, word: WordSeen) -> Action
     ensures { result ≡ wait_give_up sight limit word }
 {
@@ -239,6 +249,7 @@ pub fn wait_give_up(sight: Sight, limit: Limit, word: WordSeen) -> Action
 }
 
 // Whether the ticks of a limit ran out.
+#[tactic(auto, unfolding(lock_rules::specs::Limits::no_ticks))]
 fn no_ticks(limit: Limit) -> bool
     ensures { result ≡ no_ticks limit }
 {
@@ -249,6 +260,7 @@ fn no_ticks(limit: Limit) -> bool
 }
 
 // The woken number of a wait that resumes: 1 if it ran out, 0 if it was notified.
+#[tactic(auto, unfolding(lock_rules::specs::Limits::run_out))]
 fn run_out(limit: Limit) -> u8
     ensures { result ≡ run_out limit }
 {
@@ -259,6 +271,7 @@ fn run_out(limit: Limit) -> u8
 }
 
 // 15 resume.
+#[tactic(auto, unfolding(lock_rules::specs::Rules::wait_resume))]
 pub fn wait_resume(sight: Sight, suspension: Suspension, word: WordSeen) -> Action
     ensures { result ≡ wait_resume sight suspension word }
 {

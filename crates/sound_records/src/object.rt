@@ -7,6 +7,7 @@ use lock_table::{Monitor, ObjectRecord};
 use lock_word::{Decoded, LockWord};
 
 // A valid word, with its thread at most `threads`; a fat word names its own object.
+#[tactic(auto, unfolding(crate::specs::Records::word_fits))]
 fn word_fits(threads: u8, number: u8, decoded: Decoded) -> bool
     ensures { result ≡ word_fits threads number decoded }
 {
@@ -23,6 +24,7 @@ fn word_fits(threads: u8, number: u8, decoded: Decoded) -> bool
 }
 
 // A monitor that nobody holds has depth 0 and nobody in its entry chain.
+#[tactic(auto, unfolding(crate::specs::Records::unheld_fits))]
 fn unheld_fits(monitor: Monitor) -> bool
     ensures { result ≡ unheld_fits monitor }
 {
@@ -42,6 +44,7 @@ pub fn used_object_fits(threads: u8, number: u8, object: ObjectRecord) -> bool
     word & (holder & unheld)
 }
 
+#[tactic(auto, unfolding(crate::specs::Records::empty_monitor))]
 fn empty_monitor(monitor: Monitor) -> bool
     ensures { result ≡ empty_monitor monitor }
 {
@@ -49,6 +52,7 @@ fn empty_monitor(monitor: Monitor) -> bool
     (monitor.depth == 0) & ((monitor.holder == 0) & chains)
 }
 
+#[tactic(auto, unfolding(crate::specs::Records::empty_object))]
 pub fn empty_object(object: ObjectRecord) -> bool
     ensures { result ≡ empty_object object }
 {

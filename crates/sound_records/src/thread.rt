@@ -31,6 +31,7 @@ fn wait_carries(carried: u8) -> bool
 }
 
 // The phases that each operation uses.
+#[tactic(auto, unfolding(crate::specs::Records::uses_phase))]
 fn uses_phase(operation: Operation, phase: u8) -> bool
     ensures { result ≡ uses_phase operation phase }
 {
@@ -46,6 +47,7 @@ fn uses_phase(operation: Operation, phase: u8) -> bool
 }
 
 // The phases that a queued thread can carry.
+#[tactic(auto, unfolding(crate::specs::Records::carries_phase))]
 fn carries_phase(operation: Operation, carried: u8) -> bool
     ensures { result ≡ carries_phase operation carried }
 {
@@ -61,6 +63,7 @@ fn carries_phase(operation: Operation, carried: u8) -> bool
 }
 
 // A thread that is not idle has an object, and a phase that its operation uses.
+#[tactic(auto, unfolding(crate::specs::Records::operation_fits))]
 fn operation_fits(objects: u8, phase: u8, carried: u8, thread: ThreadRecord) -> bool
     ensures { result ≡ operation_fits objects phase carried thread }
 {
@@ -71,6 +74,7 @@ fn operation_fits(objects: u8, phase: u8, carried: u8, thread: ThreadRecord) -> 
     (phase == 0) | (object & (uses & carries))
 }
 
+#[tactic(auto, unfolding(crate::specs::Records::kept_count_fits))]
 fn kept_count_fits(operation: Operation, count: u8) -> bool
     ensures { result ≡ kept_count_fits operation count }
 {
@@ -86,6 +90,7 @@ fn kept_count_fits(operation: Operation, count: u8) -> bool
 }
 
 // Reserved for this thread, with a count that the operation can store the next of.
+#[tactic(auto, unfolding(crate::specs::Records::reserved_for))]
 fn reserved_for(number: u8, operation: Operation, decoded: Decoded) -> bool
     ensures { result ≡ reserved_for number operation decoded }
 {
@@ -102,6 +107,7 @@ fn reserved_for(number: u8, operation: Operation, decoded: Decoded) -> bool
     }
 }
 
+#[tactic(auto, unfolding(crate::specs::Records::kept_fits))]
 fn kept_fits(number: u8, phase: u8, thread: ThreadRecord) -> bool
     ensures { result ≡ kept_fits number phase thread }
 {
@@ -113,12 +119,14 @@ fn kept_fits(number: u8, phase: u8, thread: ThreadRecord) -> bool
 }
 
 // The phases in which a saved depth is used.
+#[tactic(auto, unfolding(crate::specs::Records::saves_depth))]
 fn saves_depth(phase: u8, carried: u8) -> bool
     ensures { result ≡ saves_depth phase carried }
 {
     within(14, 15, phase) | (carried == 15)
 }
 
+#[tactic(auto, unfolding(crate::specs::Records::saved_fits))]
 fn saved_fits(phase: u8, carried: u8, thread: ThreadRecord) -> bool
     ensures { result ≡ saved_fits phase carried thread }
 {
@@ -136,6 +144,7 @@ fn resumes(phase: u8, carried: u8) -> bool
 }
 
 // A timed wait has ticks left, or has run out; no other operation has ticks.
+#[tactic(auto, unfolding(crate::specs::Records::ticks_fit))]
 fn ticks_fit(phase: u8, carried: u8, thread: ThreadRecord) -> bool
     ensures { result ≡ ticks_fit phase carried thread }
 {
@@ -154,6 +163,7 @@ fn ticks_fit(phase: u8, carried: u8, thread: ThreadRecord) -> bool
 }
 
 // The chain that a parked thread's phase names: 1 entry, 2 contention, 3 waiting; 0 where a phase names none.
+#[tactic(auto, unfolding(lock_table::specs::Parked::chain_named))]
 fn chain_named(phase: u8) -> u8
     ensures { result ≡ chain_named phase }
 {
@@ -178,6 +188,7 @@ fn thread_chain(thread: ThreadRecord) -> u8
 }
 
 // The thread is parked in this chain of the object.
+#[tactic(auto, unfolding(crate::specs::Records::names_chain))]
 fn names_chain(object: u8, chain: u8, thread: ThreadRecord) -> bool
     ensures { result ≡ names_chain object chain thread }
 {
@@ -185,6 +196,7 @@ fn names_chain(object: u8, chain: u8, thread: ThreadRecord) -> bool
 }
 
 // Whether nobody of a higher rank stands behind a queued thread: `behind` is the rank of who stands there, 0 for nobody.
+#[tactic(auto, unfolding(crate::specs::Records::falls_behind))]
 fn falls_behind(thread: ThreadRecord, behind: u8) -> bool
     ensures { result ≡ falls_behind thread behind }
 {
@@ -199,6 +211,7 @@ pub fn member_passes(object: u8, chain: u8, thread: ThreadRecord, behind: u8) ->
 }
 
 // The rank of a thread, by the record at its place: 0 where there is none.
+#[tactic(auto, unfolding(crate::specs::OnePass::rank_there))]
 pub fn rank_there(number: u8, there: ThreadRecord) -> u8
     ensures { result ≡ rank_there number there }
 {
@@ -212,6 +225,7 @@ pub fn rank_there(number: u8, there: ThreadRecord) -> u8
 }
 
 // Every field that the phase does not use is 0.
+#[tactic(auto, unfolding(crate::specs::Records::unused_fits))]
 fn unused_fits(phase: u8, carried: u8, thread: ThreadRecord) -> bool
     ensures { result ≡ unused_fits phase carried thread }
 {
@@ -239,6 +253,7 @@ fn used_thread_fits(objects: u8, number: u8, phase: u8, carried: u8, thread: Thr
     ranked & (operation & (kept & (saved & (ticks & unused))))
 }
 
+#[tactic(auto, unfolding(crate::specs::Records::empty_thread))]
 fn empty_thread(thread: ThreadRecord) -> bool
     ensures { result ≡ empty_thread thread }
 {
@@ -252,6 +267,7 @@ fn empty_thread(thread: ThreadRecord) -> bool
 }
 
 // An empty record passes at once, and most are. Any other is one of a thread in use, which was met in a walk if it is parked.
+#[tactic(auto, unfolding(crate::specs::OnePass::thread_passes))]
 pub fn thread_passes(threads: u8, objects: u8, number: u8, thread: ThreadRecord, met: bool) -> bool
     ensures { result ≡ thread_passes threads objects number thread met }
 {

@@ -1,6 +1,8 @@
 // How long the soundness test takes, and the reading of a lock word, which the test does for each object in use. Standard input: a case, a space and how
 // often, in decimal. Cases 0 idle, 1 typical and 2 worst test a table and write how many tests found it sound: all of them. Cases 3 flat, 4 reserved, 5
 // fat and 6 mixed read lock words and write the sum of owners and depths by them.
+#![tactic(auto)]
+
 use libc::{STDIN_FILENO, STDOUT_FILENO};
 use lock_table::{Monitor, Onward, Operation, Phase, Table, ThreadRecord};
 use lock_word::Decoded;

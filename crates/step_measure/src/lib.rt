@@ -1,1 +1,2 @@
 // A measure that falls with every step, on every sound table, reached by a schedule or not. Definitions and proofs, and no code.
+#![tactic(auto)]

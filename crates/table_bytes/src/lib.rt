@@ -1,4 +1,6 @@
 // A table as bytes, each field at its place (specs/Layout.antt), the same on every machine.
+#![tactic(auto)]
+
 mod copying;
 mod layout;
 mod numbers;

@@ -59,6 +59,7 @@ pub(crate) fn object_known(bytes: &[u8], at: usize) -> bool
     bytes[at + FLAG_AT] <= 1
 }
 
+#[tactic(auto, unfolding(crate::specs::ObjectBytes::flag_byte))]
 fn flag_byte(flag: bool) -> u8
     ensures { result ≡ flag_byte flag }
 {

@@ -13,6 +13,7 @@ use crate::object_bytes::{OBJECT_SIZE, object_known, object_of};
 use crate::thread_bytes::{THREAD_SIZE, thread_known, thread_of};
 use lock_table::{OBJECTS, ObjectRecord, THREADS, Table, ThreadRecord, no_object, no_thread};
 
+#[tactic(auto, using(crate::proofs::Rows::read_part))]
 fn thread_from(bytes: &[u8], place: usize) -> ThreadRecord
     requires { (table_size ≤ length bytes.now) × (place < thread_limit) }
     ensures { result ≡ thread_from bytes.now place }
@@ -21,6 +22,7 @@ fn thread_from(bytes: &[u8], place: usize) -> ThreadRecord
     thread_of(&bytes[at..])
 }
 
+#[tactic(auto, using(crate::proofs::Rows::read_part))]
 fn object_from(bytes: &[u8], place: usize) -> ObjectRecord
     requires { (table_size ≤ length bytes.now) × (place < object_limit) }
     ensures { result ≡ object_from bytes.now place }
@@ -59,6 +61,7 @@ pub fn read_table(bytes: &[u8]) -> Table
 }
 
 // One thread's record of the table that the bytes say.
+#[tactic(auto, using(crate::proofs::Enough::enough_is, crate::proofs::Enough::enough_none, crate::proofs::Enough::empty_thread, crate::proofs::Enough::numbered_is, crate::proofs::Enough::numbered_none), unfolding(lock_table::specs::Access::thread_at))]
 pub fn read_thread(bytes: &[u8], number: u8) -> ThreadRecord
     ensures { result ≡ thread_at (table_of bytes.now) number }
 {
@@ -75,6 +78,7 @@ pub fn read_thread(bytes: &[u8], number: u8) -> ThreadRecord
 }
 
 // One object's record of the table that the bytes say.
+#[tactic(auto, using(crate::proofs::Enough::enough_is, crate::proofs::Enough::enough_none, crate::proofs::Enough::empty_object, crate::proofs::Enough::numbered_is, crate::proofs::Enough::numbered_none), unfolding(lock_table::specs::Access::object_at))]
 pub fn read_object(bytes: &[u8], number: u8) -> ObjectRecord
     ensures { result ≡ object_at (table_of bytes.now) number }
 {
@@ -121,6 +125,7 @@ fn objects_known(bytes: &[u8]) -> bool
 }
 
 // Whether the bytes are a table.
+#[tactic(auto, unfolding(crate::specs::Reading::is_table))]
 pub fn is_table(bytes: &[u8]) -> bool
     ensures { result ≡ is_table bytes.now }
 {

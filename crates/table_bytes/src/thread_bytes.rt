@@ -38,6 +38,7 @@ const LAST_OPERATION: u8 = 6;
 
 const LAST_PHASE: u8 = 15;
 
+#[tactic(auto, unfolding(crate::specs::ThreadBytes::onward_from))]
 fn onward_from(carried: u8) -> Onward
     ensures { result ≡ onward_from carried }
 {
@@ -54,6 +55,7 @@ fn onward_from(carried: u8) -> Onward
 }
 
 // Phases 8 to 15.
+#[tactic(auto, unfolding(crate::specs::ThreadBytes::later_phase_from))]
 fn later_phase_from(phase: u8) -> Phase
     ensures { result ≡ later_phase_from phase }
 {
@@ -84,6 +86,7 @@ fn later_phase_from(phase: u8) -> Phase
     Phase::Idle
 }
 
+#[tactic(auto, unfolding(crate::specs::ThreadBytes::phase_from))]
 fn phase_from(phase: u8, carried: u8) -> Phase
     ensures { result ≡ phase_from phase carried }
 {
@@ -133,6 +136,7 @@ pub(crate) fn thread_of(stored: &[u8]) -> ThreadRecord
     }
 }
 
+#[tactic(auto, unfolding(crate::specs::ThreadBytes::carried_known))]
 fn carried_known(phase: u8, carried: u8) -> bool
     ensures { result ≡ carried_known phase carried }
 {

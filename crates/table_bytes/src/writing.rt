@@ -36,6 +36,7 @@ fn put_objects(bytes: &mut [u8], objects: [ObjectRecord; 64])
     }
 }
 
+#[tactic(auto, using(crate::proofs::Written::bytes_long, crate::proofs::Written::sized_long, crate::proofs::Written::threaded_long, crate::proofs::Written::written_is))]
 fn put_table(bytes: &mut [u8], table: Table)
     requires { length bytes.old ≡ table_size }
     ensures { bytes.new ≡ bytes_of table }
@@ -49,6 +50,7 @@ fn put_table(bytes: &mut [u8], table: Table)
 }
 
 // Writes the table, if the bytes are as many as it has.
+#[tactic(auto, unfolding(crate::specs::Writing::kept_over))]
 pub fn write_table(bytes: &mut [u8], table: Table)
     ensures { bytes.new ≡ kept_over bytes.old table }
 {
@@ -58,6 +60,7 @@ pub fn write_table(bytes: &mut [u8], table: Table)
 }
 
 // Stores one thread's record over the bytes of a table.
+#[tactic(auto, unfolding(crate::specs::Writing::write_thread))]
 pub fn write_thread(bytes: &mut [u8], number: u8, thread: ThreadRecord)
     ensures { bytes.new ≡ write_thread bytes.old number thread }
 {
@@ -78,6 +81,7 @@ pub fn write_thread(bytes: &mut [u8], number: u8, thread: ThreadRecord)
 }
 
 // Stores one object's record over the bytes of a table.
+#[tactic(auto, unfolding(crate::specs::Writing::write_object))]
 pub fn write_object(bytes: &mut [u8], number: u8, object: ObjectRecord)
     ensures { bytes.new ≡ write_object bytes.old number object }
 {

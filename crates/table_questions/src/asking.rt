@@ -16,7 +16,7 @@ use lock_word::{Decoded, LockWord, Ownership, read_word};
 use table_bytes::{is_table, read_table};
 
 // Of a thread.
-#[derive(Drop)]
+#[derive(Clone, Copy)]
 pub enum ThreadQuestion {
     OperationOf,
     ObjectOf,
@@ -34,7 +34,7 @@ pub enum ThreadQuestion {
 }
 
 // Of an object.
-#[derive(Drop)]
+#[derive(Clone, Copy)]
 pub enum ObjectQuestion {
     WordOf,
     // the kind of the word, and the thread that a flat or reserved one names
@@ -55,6 +55,7 @@ const VALUE_UNIT: u64 = 256;
 
 const HOLDER_MARK: u32 = 65536;
 
+#[tactic(auto, unfolding(crate::specs::Questions::said_of))]
 fn said(istable: bool, inrange: bool, refusal: Refusal, value: u32) -> u64
     ensures { result ≡ said_of istable inrange refusal value }
 {
@@ -67,6 +68,7 @@ fn said(istable: bool, inrange: bool, refusal: Refusal, value: u32) -> u64
     refusal_number(Refusal::NotSound) as u64
 }
 
+#[tactic(auto, unfolding(table_bytes::specs::ObjectBytes::flag_byte))]
 fn flag_number(flag: bool) -> u32
     ensures { result ≡ flag_byte flag }
 {
@@ -77,6 +79,7 @@ fn flag_number(flag: bool) -> u32
 }
 
 // The kind of a lock word, 5 where it is none. C callers have names for these numbers.
+#[tactic(auto, unfolding(crate::specs::Questions::kind_number))]
 fn kind_number(decoded: Decoded) -> u32
     ensures { result ≡ kind_number decoded }
 {
@@ -93,6 +96,7 @@ fn kind_number(decoded: Decoded) -> u32
 }
 
 // The thread that the word names. It need not own the object: a reserved word without a count names who may take it fast.
+#[tactic(auto, unfolding(crate::specs::Questions::named_thread))]
 fn named_thread(decoded: Decoded) -> u32
     ensures { result ≡ named_thread decoded }
 {
@@ -109,6 +113,7 @@ fn named_thread(decoded: Decoded) -> u32
 }
 
 // On a sound table that no schedule reaches the holder may itself be parked for entry: it does not keep itself.
+#[tactic(auto, unfolding(crate::specs::Questions::holder_blocks))]
 fn holder_blocks(number: u8, holder: u8) -> u32
     ensures { result ≡ holder_blocks number holder }
 {
@@ -122,6 +127,7 @@ fn holder_blocks(number: u8, holder: u8) -> u32
 }
 
 // A thread that owns the object itself is kept by the holder alone.
+#[tactic(auto, unfolding(crate::specs::Questions::owner_blocks))]
 fn owner_blocks(number: u8, owner: u16, holder: u8) -> u32
     ensures { result ≡ owner_blocks number owner holder }
 {
@@ -135,6 +141,7 @@ fn owner_blocks(number: u8, owner: u16, holder: u8) -> u32
 }
 
 // An exit has given the object up, and goes in to tell a contender: whoever owns the object does not keep it.
+#[tactic(auto, unfolding(crate::specs::Questions::entry_blocks))]
 fn entry_blocks(operation: u8, number: u8, owner: u16, holder: u8) -> u32
     ensures { result ≡ entry_blocks operation number owner holder }
 {
@@ -144,6 +151,7 @@ fn entry_blocks(operation: u8, number: u8, owner: u16, holder: u8) -> u32
     owner_blocks(number, owner, holder)
 }
 
+#[tactic(auto, unfolding(crate::specs::Questions::blocker_of))]
 fn blocker(operation: u8, phase: u8, number: u8, owner: u16, holder: u8) -> u32
     ensures { result ≡ blocker_of operation phase number owner holder }
 {
@@ -156,6 +164,7 @@ fn blocker(operation: u8, phase: u8, number: u8, owner: u16, holder: u8) -> u32
     0
 }
 
+#[tactic(auto, unfolding(crate::specs::Questions::thread_value))]
 fn thread_value(
     question: ThreadQuestion,
     number: u8,
@@ -187,6 +196,7 @@ fn thread_value(
     }
 }
 
+#[tactic(auto, unfolding(crate::specs::Questions::object_value))]
 fn object_value(question: ObjectQuestion, object: ObjectRecord, ownership: Ownership) -> u32
     ensures { result ≡ object_value question object ownership }
 {
@@ -237,6 +247,7 @@ fn object_in(question: ObjectQuestion, istable: bool, table: Table, number: u8) 
 }
 
 // The answer of the table that the bytes say; 11 where they are none, 12 for no thread of it.
+#[tactic(auto, using(crate::proofs::Narrow::narrow_thread))]
 pub fn ask_thread(question: ThreadQuestion, bytes: &[u8], thread: u32) -> u64
     ensures { result ≡ ask_thread question bytes.now thread }
 {
@@ -244,6 +255,7 @@ pub fn ask_thread(question: ThreadQuestion, bytes: &[u8], thread: u32) -> u64
 }
 
 // The same of an object, with 13.
+#[tactic(auto, using(crate::proofs::Narrow::narrow_object))]
 pub fn ask_object(question: ObjectQuestion, bytes: &[u8], object: u32) -> u64
     ensures { result ≡ ask_object question bytes.now object }
 {

@@ -1,4 +1,6 @@
 // Questions about a table in bytes: what its records say, who owns an object, and who blocks a thread.
+#![tactic(auto)]
+
 mod asking;
 
 pub use asking::{

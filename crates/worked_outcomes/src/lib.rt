@@ -2,3 +2,4 @@
 // replay, and of the dispatcher.
 // The examples are in specs/ and their proofs in proofs/; there is no code. The must-fail edits are false
 // examples, and wrong programs in the place of right ones.
+#![tactic(auto)]

@@ -1,8 +1,0 @@
--- `lock_table::access::thread_place` meets its contract: each way through the code is that of the definition.
-use Rattle.lock_table.proofs.access.thread_place.Statement.{statement}
-use Rattle.lock_table.proofs.access.thread_place.Tie as tie
-
-pub thread_place_spec : {M : Type 1} → statement M
-thread_place_spec =
-    tie.close
-    (tie.spec (λ c κs. tt) (λ c. simp c.place_within.ensures))
