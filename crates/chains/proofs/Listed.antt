@@ -1,7 +1,7 @@
 -- One chain and the list of its threads: what walks find, that no thread is in it twice, and what joining, moving and leaving do to it.
 -- The arguments of a law stand in the order of the definitions: fuel, next indexes, first thread, list.
 use Prim.Native.Nat.{ℕ, zero, suc, ◌≤◌, ◌<◌}
-use mathlib.Core.Path.{◌≡◌, refl, sym, ap, ◌∙◌}
+use mathlib.Core.Path.{◌≡◌, refl, sym, ap, subst, ◌∙◌}
 use mathlib.Core.Logic.{◌≢◌}
 use mathlib.Core.List.{List, [], ◌∷◌, ◌++◌}
 use native.Mathlib.Omega.{arith}
@@ -162,7 +162,7 @@ hung_behind next front x [] back moved (same, real, ends) chain apart =
     λ n h. update_other next x back n (λ e. omega (arith, h, apart n (rw e (omega (arith, count_same x []))))) in
     (same, real, rw (update_same next x back) (chain_frame next (update next x back) back moved untouched chain))
 hung_behind next front x (y ∷ rest) back moved (same, real, behind) chain apart =
-    let far : x ≢ last y rest = λ e. omega (arith, chain_first_once next front x (y ∷ rest) (same, real, behind), rw (← e) at (last_member y rest)) in
+    let far : x ≢ last y rest = λ e. omega (arith, chain_first_once next front x (y ∷ rest) (same, real, behind), subst (λ k. 0 < count k (y ∷ rest)) (sym e) (last_member y rest)) in
     (same, real, rw (update_other next (last y rest) back x far) (hung_behind next (next x) y rest back moved behind chain (λ n h. apart n (omega arith))))
 
 -- hanging one chain behind the other appends their lists: one thread joins, or all of a chain move in order
@@ -170,10 +170,10 @@ pub chain_link : (fuel : ℕ) (next : ℕ → ℕ) (front : ℕ) (list : List �
     → length list ≤ fuel → ((n : ℕ) → 0 < count n list → count n moved ≡ 0)
     → Chain (linked fuel next front back) (first_with front back) (list ++ moved)
 unfolding linked
-chain_link fuel next front [] back moved chain chain' short apart = rw (eq-eqb front 0 chain) chain'
+chain_link fuel next front [] back moved chain chain' short apart = simp (eq-eqb front 0 chain) chain'
 chain_link fuel next front (x ∷ rest) back moved chain chain' short apart =
-    rw (linked_last fuel next front x rest back chain (omega arith), ne_eqb front 0 (chain_some next front x rest chain))
-    (hung_behind next front x rest back moved chain chain' apart)
+    subst (λ after. Chain after (first_with front back) (x ∷ (rest ++ moved))) (sym (linked_last fuel next front x rest back chain (omega arith)))
+    (rw (ne_eqb front 0 (chain_some next front x rest chain)) (hung_behind next front x rest back moved chain chain' apart))
 
 -- the first thread leaves, its next index cleared
 pub chain_leave : (next : ℕ → ℕ) (first x : ℕ) (rest : List ℕ) → Chain next first (x ∷ rest) → Chain (update next x 0) (next x) rest

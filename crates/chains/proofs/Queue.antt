@@ -1,7 +1,7 @@
 -- Threads join a chain, each at its place: behind those that stay before it, up to the first that does not. Who stays before whom is any test: where
 -- everybody does, a thread joins at the end. On links this is a walk to the place and two next indexes; on lists it is an insertion.
 use Prim.Native.Nat.{ℕ, zero, suc, ◌+◌, ◌≤◌, ◌<◌}
-use mathlib.Core.Path.{◌≡◌, refl, sym, ap, ◌∙◌, fun_ext}
+use mathlib.Core.Path.{subst, ◌≡◌, refl, sym, ap, ◌∙◌, fun_ext}
 use mathlib.Core.Logic.{◌≢◌}
 use mathlib.Core.Bool.{Bool, true, false}
 use mathlib.Core.List.{List, [], ◌∷◌, ◌++◌}
@@ -183,10 +183,12 @@ module _ (next : ℕ → ℕ) (stays : ℕ → Bool) (n : ℕ) (real : n ≢ 0) 
       at : (b : Bool) → PutIn x (pick b (x ∷ insert stays n rest) (n ∷ (x ∷ rest))) (x ∷ rest) (pick b (place_in limit next stays x (next x)) (record { last = 0; here = x }))
       at true =
           let some = ne_eqb (place_in limit next stays x (next x)).last 0 behind.some in
+          let linked : put next (place_in limit next stays x (next x)) n ≡ linked_at (place_in limit next stays x (next x)) = rw some in
           record {
-            chain = rw some (refl, chain.1, behind.chain);
-            kept = λ m apart out. rw some
-                (behind.kept m apart (λ e. omega (arith, out, ap (λ (k : ℕ). count k (x ∷ rest)) e, count_same x rest)) (omega (arith, out, count_more m x rest)));
+            chain = subst (λ after. Chain after (put_first x (place_in limit next stays x (next x)) n) (x ∷ insert stays n rest)) (sym linked)
+                (rw some (refl, chain.1, behind.chain));
+            kept = λ m apart out. ap (λ (after : ℕ → ℕ). after m) linked
+                ∙ behind.kept m apart (λ e. omega (arith, out, ap (λ (k : ℕ). count k (x ∷ rest)) e, count_same x rest)) (omega (arith, out, count_more m x rest));
           }
       at false = record { chain = in_front x (x ∷ rest) new (refl, chain.1, chain.2); kept = λ m apart out. update_other next n x m apart }
 
