@@ -38,7 +38,6 @@ const WORD_DIGITS: usize = 6;
 const SET_DIGITS: usize = 8;
 
 // All of an accepted tick's line.
-#[tactic(auto, using(crate::proofs::Stores::wrote_both), unfolding(crate::specs::Text::tick_line))]
 fn put_tick(out: &mut [u8], at: usize, returned: u8, unparked: u32) -> usize
     requires { at + line_room ≤ length out.old }
     ensures { Wrote out.old out.new at result (tick_line returned unparked) }
@@ -48,7 +47,7 @@ fn put_tick(out: &mut [u8], at: usize, returned: u8, unparked: u32) -> usize
 }
 
 // All of the line of a thread's accepted event.
-#[tactic(auto, using(crate::proofs::Lengths::hexadecimal_length, crate::proofs::Stores::wrote_both), unfolding(crate::specs::Text::answer_line))]
+#[tactic(auto, using(crate::proofs::Lengths::hexadecimal_length))]
 fn put_fields(
     out: &mut [u8],
     at: usize,

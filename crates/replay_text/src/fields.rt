@@ -20,7 +20,7 @@ pub fn has_room(room: usize, length: usize, at: usize) -> bool
 }
 
 // A number in decimal and a byte behind it.
-#[tactic(auto, using(crate::proofs::Lengths::decimal_fits, crate::proofs::Stores::wrote_both), unfolding(crate::specs::Text::field_text))]
+#[tactic(auto, using(crate::proofs::Lengths::decimal_fits))]
 pub(crate) fn put_field(out: &mut [u8], at: usize, number: u32, end: u8) -> usize
     requires { at + field_limit ≤ length out.old }
     ensures wrote { Wrote out.old out.new at result (field_text number end) }
@@ -31,7 +31,7 @@ pub(crate) fn put_field(out: &mut [u8], at: usize, number: u32, end: u8) -> usiz
 }
 
 // A number in so many hexadecimal digits and a byte behind them.
-#[tactic(auto, using(crate::proofs::Stores::digits_length, crate::proofs::Stores::wrote_both), unfolding(crate::specs::Text::hexadecimal_text))]
+#[tactic(auto, using(crate::proofs::Stores::digits_length))]
 pub(crate) fn put_hexadecimal(
     out: &mut [u8],
     at: usize,

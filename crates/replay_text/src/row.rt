@@ -102,7 +102,6 @@ fn remainder_fields(figures: Figures, sum: u32) -> FiveFields
 }
 
 // Five fields, and a byte behind the last.
-#[tactic(auto, using(crate::proofs::Stores::wrote_both), unfolding(crate::specs::Row::five_text))]
 fn put_five(out: &mut [u8], at: usize, five: FiveFields, end: u8) -> usize
     requires { at + five_limit ≤ length out.old }
     ensures wrote { Wrote out.old out.new at result (five_text five end) }
@@ -116,7 +115,6 @@ fn put_five(out: &mut [u8], at: usize, five: FiveFields, end: u8) -> usize
 }
 
 // All of a row.
-#[tactic(auto, using(crate::proofs::Stores::wrote_both), unfolding(crate::specs::Row::row_text))]
 fn put_row_text(out: &mut [u8], at: usize, number: u8, figures: Figures) -> usize
     requires { at + row_room ≤ length out.old }
     ensures { Wrote out.old out.new at result (row_text number figures) }
