@@ -1,5 +1,5 @@
 -- An object that nobody owns and at which no thread has an operation is as a new one, but for a reservation: after every schedule, on tables with lists.
-use Prim.Native.Nat.{ℕ, zero, ◌-◌, ◌≤◌, ◌<◌}
+use Prim.Native.Nat.{ℕ, ◌≤◌, ◌<◌}
 use mathlib.Core.Path.{◌≡◌, refl, sym, ap, ◌∙◌, subst, subst₂, fun_ext}
 use mathlib.Core.Logic.{◌≢◌, ◌⊎◌, inl, inr}
 use mathlib.Core.Bool.{Bool, true, false}

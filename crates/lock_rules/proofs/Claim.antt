@@ -7,7 +7,7 @@ use mathlib.Core.List.{List}
 use lib.Dec.{T, eqb}
 use Rattle.laws.specs.Choice.{pick}
 use Rattle.laws.proofs.Choice.{Equal, equal}
-use Rattle.lock_rules.specs.{Numbers.phase_of_doing, Events.woken, PlainMonitor.PlainMonitor}
+use Rattle.lock_rules.specs.{Numbers.phase_of_doing, PlainMonitor.PlainMonitor}
 use Rattle.lock_rules.proofs.Each.{each_doing, each_state}
 use Rattle.lock_rules.proofs.Status.{is_woken, parked_for_entry, unparked, unfinished}
 use Rattle.lock_rules.specs.declared.{Doing.Doing, ThreadState.ThreadState}

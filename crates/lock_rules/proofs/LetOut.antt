@@ -24,7 +24,7 @@ use Rattle.lock_rules.specs.declared.event.Event.TheVariants.{Step}
 use Rattle.lock_rules.proofs.Each.{each_state, each_carried}
 use Rattle.lock_rules.proofs.Changes.{handed, moved, is_queued_exit, let_out_state, sent_back}
 use Rattle.lock_rules.proofs.Status.{unfinished, Runs}
-use Rattle.lock_rules.proofs.Objects.{ListObject, chain_of, empty, sight_of}
+use Rattle.lock_rules.proofs.Objects.{ListObject, chain_of, sight_of}
 use Rattle.lock_rules.proofs.Perform.{taken, changed_states, changed_so, handed_states, moved_states, states_after, effected, perform}
 use Rattle.lock_rules.proofs.Tick.{expired, tick_at, by_tick}
 use Rattle.lock_rules.proofs.Quiet.{moved_quiet, sent_back_quiet, changed_quiet, expired_quiet, quiet_busy}

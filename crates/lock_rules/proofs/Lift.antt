@@ -21,7 +21,7 @@ use Rattle.lock_rules.specs.PlainMonitor.{PlainMonitor, Committed, unowned, comm
 use Rattle.lock_rules.specs.Feed.{OperationLog, Plain, new_log, log_after, fed_step, fed_begin, fed_tick, feed, feed_all, blank, EndsRight, AllEndRight}
 use Rattle.lock_rules.proofs.{Each.each_operation, Perform.Performed, TableKinds.by_event, OtherThreads.with_own}
 use Rattle.lock_rules.proofs.{SharedFacts.unstranded_moved, EveryStep.step_refines}
-use Rattle.lock_rules.proofs.Objects.{ListObject, empty}
+use Rattle.lock_rules.proofs.Objects.{ListObject}
 use Rattle.lock_rules.proofs.Tables.{ListThread, ListTable, seen_from, states_at, put_back, perform_at, begin_at, ticked_at, tick_where, tick_all, list_kind, turn, final}
 use Rattle.lock_rules.proofs.Tables.{shown, fresh_object, fresh, seen_idle, seen_here, seen_elsewhere}
 use Rattle.lock_rules.proofs.Invariant.{phase_row, leaving?, Ghost, ThreadOk, ObjectOk, Invariant, monitor_of, Refines}

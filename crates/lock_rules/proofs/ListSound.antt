@@ -12,7 +12,7 @@ use Rattle.lock_rules.specs.declared.ThreadState.TheVariants.{Idle}
 use Rattle.lock_word.specs.declared.meaning.WordSeen.{WordSeen}
 use Rattle.lock_word.specs.declared.meaning.WordSeen.TheVariants.{Free, Anonymous, Fat, Flat, Reserved}
 use Rattle.lock_rules.proofs.Each.{each_doing, each_state}
-use Rattle.lock_rules.proofs.Objects.{ListObject, empty}
+use Rattle.lock_rules.proofs.Objects.{ListObject}
 use Rattle.lock_rules.proofs.Tables.{ListThread, ListTable, states_at}
 use Rattle.lock_rules.proofs.Invariant.{Placed}
 

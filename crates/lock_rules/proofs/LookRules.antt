@@ -25,7 +25,7 @@ use Rattle.lock_word.specs.declared.meaning.WordSeen.{WordSeen}
 use Rattle.lock_word.specs.declared.meaning.WordSeen.TheVariants.{Free, Anonymous, Fat, Flat, Reserved}
 use Rattle.lock_rules.specs.declared.WordChange.TheVariants.{Unchanged, Freed, OwnFlat, OwnReserved}
 use Rattle.lock_rules.specs.declared.Answer.TheVariants.{GoneOn}
-use Rattle.lock_rules.specs.PlainMonitor.{unowned, owned_by, finished}
+use Rattle.lock_rules.specs.PlainMonitor.{owned_by, finished}
 use Rattle.lock_rules.proofs.Commits.{commit_enter, commit_enter_again, commit_exit_last, commit_exit}
 use Rattle.lock_rules.proofs.Objects.{with_word, with_depth, ListObject, empty, sight_of, object_owner, owned_depth}
 use Rattle.lock_rules.proofs.Invariant.{any_limit, all_committed, nothing_saved, phase_row, Seated, ReliesOn, MonitorOk, FlagOk, Unstranded}

@@ -19,7 +19,7 @@ use Rattle.lock_rules.proofs.{Changes.moved, Membership.placed_unmoved}
 use Rattle.lock_rules.specs.Operations.{Operation, Notify, NotifyAll}
 use Rattle.lock_rules.specs.declared.{Doing.Doing, Taken.Taken}
 use Rattle.lock_rules.specs.declared.Doing.TheVariants.{NotifyLook, NotifyAllLook}
-use Rattle.lock_rules.specs.declared.ThreadState.TheVariants.{Idle, Waiting}
+use Rattle.lock_rules.specs.declared.ThreadState.TheVariants.{Idle}
 use Rattle.lock_word.specs.declared.meaning.WordSeen.{WordSeen}
 use Rattle.lock_word.specs.declared.meaning.WordSeen.TheVariants.{Free, Anonymous, Fat, Flat, Reserved}
 use Rattle.lock_rules.specs.declared.Taken.TheVariants.{First, All}

@@ -13,9 +13,9 @@ use Rattle.lock_rules.specs.declared.ThreadState.TheVariants.{Idle, Running}
 use Rattle.lock_rules.specs.declared.Answer.TheVariants.{GoneOn}
 use Rattle.lock_rules.specs.PlainMonitor.{PlainMonitor, Committed, unowned, commit}
 use Rattle.lock_rules.specs.Feed.{log_after, EndsRight}
-use Rattle.lock_rules.proofs.Objects.{ListObject, empty}
+use Rattle.lock_rules.proofs.Objects.{ListObject}
 use Rattle.lock_rules.proofs.{Perform.perform, Invariant.Refines}
-use Rattle.lock_rules.proofs.Invariant.{outside, phase_row, ReliesOn, Ghost, ThreadOk, MonitorOk, FlagOk, Unstranded, Invariant, monitor_of}
+use Rattle.lock_rules.proofs.Invariant.{phase_row, ReliesOn, Ghost, ThreadOk, MonitorOk, FlagOk, Unstranded, Invariant, monitor_of}
 use Rattle.lock_rules.proofs.OtherThreads.{Others, with_own}
 
 -- the thread that steps, the states of all threads as its object sees them, and what the plain monitors know of them

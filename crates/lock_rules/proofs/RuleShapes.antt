@@ -24,7 +24,7 @@ use Rattle.lock_rules.specs.declared.Answer.TheVariants.{GoneOn, Finished, NotOw
 use Rattle.lock_rules.specs.PlainMonitor.{PlainMonitor, Committed, unaltered, finished, commit}
 use Rattle.lock_rules.specs.Feed.{OperationLog, log_after, EndsRight}
 use Rattle.lock_rules.proofs.Commits.{commit_not_owner, owner_operation}
-use Rattle.lock_rules.proofs.Objects.{with_word, with_depth, with_contention, with_waiting, ListObject, empty, sight_of, object_owner}
+use Rattle.lock_rules.proofs.Objects.{with_word, with_depth, with_contention, with_waiting, ListObject, sight_of, object_owner}
 use Rattle.lock_rules.proofs.Perform.{first_of, taken, left, enter_queue_all, count_entered_all, handed_to, handed_object, handed_states, let_out_states}
 use Rattle.lock_rules.proofs.{Perform.moved_states, Tables.fresh, Reliances.KeepsReliance, Membership.not_first}
 use Rattle.lock_rules.proofs.Invariant.{Ghost, outside, nothing_saved, phase_row, telling?, leaving?, Seated, InChains, Unreserved, FlatOf}

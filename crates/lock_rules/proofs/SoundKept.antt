@@ -21,7 +21,7 @@ use Rattle.lock_rules.specs.declared.Limit.TheVariants.{Unlimited, Ticks}
 use Rattle.lock_rules.specs.declared.ThreadState.TheVariants.{Idle, Running}
 use Rattle.lock_rules.specs.declared.event.Event.{Event}
 use Rattle.lock_rules.proofs.{Each.each_operation, Perform.Performed, TableKinds.by_event, Invariant.Placed, ListChains.member_in}
-use Rattle.lock_rules.proofs.Objects.{empty, sight_of}
+use Rattle.lock_rules.proofs.Objects.{sight_of}
 use Rattle.lock_rules.proofs.Tables.{ListThread, ListTable, seen_from, states_at, perform_at, begin_at, step_at, ticked_at, tick_where, list_kind, turn, final}
 use Rattle.lock_rules.proofs.Tables.{fresh_word, fresh, seen_idle, seen_here, seen_elsewhere}
 use Rattle.lock_rules.proofs.Lift.{seen_there, seen_as_before, tick_seen}
