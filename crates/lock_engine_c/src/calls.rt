@@ -112,22 +112,15 @@ pub(crate) fn fresh_if_sized(bytes: &mut [u8], request: FreshRequest, fits: bool
 }
 
 // How many bytes a table has.
-#[unsafe(no_mangle)]
-pub extern "C" fn duskclamp_table_size() -> usize
+pub fn duskclamp_table_size() -> usize
     ensures { result ≡ table_size }
 {
     TABLE_SIZE
 }
 
 // A fresh table with every word free, or with `reserved` not 0 anonymously reserved: 0, or 11 or 22 and the bytes stay.
-#[unsafe(no_mangle)]
 #[tactic(auto, using(lock_table::proofs::Narrowed::narrow_fresh, crate::proofs::FreshWritten::fresh_written))]
-pub extern "C" fn duskclamp_fresh(
-    bytes: &mut [u8],
-    threads: u32,
-    objects: u32,
-    reserved: u32,
-) -> u32
+pub fn duskclamp_fresh(bytes: &mut [u8], threads: u32, objects: u32, reserved: u32) -> u32
     ensures value { result ≡ fresh_answer (has_size bytes.old) (fresh_on threads objects reserved) }
     ensures bytes_after { bytes.new ≡ fresh_bytes (has_size bytes.old) bytes.old (fresh_on threads objects reserved) }
 {
@@ -142,9 +135,8 @@ pub extern "C" fn duskclamp_fresh(
 
 // The thread begins the operation with this number on the object, without a limit. Refused, it leaves every byte, and its answer
 // carries no set.
-#[unsafe(no_mangle)]
 #[tactic(auto, using(lock_engine::proofs::Narrow::narrow_begin, crate::proofs::RefusedBytes::begin_promised))]
-pub extern "C" fn duskclamp_begin(bytes: &mut [u8], thread: u32, operation: u32, object: u32) -> u64
+pub fn duskclamp_begin(bytes: &mut [u8], thread: u32, operation: u32, object: u32) -> u64
     ensures value { result ≡ event_answer (is_table bytes.old) (begun_on bytes.old thread operation object 0) }
     ensures bytes_after { bytes.new ≡ event_bytes (is_table bytes.old) bytes.old (begun_on bytes.old thread operation object 0) }
     ensures refused_to { RefusedTo bytes.old bytes.new result }
@@ -160,14 +152,8 @@ pub extern "C" fn duskclamp_begin(bytes: &mut [u8], thread: u32, operation: u32,
 }
 
 // The thread begins a timed wait on the object, with this limit in ticks. Refused, it leaves every byte, and its answer carries no set.
-#[unsafe(no_mangle)]
 #[tactic(auto, using(lock_engine::proofs::Narrow::narrow_begin, crate::proofs::RefusedBytes::begin_promised), unfolding(lock_table::specs::Narrow::narrow_of))]
-pub extern "C" fn duskclamp_timed_wait(
-    bytes: &mut [u8],
-    thread: u32,
-    object: u32,
-    limit: u32,
-) -> u64
+pub fn duskclamp_timed_wait(bytes: &mut [u8], thread: u32, object: u32, limit: u32) -> u64
     ensures value { result ≡ event_answer (is_table bytes.old) (begun_on bytes.old thread timed_wait object limit) }
     ensures bytes_after { bytes.new ≡ event_bytes (is_table bytes.old) bytes.old (begun_on bytes.old thread timed_wait object limit) }
     ensures refused_to { RefusedTo bytes.old bytes.new result }
@@ -183,9 +169,8 @@ pub extern "C" fn duskclamp_timed_wait(
 }
 
 // The thread takes one step. Refused, it leaves every byte, and its answer carries no set; with 18 and 19, every byte but those of the thread's record.
-#[unsafe(no_mangle)]
 #[tactic(auto, using(lock_engine::proofs::Narrow::narrow_step, crate::proofs::RefusedBytes::step_promised))]
-pub extern "C" fn duskclamp_step(bytes: &mut [u8], thread: u32) -> u64
+pub fn duskclamp_step(bytes: &mut [u8], thread: u32) -> u64
     ensures value { result ≡ event_answer (is_table bytes.old) (stepped_on bytes.old thread) }
     ensures bytes_after { bytes.new ≡ event_bytes (is_table bytes.old) bytes.old (stepped_on bytes.old thread) }
     ensures refused_leaves { RefusedLeaves bytes.old thread bytes.new result }
@@ -198,9 +183,8 @@ pub extern "C" fn duskclamp_step(bytes: &mut [u8], thread: u32) -> u64
 }
 
 // One tick of the clock. Refused, it leaves every byte, and its answer carries no set.
-#[unsafe(no_mangle)]
 #[tactic(auto, using(crate::proofs::RefusedBytes::tick_promised))]
-pub extern "C" fn duskclamp_tick(bytes: &mut [u8]) -> u64
+pub fn duskclamp_tick(bytes: &mut [u8]) -> u64
     ensures value { result ≡ event_answer (is_table bytes.old) (ticked_on bytes.old) }
     ensures bytes_after { bytes.new ≡ event_bytes (is_table bytes.old) bytes.old (ticked_on bytes.old) }
     ensures refused_to { RefusedTo bytes.old bytes.new result }

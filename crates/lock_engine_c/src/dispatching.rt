@@ -43,8 +43,7 @@ fn store_run(bytes: &mut [u8], done: Dispatched) -> u64
 
 // Runs the scripts, and leaves in the slices the table that the run came to, how far each script came and what each step answered. Its own answer has the
 // returned number in bits 0 to 7 and the number of steps above it. Bytes that are no table are answered 11, and all stays.
-#[unsafe(no_mangle)]
-pub extern "C" fn duskclamp_dispatch(
+pub fn duskclamp_dispatch(
     bytes: &mut [u8],
     quantum: u32,
     scripts: &[u8],

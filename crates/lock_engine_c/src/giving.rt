@@ -39,9 +39,8 @@ fn threads_from(bytes: &[u8]) -> [ThreadGiven; 32]
 }
 
 // A fresh table whose threads are given this: 11, 22 or 27 where there is none, and the bytes are left.
-#[unsafe(no_mangle)]
 #[tactic(auto, using(lock_table::proofs::Narrowed::narrow_fresh, crate::proofs::FreshWritten::fresh_written))]
-pub extern "C" fn duskclamp_fresh_given(
+pub fn duskclamp_fresh_given(
     bytes: &mut [u8],
     threads: u32,
     objects: u32,
