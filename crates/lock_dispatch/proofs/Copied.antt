@@ -1,4 +1,4 @@
--- Records copied out and back leave the list as it was, which is what a refusal needs; how many are copied; and what is copied in for a run.
+-- Records copied one by one: copied out and back they leave the list as it was, which is what a refusal needs; how many are copied; and what is copied in for a run.
 use Prim.Native.Nat.{ℕ, zero, suc, ◌<◌, ◌≤◌}
 use mathlib.Core.Path.{◌≡◌, refl, sym, ◌∙◌, ap, subst}
 use mathlib.Core.Logic.{⊎_elim}
@@ -7,14 +7,18 @@ use mathlib.Core.List.{List, [], ◌∷◌}
 use native.Mathlib.Omega.{arith}
 use native.Mathlib.Nat.{le_of_suc-le-suc, not-suc-le-zero}
 use lib.Dec.{ltb}
-use lib.ListN.{length, get_or, set}
+use lib.ListN.{length, get_or, set, length-set}
 use lib.Seq.{get_or-set_same, get_or-set_other}
 use Rattle.laws.specs.Choice.{pick}
 use Rattle.laws.proofs.Choice.{Below, below, equal?}
 use Rattle.dispatch_rules.specs.declared.ScriptCursor.{ScriptCursor}
 use Rattle.dispatch_rules.specs.Script.{no_cursor}
 use Rattle.lock_dispatch.specs.Lent.{copied, fitting, no_cursors, loaded}
-use Rattle.lock_dispatch.proofs.Arrays.{length_copied}
+
+-- the list keeps its length
+pub length_copied : (i : ℕ) (from to : List ScriptCursor) → length (copied i from to) ≡ length to
+length_copied zero from to = refl
+length_copied (suc i) from to = length-set (copied i from to) i (get_or from i no_cursor) ∙ length_copied i from to
 
 -- a place that was copied
 pub copied_at : (n i : ℕ) (from to : List ScriptCursor) → i < n → n ≤ length to → get_or (copied n from to) i no_cursor ≡ get_or from i no_cursor

@@ -1,8 +1,3 @@
--- What the walks share, and that records copied out and back are as they were.
-pub mod Said
-pub mod Counted
-pub mod Again
-pub mod Arrays
+-- Records copied out and back are as they were, and a refused run leaves all that it was lent.
 pub mod Copied
-pub mod Lending
 pub mod Refused

@@ -1,5 +1,4 @@
-// The dispatcher over records that the caller lends (document 02, L6). They are copied into an array for the run, and back after it: the borrow checker does not
-// cover a slice of structs, so each function that holds it is proved by a walk of its MIR, by hand, and does no more than it must.
+// The dispatcher over records that the caller lends (document 02, L6). They are copied into an array for the run, and back after it.
 #![tactic(auto)]
 
 ghost use Rattle.std.specs.Prelude.{◌≡◌, ◌≤◌, ◌<◌, length};
@@ -61,6 +60,7 @@ fn no_cursors() -> [ScriptCursor; 32]
 }
 
 // Runs the scripts, and leaves in the slices how far each came and what each step answered. Refused, it leaves them as they are.
+#[tactic(auto, using(crate::proofs::Copied::fitting_fits))]
 pub fn dispatch(
     table: Table,
     quantum: u32,

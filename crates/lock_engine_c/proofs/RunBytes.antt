@@ -27,7 +27,7 @@ use Rattle.dispatch_rules.specs.declared.DispatchAnswer.TheVariants.{Ended, NotS
 use Rattle.dispatch_rules.proofs.Schedules.{unstepped_same}
 use Rattle.lock_dispatch.specs.Lent.{fitting, no_cursors, loaded, dispatch, cursors_after, trace_after}
 use Rattle.lock_dispatch.proofs.Refused.{refused_leaves_slice}
-use Rattle.lock_dispatch.proofs.Arrays.{length_copied}
+use Rattle.lock_dispatch.proofs.Copied.{length_copied}
 use Rattle.lock_engine_c.specs.Calls.{not_sound, stored_over}
 use Rattle.lock_engine_c.specs.Dispatch.{steps_unit, run_answer, dispatched_answer, dispatched_bytes, dispatched_cursors, dispatched_trace, no_threads, table_or_none, RefusedRunLeaves}
 use Rattle.lock_engine_c.proofs.RefusedBytes.{read_well_typed}
