@@ -52,7 +52,7 @@ module _ (value digit : ℕ) (some : 1 ≤ value) (small : digit < 10) (fits : v
 decimal_digit : (digit : ℕ) → digit < 10 → decimal digit ≡ (digit_zero + digit) ∷ []
 unfolding decimal digits digit_byte places_of places_from
 decimal_digit digit small =
-    let whole : digit % 10 ≡ digit = native.Mathlib.Nat.mod_eq_of_lt small in
+    let whole : digit % 10 ≡ digit = native.Mathlib.Nat.mod-eq_of_lt small in
     rw (lt-ltb digit 10 small) (rw whole (rw (lt-ltb digit 10 small) refl))
 
 -- a number of a line has at most five digits: it does not reach the fifth bound, so four bounds are enough
@@ -110,7 +110,7 @@ starts_continued (Found value (suc end)) byte text (fits, within, same) =
     let count : suc end - 1 ≡ end = omega arith in (
       fits,
       sym (ap (λ (x : List ℕ). x ++ drop end text) (same ∙ ap (λ (n : ℕ). byte ∷ take n text) count)
-          ∙ ap (λ (x : List ℕ). byte ∷ x) (lib.ListN.take_append_drop end text)),
+          ∙ ap (λ (x : List ℕ). byte ∷ x) (lib.ListN.take-append-drop end text)),
     )
 starts_continued Absent byte text none = none
 

@@ -42,7 +42,7 @@ module _ (byte : ℕ) (digit : is_digit byte ≡ true) where
 -- the digits from `at` on: the text ends, a byte is no digit, the number becomes too large, or goes on
 pub digits_end : (value at : ℕ) (text : List ℕ) → length text ≤ at → read_digits value at (drop at text) ≡ Found value at
 unfolding read_digits
-digits_end value at text past = rw (lib.ListN.drop_of_length_le text past)
+digits_end value at text past = rw (lib.ListN.drop_of_length-le text past)
 
 module _ (value at : ℕ) (text : List ℕ) (inside : at < length text) where
   pub digits_stop : is_digit (get_or text at 0) ≡ false → read_digits value at (drop at text) ≡ Found value at

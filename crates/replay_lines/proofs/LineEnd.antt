@@ -25,7 +25,7 @@ counted_further at (suc n) = omega arith
 
 pub end_none : (at : ℕ) (input : List ℕ) → length input ≤ at → counted_from at (line_end (drop at input)) ≡ 0
 unfolding line_end
-end_none at input past = rw (lib.ListN.drop_of_length_le input past)
+end_none at input past = rw (lib.ListN.drop_of_length-le input past)
 
 module _ (at : ℕ) (input : List ℕ) (inside : at < length input) where
   pub end_here : get_or input at 0 ≡ newline → counted_from at (line_end (drop at input)) ≡ at + 1
