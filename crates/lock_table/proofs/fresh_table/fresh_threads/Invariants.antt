@@ -1,0 +1,13 @@
+-- The places passed are filled.
+use Rattle.std.proofs.Common.{◌≡◌, ◌-◌, ◌≤◌}
+use lib.ListN.{replicate}
+use Rattle.laws.specs.Sequence.{patched}
+use Rattle.lock_table.specs.Fresh.{thread_from}
+use Rattle.lock_table.specs.Record.{no_thread}
+use Rattle.lock_table.proofs.fresh_table.fresh_threads.Given as goal
+
+abbrev pub invariant-loop-place : goal.invariant-loop-place
+invariant-loop-place l = (l.place ≤ 32) × (l.threads ≡ patched 0 l.place (thread_from l.request) (replicate 32 no_thread))
+
+abbrev pub decreases-loop-place : goal.decreases-loop-place
+decreases-loop-place l = 32 - l.place
