@@ -28,7 +28,7 @@ module _ {from done : ℕ} {before now : List ℕ} (moved : Moved from done befo
       ap (λ (n : ℕ). get_or now n 0) (turned from done) ∙ sym (get_or-drop done now from 0) ∙ ap (λ (x : List ℕ). get_or x from 0) moved.rest
       ∙ get_or-drop done before from 0 ∙ ap (λ (n : ℕ). get_or before n 0) (turned done from) ∙ sym (get_or-drop from before done 0) in
       record {
-        same_length = simp (lib.ListN.length_set) moved.same_length;
+        same_length = simp (lib.ListN.length-set) moved.same_length;
         front =
             rw (add-one done)
             (take-suc-set now done byte here ∙ ap (λ (x : List ℕ). x ++ (byte ∷ [])) moved.front
