@@ -61,17 +61,17 @@ class Specs:
     def words(self, name):
         """What a definition uses; fields, written with a dot before them, belong to types that it names."""
         text = re.split(r'[\s(){};,]+', ' '.join(self.definitions[name]))
-        return {word.rstrip('.') for word in text if word and not word.startswith('.')}
+        return {word.partition('.')[0] for word in text if word and not word.startswith('.')}
 
 
 def place_of(module):
     """(crate, file) of a module of specs/; a type of the code, `declared.record.Table` of record.rt, has the file `src/record.rt`; None for the kit's."""
-    found = re.match(r'^Rattle·(\w+?)(?:·specs)?\.specs\.(.*)$', module)
-    if not found:
+    found = re.match(r'^Rattle\.(\w+)\.specs\.(.*)$', module)
+    if not found or not (ROOT / 'crates' / found.group(1)).is_dir():
         return None
     crate, inner = found.groups()
     if inner.startswith('declared.'):
-        parts = inner.removesuffix('.the-variants').split('.')
+        parts = inner.removesuffix('.TheVariants').split('.')
         return crate, f'src/{parts[1] if len(parts) > 2 else "lib"}.rt'
     return crate, inner
 
@@ -105,7 +105,7 @@ def described(files, met):
     """Counts of lines, and a row for each crate."""
     counts = [sum(specs.lines for specs in files.values()), sum(len(specs.code) for specs in files.values()),
               sum(len(files[place].definitions[name]) for place in files for name in met[place])]
-    crates = [line.split(':')[0] for line in (ROOT / 'crates.txt').read_text().splitlines() if line and line[0] != '#']
+    crates = [re.split('[ :]', line)[0] for line in (ROOT / 'crates.txt').read_text().splitlines() if line and line[0] != '#']
     rows = []
     for crate in sorted({place[0] for place in met}, key=crates.index, reverse=True):
         names = [', '.join(sorted(file.removeprefix('src/') for owner, file in met if owner == crate and file.startswith('src/') == types))

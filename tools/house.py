@@ -15,7 +15,6 @@ import sys
 ROOT = pathlib.Path(__file__).resolve().parent.parent
 DOCUMENT = ROOT / 'docs' / 'ARCHITECTURE.md'
 MARKS = ('<!-- written by tools/house.py -->', '<!-- end of what tools/house.py writes -->')
-KIT = ['io', 'libc', 'os']
 # The borrow checker wants to name the type of every value that it reaches, so a crate may need one that no source of it names.
 REACHED = {('rule_actions', 'chains'), ('rule_decide', 'lock_word'), ('replay_program', 'lock_table'), ('replay_program', 'report_tally')}
 PARTS = {'src': '*.rt', 'specs': '*.antt', 'proofs': '*.antt'}
@@ -24,7 +23,12 @@ PARTS = {'src': '*.rt', 'specs': '*.antt', 'proofs': '*.antt'}
 def listed():
     """(crate, what it depends on) for each line of crates.txt."""
     lines = [line.partition(':') for line in (ROOT / 'crates.txt').read_text(encoding='utf-8').splitlines() if line and line[0] != '#']
-    return [(name.strip(), on.split()) for name, _, on in lines]
+    return [(name.split()[0], on.split()) for name, _, on in lines]
+
+
+def of_kit(name):
+    """Whether a dependency is none of the repository; rt itself refuses one that the kit has not either."""
+    return not (ROOT / 'crates' / name).is_dir()
 
 
 def files(crate, part):
@@ -42,7 +46,7 @@ def code_of(path):
 
 def uses(crate, other):
     """Whether a source of the crate names the other: `other::` in Rattle, or one of its modules in antt or in a contract."""
-    form = re.compile(rf'\b{other}::|Rattle·{other}[.·]')
+    form = re.compile(rf'\b{other}::|\bRattle\.{other}\.')
     return any(form.search(code_of(path)) for part in PARTS for path in files(crate, part))
 
 
@@ -60,7 +64,7 @@ def stands_on(on, under):
 
 
 def block(house):
-    own = [(crate, [name for name in on if name not in KIT]) for crate, on in house]
+    own = [(crate, [name for name in on if not of_kit(name)]) for crate, on in house]
     under, floors = below(own), {}
     for crate, on in own:
         floors[crate] = 1 + max((floors[name] for name in on), default=-1)
@@ -83,7 +87,7 @@ def order(house):
         yield f'{crate} is listed twice' if crate in seen else None
         yield None if files(crate, 'src') else f'{crate} has no sources'
         for name in on:
-            yield None if name in seen or name in KIT else f'{crate} depends on {name}, which is not listed before it'
+            yield None if name in seen or of_kit(name) else f'{crate} depends on {name}, which is not listed before it'
         seen.add(crate)
 
 
