@@ -8,3 +8,4 @@ pub mod Enough
 pub mod ReadBack
 pub mod SameBytes
 pub mod SetRecords
+pub mod ReadSoFar
