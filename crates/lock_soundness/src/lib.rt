@@ -23,7 +23,7 @@ fn sizes_fit(threads: u8, objects: u8) -> bool
 }
 
 // An empty record passes at once, and most are. Any other is one of an object in use, with its chains.
-#[tactic(auto, using(crate::proofs::OnePassTurns::empty_object_turn), unfolding(crate::specs::OnePass::object_passes))]
+#[tactic(auto, unfolding(crate::specs::OnePass::object_passes))]
 fn object_passes(
     threads: [ThreadRecord; 32],
     threadcount: u8,
