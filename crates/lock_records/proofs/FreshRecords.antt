@@ -27,15 +27,15 @@ use Rattle.lock_records.proofs.{Written.word_written, Represents.Represents}
 abbrev no_links : Links
 no_links = record { next = λ n. 0; first = λ c. 0 }
 
-fresh_represent : (reserved : Bool) (rank : ℕ → ℕ) → LinksRepresent no_links (lists_of (fresh (reserved rank).objects))
+fresh_represent : (reserved : Bool) (rank : ℕ → ℕ) → LinksRepresent no_links (lists_of ((fresh reserved rank).objects))
 fresh_represent reserved rank =
     record { chain = λ c. rw (none c); apart = λ c d n h k. absurd (omega (arith, h, ap (count n) (none c), count_none n)); loose = λ n h. refl }
   where
-    empty : (o : ℕ) (chain : Chain) → chain_of chain (fresh (reserved rank).objects o) ≡ []
+    empty : (o : ℕ) (chain : Chain) → chain_of chain ((fresh reserved rank).objects o) ≡ []
     empty o = each_chain _ (search)
 
-    none : (c : ℕ) → lists_of (fresh (reserved rank).objects) c ≡ []
-    none = by_number (λ c. lists_of (fresh (reserved rank).objects) c ≡ []) (λ o chain. list_at (fresh (reserved rank).objects) o chain ∙ empty o chain)
+    none : (c : ℕ) → lists_of ((fresh reserved rank).objects) c ≡ []
+    none = by_number (λ c. lists_of ((fresh reserved rank).objects) c ≡ []) (λ o chain. list_at ((fresh reserved rank).objects) o chain ∙ empty o chain)
 
 -- the first word is that of the kind
 first_word_written : (o : ℕ) (reserved : Bool) → first_word reserved ≡ word_written o (fresh_word reserved)

@@ -11,7 +11,7 @@ use Rattle.lock_rules.specs.Numbers.{phase_of_doing, phase_of}
 use Rattle.lock_rules.proofs.Each.{each_doing, each_state, each_chain}
 use Rattle.lock_rules.proofs.{Status.unfinished, ListChains.times_in}
 use Rattle.lock_rules.specs.declared.{Doing.Doing, ThreadState.ThreadState}
-use Rattle.lock_rules.specs.declared.ThreadState.TheVariants.{Idle, Waiting}
+use Rattle.lock_rules.specs.declared.ThreadState.TheVariants.{Idle}
 use Rattle.chains.specs.declared.named.Chain.{Chain}
 use Rattle.lock_table.specs.Parked.{chain_named}
 

@@ -1,5 +1,5 @@
 -- Examples of chains: one hung behind another (document 01, "The table": threads join at the end).
-use Rattle.std.specs.Prelude.{ℕ, ◌≡◌, List, [], ◌∷◌}
+use Rattle.std.specs.Prelude.{ℕ, ◌≡◌, [], ◌∷◌}
 use Rattle.laws.specs.Update.{update}
 use Rattle.chains.specs.Chain.{members}
 use Rattle.chains.specs.Joining.{linked}
