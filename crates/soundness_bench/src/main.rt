@@ -3,9 +3,9 @@
 // fat and 6 mixed read lock words and write the sum of owners and depths by them.
 #![tactic(auto)]
 
-use libc::{STDIN_FILENO, STDOUT_FILENO};
 use lock_table::{Monitor, Onward, Operation, Phase, Table, ThreadRecord};
 use lock_word::Decoded;
+use std::io::Read;
 
 // What is read has room for a case and nine digits.
 const INPUT: usize = 11;
@@ -133,7 +133,7 @@ fn owned_sum(words: [u32; 64], repeats: u64) -> u64 {
     let mut left = repeats;
     while 0 < left {
         let at = (left % WORDS) as usize;
-        sum = std::num::wrapping_add_u64(sum, owned_by(words[at]));
+        sum = sum.wrapping_add(owned_by(words[at]));
         left = left - 1;
     }
     sum
@@ -161,10 +161,12 @@ fn count_read(input: [u8; 11]) -> u64 {
     count
 }
 
-fn main() {
+fn main(rt: HostRuntime) {
     let mut input = [0; 11];
-    io::read_full(STDIN_FILENO, &mut input);
+    let mut stdin = rt.stdin();
+    // a shorter input leaves zeros behind it
+    let _ = stdin.read_exact(&mut input);
     let number = input[0] % 16;
-    io::print_decimal(STDOUT_FILENO, measured(number, count_read(input)));
-    io::write_all(STDOUT_FILENO, b"\n");
+    let answer = measured(number, count_read(input));
+    let _ = println!(rt; "{answer}");
 }
