@@ -14,7 +14,7 @@ ARCHIVE = target/staticlib/liblock_engine_c.a
 NUMBER = $(shell sed -n 's/^.define DUSKCLAMP_VERSION_$(1) //p' $(HEADER))
 VERSION = $(call NUMBER,MAJOR).$(call NUMBER,MINOR).$(call NUMBER,PATCH)
 
-SOURCES = crates.txt $(shell find crates -name '*.rt' -o -name '*.antt')
+SOURCES = crates.txt $(shell find crates -name out -prune -o \( -name '*.rt' -o -name '*.antt' \) -print)
 
 .PHONY: all install uninstall
 
@@ -22,7 +22,7 @@ all: $(ARCHIVE)
 
 $(ARCHIVE): $(SOURCES)
 	@command -v $(RT) >/dev/null || { echo "make: $(RT) is not found: the library is built by the Rattle kit's rt" >&2; exit 1; }
-	$(RT) staticlib lock_engine_c
+	RT=$(RT) tools/build.sh library
 
 install: $(ARCHIVE)
 	$(INSTALL) -d "$(DESTDIR)$(INCLUDEDIR)" "$(DESTDIR)$(LIBDIR)" "$(DESTDIR)$(PKGCONFIGDIR)"

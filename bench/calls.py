@@ -4,7 +4,7 @@ one call.
 
     bench/calls.py [LIBRARY]
 
-LIBRARY is target/staticlib/liblock_engine_c.a unless named; `rt staticlib lock_engine_c` makes it. bench/calls.c makes the calls, each on the same
+LIBRARY is target/staticlib/liblock_engine_c.a unless named; `tools/build.sh library` makes it. bench/calls.c makes the calls, each on the same
 bytes; the copying that this takes is measured alone and taken off. A tick without its soundness test is one of those by which two runs of ticks
 differ. common.py says how time and instructions are taken.
 """
@@ -49,7 +49,7 @@ def tick_alone(found):
 def main():
     if len(sys.argv) > 2:
         sys.exit('usage: bench/calls.py [LIBRARY]')
-    library = built(sys.argv[1] if len(sys.argv) > 1 else ROOT / 'target' / 'staticlib' / 'liblock_engine_c.a', 'rt staticlib lock_engine_c')
+    library = built(sys.argv[1] if len(sys.argv) > 1 else ROOT / 'target' / 'staticlib' / 'liblock_engine_c.a', 'tools/build.sh library')
     with tempfile.TemporaryDirectory() as folder:
         program = compiled(folder, pathlib.Path(library))
         calls, several, ticks = [], [], []

@@ -65,7 +65,7 @@ def case_costs(cases, timed, counted):
     """
     if len(sys.argv) > 2:
         sys.exit(f'usage: {sys.argv[0]} [PROGRAM]')
-    program = built(sys.argv[1] if len(sys.argv) > 1 else ROOT / 'target' / 'bin' / 'soundness_bench', 'rt check soundness_bench')
+    program = built(sys.argv[1] if len(sys.argv) > 1 else ROOT / 'target' / 'bin' / 'soundness_bench', 'tools/build.sh soundness_bench')
 
     def job(case, repeats):
         return [program], f'{case} {repeats}\n'.encode()

@@ -3,7 +3,7 @@
 
     bench/dispatch.py [LIBRARY]
 
-LIBRARY is target/staticlib/liblock_engine_c.a unless named; `rt staticlib lock_engine_c` makes it. bench/dispatch.c makes the calls: scripts of threads
+LIBRARY is target/staticlib/liblock_engine_c.a unless named; `tools/build.sh library` makes it. bench/dispatch.c makes the calls: scripts of threads
 that contend, and the events of that run, as its trace tells of them. What an event costs is the difference of two lengths of script, so that reading,
 testing and writing the table fall out. Above MOST times the run's at the first of QUANTA, by instructions or, where they cannot be counted, by
 time, the program ends with status 1. common.py says how time and instructions are taken.
@@ -59,7 +59,7 @@ def row(program, threads, objects, quantum):
 def main():
     if len(sys.argv) > 2:
         sys.exit('usage: bench/dispatch.py [LIBRARY]')
-    library = built(sys.argv[1] if len(sys.argv) > 1 else ROOT / 'target' / 'staticlib' / 'liblock_engine_c.a', 'rt staticlib lock_engine_c')
+    library = built(sys.argv[1] if len(sys.argv) > 1 else ROOT / 'target' / 'staticlib' / 'liblock_engine_c.a', 'tools/build.sh library')
     rows, most = [], 0
     with tempfile.TemporaryDirectory() as folder:
         program = compiled(folder, pathlib.Path(library))

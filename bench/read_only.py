@@ -13,7 +13,7 @@ import sys
 
 from common import ROOT, built, print_table
 
-FILES = {'target/staticlib/liblock_engine_c.a': 'rt staticlib lock_engine_c', 'target/bin/replay': 'rt check replay'}
+FILES = {'target/staticlib/liblock_engine_c.a': 'tools/build.sh library', 'target/bin/replay': 'tools/build.sh replay'}
 SECTION = re.compile(r'^\s*\[\s*\d+\]\s+(\S+)\s+\S+\s+[0-9a-f]+\s+[0-9a-f]+\s+([0-9a-f]+)\s+\S+\s+([A-Z]*)\s', re.M)
 
 

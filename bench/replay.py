@@ -16,7 +16,7 @@ SIZES = [(8, 16), (8, 3), (32, 64)]
 COUNTED = (10_000, 40_000)
 CARGO = 'CARGO_TARGET_DIR=target/cargo cargo build --offline --release --manifest-path tests/reference/Cargo.toml'
 RELEASE = ROOT / 'target' / 'cargo' / 'release'
-PROGRAMS = {'proved': (ROOT / 'target' / 'bin' / 'replay', 'rt check replay'),
+PROGRAMS = {'proved': (ROOT / 'target' / 'bin' / 'replay', 'tools/build.sh replay'),
             'Rust, untested': (RELEASE / 'reference_replay_untested', CARGO + ' --features untested --bin reference_replay_untested'),
             'Rust, tested': (RELEASE / 'reference_replay', CARGO)}
 

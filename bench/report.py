@@ -30,7 +30,7 @@ def inputs(make_schedule):
 def main():
     if len(sys.argv) > 1 or not COUNTS:
         sys.exit('usage: bench/report.py, with valgrind installed')
-    programs = [built(ROOT / 'target' / 'bin' / name, f'rt check {name}') for name in ('replay', 'report')]
+    programs = [built(ROOT / 'target' / 'bin' / name, f'tools/build.sh {name}') for name in ('replay', 'report')]
     make_schedule = built(ROOT / 'target' / 'cargo' / 'release' / 'make_schedule', CARGO)
     rows, most = [], 0
     for name, given in inputs(make_schedule):

@@ -3,7 +3,7 @@
 
     bench/soundness.py [PROGRAM]
 
-PROGRAM is target/bin/soundness_bench unless named; `rt check soundness_bench` makes it. common.py says how time and instructions are taken.
+PROGRAM is target/bin/soundness_bench unless named; `tools/build.sh soundness_bench` makes it. common.py says how time and instructions are taken.
 """
 from common import case_costs, print_table, shown
 

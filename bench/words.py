@@ -3,7 +3,7 @@
 
     bench/words.py [PROGRAM]
 
-PROGRAM is target/bin/soundness_bench unless named; `rt check soundness_bench` makes it. common.py says how time and instructions are taken. What the
+PROGRAM is target/bin/soundness_bench unless named; `tools/build.sh soundness_bench` makes it. common.py says how time and instructions are taken. What the
 loop around it takes, and the adding up of what was read, is in the figures: compare two builds of the program, and nothing else.
 """
 from common import case_costs, print_table, shown

@@ -1,7 +1,7 @@
 /* Duskclamp: lock words, monitors and single steps of a runtime, over a table that the caller lends as bytes. docs/REFERENCE.md of the repository says
  * what each number, phase and word means and which tables are sound.
  *
- * Link liblock_engine_c.a, which `rt staticlib lock_engine_c` writes to target/staticlib, or install it as libduskclamp.a by `make install`.
+ * Link liblock_engine_c.a, which `tools/build.sh library` writes to target/staticlib, or install it as libduskclamp.a by `make install`.
  * Of other libraries it needs memcpy and memset alone. It is built for x86-64. This header is C99, and C++11.
  *
  * A table is DUSKCLAMP_TABLE_SIZE bytes, which the caller owns, keeps and may copy. No call keeps a pointer, allocates, or blocks. Two calls on

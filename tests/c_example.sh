@@ -6,7 +6,7 @@ set -u
 cd "$(dirname "$0")/.." || exit 2
 library=target/staticlib/liblock_engine_c.a
 if [ ! -f "$library" ]; then
-    echo "c_example: $library is not there: run rt staticlib lock_engine_c"
+    echo "c_example: $library is not there: run tools/build.sh library"
     exit 2
 fi
 if ! command -v gcc >/dev/null; then

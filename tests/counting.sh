@@ -19,7 +19,7 @@ finish() {
 programs_there() {
     for needed in "$1/replay" "$1/report" "$2/reference_replay" "$2/reference_report"; do
         if [ ! -x "$needed" ]; then
-            echo "$(basename "$0" .sh): $needed is not there: rt check replay and rt check report build those of target/bin, cargo build in" \
+            echo "$(basename "$0" .sh): $needed is not there: tools/build.sh replay report builds those of target/bin, cargo build in" \
                 "tests/reference the second ones"
             return 1
         fi

@@ -147,5 +147,5 @@ def main(name, program):
 if len(sys.argv) != 3 or sys.argv[1] not in ANSWERS:
     sys.exit(__doc__)
 if not os.access(sys.argv[2], os.X_OK):
-    sys.exit(f'pipes: {sys.argv[2]} is no program: rt check {sys.argv[1]} builds target/bin/{sys.argv[1]}')
+    sys.exit(f'pipes: {sys.argv[2]} is no program: tools/build.sh {sys.argv[1]} builds target/bin/{sys.argv[1]}')
 main(*sys.argv[1:])

@@ -9,8 +9,8 @@ here=$(cd "$(dirname "$0")/.." && pwd -P) || exit 2
 
 quiet=$(sed -n 's/^quiet=\([0-9]*\) .*/\1/p' "$here/tools/program.sh")
 
-# What rt is asked for: the program's own crate, or the library that it stands on.
-proved() { case $name in replay | report) echo "$name" ;; *) echo lock_engine_c ;; esac; }
+# What rt is asked for: the program's own crate, or the library that it stands on, which has a crate of its own here.
+proved() { case $name in replay | report) echo "$name" ;; *) echo static ;; esac; }
 
 # How often it was.
 asked() { grep -c "^rt: .* $(proved)$" "$work/asked" 2>/dev/null; }
@@ -27,18 +27,20 @@ newer() {
 # All that is said of a build from nothing, with the number of seconds left out.
 whole_build() {
     echo "$name: proving and building the program: .* where nothing is proved yet; target/[a-z]*.log has what rt says"
-    echo '\[1/3\] base (1 s)'
-    echo '\[2/3\] second (1 s)'
+    echo '\[1/3\] base ([0-9]* s)'
+    echo '\[2/3\] second ([0-9]* s)'
     case $name in
-    replay | report) echo "\[3/3\] $name (1 s)" ;;
+    replay | report) echo "\[3/3\] $name ([0-9]* s)" ;;
     *)
-        echo "$name: proving lock_engine_c and compiling the library"
-        echo '\[3/3\] lock_engine_c'
+        echo '\[3/3\] static ([0-9]* s)'
         echo "$name: compiling the programs in Rust"
         ;;
     esac
     echo "$name: built, in [0-9]* s"
 }
+
+# Nothing is built, and nothing is proved.
+anew() { rm -rf "$work/copy/target" "$work"/copy/crates/*/out; }
 
 # Whether it was said at least once that this takes long.
 said_long() { if [ "$(said "still $1, for [1-9][0-9]* s\$")" -gt 0 ]; then echo yes; fi; }
@@ -46,27 +48,26 @@ said_long() { if [ "$(said "still $1, for [1-9][0-9]* s\$")" -gt 0 ]; then echo 
 # From nothing: a line for each crate and each step, in this order, and no other; and where one takes long, what is being done. It is said first, before
 # rt is asked for anything.
 from_nothing() {
-    rm -rf "$work/copy/target"
+    anew
     outcome "$work/copy/$name" "$listing" >/dev/null 3>"$work/third"
     check "$name: nothing is told to the caller's descriptor 3" "$(cat "$work/third")" ''
     whole_build >"$work/whole"
     check "$name: from nothing, what is said" "$(sed -n '$=' "$work/said")" "$(sed -n '$=' "$work/whole")"
     while IFS= read -r line; do check "$name: from nothing, a line" "$(grep -c "^$line\$" "$work/said")" 1; done <"$work/whole"
-    rm -rf "$work/copy/target"
+    anew
     echo 4 >"$work/slow"
     "$work/copy/$name" "$listing" >/dev/null 2>"$work/said" &
     until [ -e "$work/busy" ]; do sleep 0.1; done
     check "$name: said before anything is proved" "$(said 'proving and building')" 1
     wait "$!"
     rm "$work/slow"
-    check "$name: long at crates that are proved at a time" "$(said_long 'proving base second')" yes
+    for long in base second "$(proved)"; do check "$name: long at $long" "$(said_long "proving $long")" yes; done
     case $name in replay | report) return ;; esac
-    check "$name: long at the library" "$(said_long 'proving lock_engine_c and compiling the library')" yes
     check "$name: long at what is in Rust" "$(said_long 'compiling the programs in Rust')" yes
 }
 
 builds() {
-    rm -rf "$work/copy/target"
+    anew
     : >"$work/asked"
     script=$work/copy/$name
     check "$name: built where it is missing" "$(outcome "$script" "$listing") $(asked)" "$(printed) 0 1"
@@ -83,20 +84,17 @@ builds() {
     check "$name: and both are answered" "$?" 0
     rm "$work/slow"
     newer crates.txt ../fails
-    check "$name: a build that fails" "$(outcome "$script" "$listing") $(grep -c 'NOT PROVED' "$work/said")" ' 1 1'
-    check "$name: and is tried again" "$(outcome "$script" "$listing") $(wc -l <"$work/asked")" " 1 $(tries)"
+    check "$name: a build that fails" "$(outcome "$script" "$listing") $(grep -c 'is not proved' "$work/said")" ' 1 1'
+    check "$name: and is tried again" "$(outcome "$script" "$listing") $(asked)" ' 1 6'
     check "$name: and says where to read on" "$(said '.*target/[a-z]*.log has all')" 1
     rm "$work/fails"
 }
 
-# How often rt is asked in these builds: for a library twice, first for the crates below it, where it fails.
-tries() { case $name in replay | report) echo 6 ;; *) echo 10 ;; esac; }
-
 # Another kit is tried all the same, and it is said what came of it.
 other_kit() {
-    rm -rf "$work/copy/target"
+    anew
     check "$name: the kit that is named" "$(outcome "$work/copy/$name" "$listing") $(said '.*kit')" "$(printed) 0 0"
-    rm -rf "$work/copy/target"
+    anew
     echo 'another-kit logic 0' >"$work/version"
     before="the kit found is 'another-kit logic 0', and the proofs were checked with '$kit': trying all the same\$"
     after="all 3 crates that the program needs were proved with the kit found, 'another-kit logic 0'\$"
@@ -109,7 +107,6 @@ other_kit() {
     echo "$kit" >"$work/version"
 }
 
-unset RT_JOBS
 kit_path=$PATH
 PATH=$work/bin:$PATH
 for name in replay report explain; do builds; done
@@ -117,13 +114,9 @@ for name in replay report explain timeline; do
     from_nothing
     other_kit
 done
-rm -rf "$work/copy/target"
-name=replay && echo 4 >"$work/slow"
-RT_JOBS=1 outcome "$work/copy/$name" "$listing" >/dev/null
-check "$name: long at a crate that is proved alone" "$(said_long 'proving base')" yes
-rm "$work/slow"
+anew
 check 'something is said every minute' "$([ "$quiet" -gt 0 ] && [ "$quiet" -le 60 ] && echo yes)" yes
-check 'the kit is named once' "$(grep -rhoI --exclude-dir=.git --exclude-dir=target 'rattle-kit-[0-9a-z-]* logic [0-9a-f]*' "$here")" "$kit"
+check 'one kit is named' "$(grep -rhoI --exclude-dir=.git --exclude-dir=target --exclude-dir=out 'rattle-kit-[0-9a-z-]* logic [0-9a-f]*' "$here" | sort -u)" "$kit"
 
 # A change of what is in Rust builds the viewers again, both by one build, and proves nothing.
 outcome "$work/copy/explain" "$listing" >/dev/null
@@ -142,7 +135,7 @@ touch "$work/copy/crates/replay/src/main.rt"
 wait "$!"
 : >"$work/asked"
 outcome "$work/copy/explain" "$listing" >/dev/null
-check 'explain: a source saved while it is built' "$(tr '\n' ';' <"$work/asked")" 'rt: check base second;rt: staticlib lock_engine_c;'
+check 'explain: a source saved while it is built' "$(tr '\n' ';' <"$work/asked")" 'rt: lib static;'
 rm "$work/slow"
 
 # Without cargo they are not built, and it is said.
@@ -162,7 +155,7 @@ check 'both at once: the second is answered' "$(outcome "$work/copy/report" "$li
 check 'both at once: it waits' "$(said 'another build is under way') $(said_long 'waiting for the other build')" '1 yes'
 wait "$!"
 check 'both at once: the first is answered' "$?" 0
-check 'both at once: each is built' "$(sort "$work/asked" | tr '\n' ';')" 'rt: check replay;rt: check report;'
+check 'both at once: each is built' "$(sort "$work/asked" | tr '\n' ';')" 'rt: run replay;rt: run report;'
 check 'no build beside another' "$(cat "$work/beside" 2>/dev/null)" ''
 rm "$work/slow"
 

@@ -13,43 +13,39 @@ outcome() {
     echo "$(head -n 1 "$work/output") $status"
 }
 
-# An rt that proves nothing, and says and writes what the kit's does: `check` has what it says of a crate in a file first, and shows it once a batch is
-# done; `staticlib` has no such file, says at once what it says of the crates below, and has no line of its own crate but the library's. It notes what
-# it is asked, and whether it is asked while it is still at work.
+# An rt that proves nothing, and says and writes what the kit's does in a crate's folder: `run` and `lib` name each crate that they begin, tell its
+# modules when it is proved, and say neither of a crate that is as it was. `run` says so on standard error, and runs the program. It notes what it is
+# asked, and whether it is asked while it is still at work.
 make_rt() {
-    cat >"$work/bin/rt" <<'RT'
-#!/bin/sh
-case $1 in version) cat ../version; exit ;; esac
-mkdir ../busy || echo "rt: $* beside another" >>../beside
-echo "rt: $*" >>../asked
-[ ! -e ../slow ] || sleep "$(cat ../slow)"
-rmdir ../busy
-command=$1
-shift
-[ ! -e ../fails ] || { echo "rt: $* NOT PROVED (exit 1, 1 s)"; exit 1; }
-mkdir -p target/log target/stamp target/staticlib target/bin
-said() {
-    if [ -e "target/stamp/$1" ]; then
-        echo "rt: $1 proved (unchanged since it was last proved)"
-    else
-        printf 'logic=proved functions=1\nrt: %s proved (1 s)\n' "$1"
-        : >"target/stamp/$1"
-    fi
+    { echo '#!/bin/sh' && echo "work=$work"; } >"$work/bin/rt"
+    cat >>"$work/bin/rt" <<'RT'
+case $1 in version) cat "$work/version"; exit ;; esac
+crate=$(basename "$PWD")
+mkdir "$work/busy" || echo "rt: $1 $crate beside another" >>"$work/beside"
+echo "rt: $1 $crate" >>"$work/asked"
+[ ! -e "$work/fails" ] || { rmdir "$work/busy"; echo "src/main.rt:1:1: error: $crate is not proved" >&2; exit 1; }
+proves() {
+    [ ! -e "../$1/out/proved" ] || return 0
+    echo "rt: chose --jobs 1 for $1"
+    [ ! -e "$work/slow" ] || sleep "$(cat "$work/slow")"
+    printf 'fn %s::it: proved\ncrate %s: modules loaded=2 checked=3\nlogic=proved functions=1\n' "$1" "$1"
+    mkdir -p "../$1/out" && : >"../$1/out/proved"
 }
-case $command in
-check)
-    for crate in base second $(echo "$*" | sed 's/^base second$//'); do
-        said "$crate" >"target/log/$crate.out"
-        cat "target/log/$crate.out"
-    done
-    printf '#!/bin/sh\ncat\nprintf 0 >&3\n' >"target/bin/$crate"
-    chmod +x "target/bin/$crate"
-    "target/bin/$crate" 2>/dev/null || true
+case $1 in
+run)
+    { proves base; proves second; rm -f out/proved; proves "$crate"; } >&2
+    printf '#!/bin/sh\ncat\nprintf 0 >&3\n' >"out/$crate"
+    chmod +x "out/$crate"
+    rmdir "$work/busy"
+    "out/$crate" 2>/dev/null || true
     ;;
-staticlib)
-    { said base; said second; } >&2
-    : >"target/staticlib/lib$1.a"
-    printf 'logic=proved functions=1\nrt: target/staticlib/lib%s.a has the functions of %s that are marked\n' "$1" "$1"
+lib)
+    proves base
+    proves second
+    rm -f out/proved
+    proves "$crate"
+    : >"out/lib$crate.a"
+    rmdir "$work/busy"
     ;;
 esac
 RT
@@ -70,17 +66,18 @@ CARGO
 
 # A copy that says something every two seconds, with that rt, of the right kit, and that cargo.
 copy() {
-    mkdir -p "$work/copy/crates/replay/src" "$work/copy/tools" "$work/bin"
+    for crate in base second replay report static; do mkdir -p "$work/copy/crates/$crate/src"; done
+    mkdir -p "$work/copy/tools" "$work/bin"
     for package in duskclamp schedule_view; do
         mkdir -p "$work/copy/rust/$package/src"
         : >"$work/copy/rust/$package/Cargo.toml"
     done
     : >"$work/copy/rust/duskclamp/build.rs"
     cp "$here/replay" "$here/report" "$here/explain" "$here/timeline" "$work/copy"
-    cp "$here/tools/proved.sh" "$here/tools/view.sh" "$work/copy/tools"
+    cp "$here/tools/proved.sh" "$here/tools/view.sh" "$here/tools/build.sh" "$work/copy/tools"
     sed 's/^quiet=[0-9]*/quiet=2/' "$here/tools/program.sh" >"$work/copy/tools/program.sh"
-    printf '%s\n' base: second: 'replay: base second io' 'report: base second io' 'lock_engine_c: base second' >"$work/copy/crates.txt"
-    echo source >"$work/copy/crates/replay/src/main.rt"
+    printf '%s\n' base: second: 'replay: base second io' 'report: base second io' 'static staticlib: base second' >"$work/copy/crates.txt"
+    for crate in replay report; do echo source >"$work/copy/crates/$crate/src/main.rt"; done
     echo "$kit" >"$work/version"
     make_rt
     make_cargo

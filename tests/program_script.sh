@@ -25,12 +25,12 @@ calls() {
     check "$name: a link in PATH" "$(PATH=$work:$PATH && outcome second "$input")" 'whole 0'
 }
 
-# What the kit that is here says of a crate that it proves is read. The lowest takes a second, and the others stay proved, since their sources do not
-# change. program_builds.sh has the rest, with an rt that only says so.
-proved_again() {
-    rm -f "$here/target/stamp/laws" "$here/target/$name.current"
-    check "$name: a crate that is proved again" "$(outcome "$script" "$input") $(grep '^\[' "$work/said" | sed 's/[0-9][0-9]* s/N s/')" \
-        "whole 0 [1/$(grep -c '^rt: .* proved (' "$here/target/$name.log")] laws (N s)"
+# What the kit that is here says of a crate is read: of the program's own, which is proved again, or, where another copy of the repository has that at
+# hand, is not; the others stay as they are. program_builds.sh has the rest, with an rt that only says so.
+looked_at_again() {
+    rm -rf "$here/crates/$name/out" "$here/target/$name.current"
+    check "$name: a crate that is looked at again" "$(outcome "$script" "$input")" 'whole 0'
+    check "$name: and no other is proved" "$(grep '^\[' "$work/said" | grep -cv "^\[\([0-9]*\)/\1\] $name ([0-9]* s)\$")" 0
 }
 
 # The lines that are said, and those of them that say what status 3 means where $1 is printed.
@@ -106,7 +106,7 @@ for name in replay report; do
     report) input=$here/examples/branches.txt expected=$here/examples/branches.expected early='24 24' ;;
     esac
     calls
-    case $name in replay) proved_again ;; esac
+    case $name in replay) looked_at_again ;; esac
     statuses $early
     help "${early#* }"
 done

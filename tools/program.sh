@@ -11,7 +11,7 @@
 #     open_file         opens the file that is to be read, if that is not the program's to do
 #     start             runs the program, and ends with its status
 set -u
-kit='rattle-kit-5b-plain logic 097e4c862dff5811' # what `rt version` prints of the kit that the proofs were checked with; it is named nowhere else
+kit='rattle-kit-13f logic dac8208d650f15bf'       # what `rt version` prints of the kit that the proofs were checked with
 build_time='about five minutes on two processors' # of each program, from nothing
 quiet=30                                         # seconds of a build after which something is said in any case
 
@@ -137,27 +137,29 @@ streams_open() {
     fi
 }
 
-# The crates that the program needs, as LEVEL:NAME, itself last. A level needs only those before it, and rt proves one level after the other.
+# The crates that the program needs, itself last: in the order in which rt proves them, each behind those that it uses.
 needed() {
     awk -v name="$crate" 'function visit(n,    a, k, m) {
-            if (n in level) return
-            level[n] = 0
+            if (n in met) return
+            met[n]
             m = split(deps[n], a, " ")
-            for (k = 1; k <= m; k++) if (a[k] in deps) {
-                visit(a[k])
-                if (level[n] <= level[a[k]]) level[n] = level[a[k]] + 1
-            }
-            print level[n] ":" n
+            for (k = 1; k <= m; k++) if (a[k] in deps) visit(a[k])
+            print n
         }
         { sub(/#.*/, "") }
-        NF { split($0, part, ":"); gsub(/[ \t]/, "", part[1]); deps[part[1]] = part[2] }
-        END { visit(name) }' crates.txt | sort -s -t : -n -k 1,1
+        NF { split($0, part, ":"); split(part[1], word, " "); deps[word[1]] = part[2] }
+        END { visit(name) }' crates.txt
 }
 
-# Whether a source is newer than the program's last build, or gone; folders count, so that a file that is gone is seen.
-stale() {
-    [ ! -x "$program" ] || [ ! -f "$current" ] || [ -n "$(find $sources -newer "$current" -print | head -n 1)" ]
+# Whether a source is newer than a file, or gone; folders count, so that a file that is gone is seen. What rt makes lies in the crates' folders out/, and
+# is no source; nor is the folder of a crate, in which out/ comes and goes.
+changed_since() {
+    found=$(find $sources -path 'crates/*/out' -prune -o -newer "$1" ! \( -path 'crates/*' ! -path 'crates/*/*' \) -print | head -n 1)
+    [ -n "$found" ]
 }
+
+# Whether a source is newer than the program's last build, or gone.
+stale() { [ ! -x "$program" ] || [ ! -f "$current" ] || changed_since "$current"; }
 
 # Says what is being done and since when, where nothing was said for a while.
 still() {
@@ -170,36 +172,35 @@ still() {
 # What a build does beside proving crate after crate: a line of its log, from which `progress` says it.
 step() { echo "step: $*"; }
 
-# What the build is at: the last step; before any, the crates that rt has begun, as many of the lowest level that is not proved as it proves at a time.
-doing() {
-    level='' begun='' jobs=0
+# What the build is at: the last step; before any, the crate that rt has begun.
+doing() { echo "${at_step:-${at_crate:+proving $at_crate}}"; }
+
+# The place of a crate among those that the program needs; those before it are proved by then, now or earlier.
+place_of() {
+    place=0
     for item in $plan; do
-        case $proved in *" ${item#*:} "*) continue ;; esac
-        [ "${level:=${item%%:*}}" = "${item%%:*}" ] && [ "$jobs" -lt "$RT_JOBS" ] || break
-        begun="$begun ${item#*:}" jobs=$((jobs + 1))
+        place=$((place + 1))
+        [ "$item" != "$1" ] || echo "$place"
     done
-    [ -z "$begun" ] || begun="proving$begun"
-    [ -z "$at_step" ] || begun=$at_step
-    echo "${begun:-trying the program}"
 }
 
-# A crate that is proved, by its name, and how long that took. It is said once, and not where nothing was new.
+# A crate that is proved, and how long that took. It is not said where nothing was new ($2): that many of its modules were checked.
 proved_now() {
-    case $proved in *" $1 "*) return 0 ;; esac
-    proved="$proved$1 " done=$((done + 1)) since=$now
-    case $2 in '(unchanged'*) return 0 ;; esac
-    spoke=$now
-    printf '[%d/%d] %s\n' "$done" "$total" "$1${2:+ $2}" >&2
+    at_step="proving what is behind $1"
+    [ "$1" != "$crate" ] || at_step='compiling the program'
+    [ "$2" -gt 0 ] || return 0
+    printf '[%d/%d] %s (%d s)\n' "$(place_of "$1")" "$total" "$1" "$((now - since))" >&2
+    since=$now spoke=$now
 }
 
-# A line of the log. The crate of a static library is proved with it, and has no other line than the library's.
+# A line of the log. rt names a crate when it begins it, and tells its modules once it is proved; of a crate that is as it was it says neither.
 follow() {
     case $1 in
-    'rt: '*' proved ('*)
-        proved_name=${1#rt: }
-        proved_now "${proved_name%% *}" "(${1#* proved (}"
+    'rt: chose --jobs '*' for '*) at_crate=${1##* } at_step='' since=$now ;;
+    'crate '*': modules loaded='*' checked='*)
+        proved_name=${1#crate }
+        proved_now "${proved_name%%:*}" "${1##*checked=}"
         ;;
-    "rt: target/staticlib/lib$crate.a "*) proved_now "$crate" '' ;;
     'step: '*)
         at_step=${1#step: } since=$now spoke=$now
         say "$at_step"
@@ -209,7 +210,7 @@ follow() {
 
 # Says what the growing log tells, and, where that is nothing for a while, what is being done. Ends with the build, or with this script ($1).
 progress() {
-    plan=$(needed) proved=' ' done=0 at_step='' part='' building=yes
+    plan=$(needed) at_crate='' at_step='looking at what is proved' part='' building=yes
     total=$(echo "$plan" | wc -l) now=$(date +%s)
     since=$now spoke=$now
     exec 8<"$log"
@@ -284,8 +285,6 @@ build() {
     stale || return 0
     announced
     true >"$log" && true >"$began" || exit 1
-    # Crates are checked a layer at a time; more jobs than processors fill the gaps in a layer.
-    export RT_JOBS="${RT_JOBS:-4}"
     progress $$ &
     watcher=$!
     # rt tries a proved program, which tells on descriptor 3, if that is open, how it ended.

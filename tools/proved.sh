@@ -9,7 +9,7 @@ stamp=$name
 
 proves() { true; }
 
-make_program() { rt check "$name"; }
+make_program() { tools/build.sh "$name"; }
 
 open_file() { exec <"$file"; }
 

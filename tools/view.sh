@@ -1,26 +1,23 @@
 # What ./explain and ./timeline share, which read this file: they are programs in Rust on the proved library for C, built together. The rest is as for
 # the proved programs: tools/program.sh.
-crate=lock_engine_c
+crate=$(sed -n 's/^\([a-z0-9_]*\) staticlib.*:.*/\1/p' "$here/crates.txt")
 program=target/view/release/$name
 sources='crates crates.txt rust/*/src rust/*/Cargo.* rust/duskclamp/build.rs'
 stamp=view
-library=target/staticlib/lib$crate.a
-library_began=target/$crate.began
+library=target/staticlib/liblock_engine_c.a
+library_began=target/library.began
 
 # rt looks at the whole library again where nothing is new, which takes a minute; so it is called only where something is: newer than the start of the
 # library's last build by this script, or, where there was none, than the library.
 proves() {
     made=$library_began
     [ -f "$made" ] || made=$library
-    [ ! -f "$library" ] || [ -n "$(find crates crates.txt -newer "$made" -print | head -n 1)" ]
+    [ ! -f "$library" ] || (sources='crates crates.txt' && changed_since "$made")
 }
 
-# By itself rt staticlib would prove one crate after the other, on one processor.
 make_library() {
     proves || return 0
-    rt check $(needed | sed '$d; s/.*://') || return 1
-    step "proving $crate and compiling the library"
-    rt staticlib "$crate" && touch -r "$began" "$library_began"
+    tools/build.sh library && touch -r "$began" "$library_began"
 }
 
 make_program() {

@@ -1,5 +1,5 @@
 //! Tells cargo where the static library is: the folder that DUSKCLAMP_LIB_DIR names, or target/staticlib of the repository. It is there under the name
-//! that `rt staticlib` gives it, or under that of `make install`.
+//! that `tools/build.sh` gives it, or under that of `make install`.
 
 use std::env;
 use std::path::{Path, PathBuf};
@@ -15,7 +15,7 @@ fn main() {
     let archive = |library: &str| folder.join(format!("lib{library}.a"));
     let Some(library) = LIBRARIES.into_iter().find(|name| archive(name).is_file()) else {
         eprintln!(
-            "the library is not in {}: run `rt staticlib lock_engine_c` in the repository, or name its folder by DUSKCLAMP_LIB_DIR",
+            "the library is not in {}: run `tools/build.sh library` in the repository, or name its folder by DUSKCLAMP_LIB_DIR",
             folder.display()
         );
         std::process::exit(1);

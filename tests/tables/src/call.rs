@@ -18,7 +18,7 @@ impl Call {
             .as_ref()
             .filter(|program| !Path::new(program).is_file())
         {
-            eprintln!("{program} is not there; `rt check replay` builds target/bin/replay\nusage: {usage}");
+            eprintln!("{program} is not there; `tools/build.sh replay` builds target/bin/replay\nusage: {usage}");
             return None;
         }
         Some(Call {
