@@ -14,7 +14,8 @@ other place of the edit hides this one, the second that it is refused on a fact,
     tools/edit_places.py --again CRATE..          tries those that are stored too
     tools/edit_places.py --check                  compares the stored lines with the edits and with the text around their places; tries nothing
 
-It tries them by `rt must-fail` in a temporary repository, over what `rt check` has proved in this one. A stored line begins with the edit, the place
+It tries them by `rt must-fail` in a temporary repository, which begins with what `rt check` keeps of this one, all places of a crate by one call; RT_JOBS
+says how many at a time. A stored line begins with the edit, the place
 and a digest of the place's text and of the paragraph that it stands in, so it is out of date when one of them changes. An edit with one place and no
 twin has no line: `rt must-fail` tries it by itself.
 Last line: 'N passed, M failed', one for each place.
@@ -127,30 +128,29 @@ def edit_text(place, twin):
 
 
 def scratch(crate, folder):
-    """A repository with all crates and no other edits than those that will be put into this one, over what is proved of them in this checkout."""
-    shutil.copy(ROOT / 'crates.txt', folder)
-    shutil.copytree(ROOT / 'crates', folder / 'crates', ignore=shutil.ignore_patterns('must-fail'))
+    """A repository with all crates and no other edits than those that will be put into this one. rt finds by itself what is proved of them elsewhere."""
+    for name in ('crates.txt', 'HANDLES'):
+        if (ROOT / name).is_file():
+            shutil.copy(ROOT / name, folder)
+    shutil.copytree(ROOT / 'crates', folder / 'crates', ignore=shutil.ignore_patterns('must-fail', 'out'))
     (folder / 'crates' / crate / 'must-fail').mkdir()
-    (folder / 'target').mkdir()
-    shutil.copytree(ROOT / 'target' / 'stamp', folder / 'target' / 'stamp')
-    (folder / 'target' / 'rlib').symlink_to(ROOT / 'target' / 'rlib')
 
 
-def first_error(log, folder):
-    text = log.read_text(encoding='utf-8', errors='replace').replace(f'{folder}/', '')
-    line = next((line for line in text.split('\n') if ': error' in line), '')
-    line = re.sub(r'^target/must-fail/\w+/[\w.]+/', '', line).replace(': error: ', ': ')
+def shortened(line):
+    line = re.sub(r'^(note: )?(\./)?', '', line).replace(': error: ', ': ')
     line = re.sub(r'\s+', ' ', line.replace('|', '/'))
     return line if len(line) <= SHOWN else line[:SHOWN].rstrip() + '..'
 
 
-def verdict(said, crate, label, folder):
-    found = re.search(rf'^rt: must-fail {crate}/{re.escape(label)}: (.*)$', said, re.M)
+def verdict(said, crate, label):
+    """What rt must-fail says of an edit: `refused:` and on what, `passes`, or what else came of it, as where only a name is missing."""
+    found = re.search(rf'^rt: must-fail {crate}/{re.escape(label)}\.edit: (.*)$', said, re.M)
     if not found:
         return 'not tried'
-    if found.group(1).startswith('refused'):
-        return 'refused: ' + first_error(folder / 'target' / 'must-fail' / crate / label / '.log', folder)
-    return 'passes' if found.group(1).startswith('NOT REFUSED') else found.group(1)[:SHOWN]
+    refused = re.match(r'refused, as it must be(?:: (.*))?$', found.group(1))
+    if refused:
+        return 'refused: ' + shortened(refused.group(1) or '')
+    return 'passes' if found.group(1).startswith('NOT REFUSED') else found.group(1).replace('|', '/')[:SHOWN]
 
 
 def tried(places):
@@ -165,8 +165,8 @@ def tried(places):
                 (folder / 'crates' / crate / 'must-fail' / f'{place.label}.twin.edit').write_text(edit_text(place, True), encoding='utf-8')
         said = subprocess.run(['rt', 'must-fail', crate], cwd=folder, capture_output=True, text=True, errors='replace', check=False).stdout
         for place in places:
-            twin = verdict(said, crate, f'{place.label}.twin', folder) if place.twin else 'none'
-            yield place, verdict(said, crate, place.label, folder), twin
+            twin = verdict(said, crate, f'{place.label}.twin') if place.twin else 'none'
+            yield place, verdict(said, crate, place.label), twin
 
 
 def read_stored():
@@ -237,17 +237,14 @@ def store(seen):
 
 
 def try_all(words, again):
-    proved = set()
+    stored, by_crate = read_stored(), {}
     for path in edit_files():
-        stored = read_stored()
         places = [place for place in places_of(path) if not alone(place)]
         places = [place for place in places if again or stored.get((place.edit, place.number), [''])[0] != digest(place)]
-        if not places or not wanted(path, words):
-            continue
-        crate = path.parent.parent.name
-        if crate not in proved:
-            subprocess.run(['rt', 'check', crate], cwd=ROOT, stdout=subprocess.DEVNULL, check=True)
-            proved.add(crate)
+        if places and wanted(path, words):
+            by_crate.setdefault(path.parent.parent.name, []).extend(places)
+    for crate, places in by_crate.items():
+        subprocess.run(['rt', 'check'], cwd=ROOT / 'crates' / crate, stdout=subprocess.DEVNULL, check=True)
         store(list(tried(places)))
 
 

@@ -193,14 +193,13 @@ proved_now() {
     since=$now spoke=$now
 }
 
-# A line of the log. rt names a crate when it begins it, and tells its modules once it is proved; of a crate that is as it was it says neither.
+# A line of the log. rt names a crate when it begins it, and at its end its modules, and then whether it is proved; of a crate that is as it was it says
+# nothing.
 follow() {
     case $1 in
     'rt: chose --jobs '*' for '*) at_crate=${1##* } at_step='' since=$now ;;
-    'crate '*': modules loaded='*' checked='*)
-        proved_name=${1#crate }
-        proved_now "${proved_name%%:*}" "${1##*checked=}"
-        ;;
+    'crate '*': modules loaded='*' checked='*) seen=${1#crate } ;;
+    'logic=proved '*) [ -z "$seen" ] || proved_now "${seen%%:*}" "${seen##*checked=}" ;;
     'step: '*)
         at_step=${1#step: } since=$now spoke=$now
         say "$at_step"
@@ -210,7 +209,7 @@ follow() {
 
 # Says what the growing log tells, and, where that is nothing for a while, what is being done. Ends with the build, or with this script ($1).
 progress() {
-    plan=$(needed) at_crate='' at_step='looking at what is proved' part='' building=yes
+    plan=$(needed) at_crate='' seen='' at_step='looking at what is proved' part='' building=yes
     total=$(echo "$plan" | wc -l) now=$(date +%s)
     since=$now spoke=$now
     exec 8<"$log"
