@@ -39,6 +39,7 @@ pub struct WorkDone {
 
 // The work done, and both records written: the thread's with the next index and the object's with the chains that the work gave. First the threads of a
 // chain that moves whole are changed, then one record is, and those that join a chain are put at their places; at last exits are let out.
+#[tactic(auto, using(lock_table::proofs::Places::place_inside))]
 fn chains_done(
     table: Table,
     thread: u8,

@@ -24,6 +24,7 @@ fn handing(monitor: Monitor) -> ChainWork
 // All objects, rising. Where nobody waits nobody moves, and a monitor that nobody holds has nobody to be handed to. The waiters are parted in this
 // function's own table; those that run out, if there are any, join the entry chain, and its first is handed a monitor that nobody holds. Only the hand
 // unparks anybody.
+#[tactic(auto, using(lock_table::proofs::Places::place_inside))]
 pub(crate) fn tick(table: Table) -> WorkDone
     ensures { result ≡ tick table }
 {

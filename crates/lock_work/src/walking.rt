@@ -31,6 +31,7 @@ pub(crate) fn move_all(table: Table, first: u8) -> Table
 }
 
 // Each thread from `back` on joins the chain that begins with `begins`, at its place.
+#[tactic(auto, using(lock_table::proofs::Places::place_inside))]
 pub(crate) fn queue(table: Table, into: Chain, begins: u8, back: u8) -> JoinedChain
     ensures { result ≡ queue into thread_limit table begins back }
 {
@@ -56,6 +57,7 @@ pub(crate) fn queue(table: Table, into: Chain, begins: u8, back: u8) -> JoinedCh
 }
 
 // The queued exits leave the entry chain that begins with `first`, and the others stay in order.
+#[tactic(auto, using(lock_table::proofs::Places::place_inside))]
 pub(crate) fn part_exits(table: Table, first: u8) -> PartedChain
     ensures { result ≡ exits_parted table first }
 {
