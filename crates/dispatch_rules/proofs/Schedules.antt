@@ -10,6 +10,7 @@ use Rattle.lock_rules.specs.declared.event.Event.TheVariants.{Step as StepOf}
 use Rattle.lock_table.specs.WellTyped.{WellTyped}
 use Rattle.lock_table.specs.Fresh.{fresh_of}
 use Rattle.lock_table.specs.declared.record.Table.{Table}
+use Rattle.lock_engine.specs.Handle.{handle}
 use Rattle.lock_schedule.specs.Schedule.{final_of}
 use Rattle.lock_schedule.specs.Demand.{Claim}
 use Rattle.lock_schedule.proofs.{Theorem.demand_three, Theorem.reached_well_typed, Steps.six_steps}
@@ -28,7 +29,7 @@ use Rattle.dispatch_rules.proofs.Ends.{first_good, runs}
 -- schedules one behind the other
 pub final_append : (table : Table) (xs ys : List Event) → final_of table (xs ++ ys) ≡ final_of (final_of table xs) ys
 final_append table [] ys = refl
-final_append table (x ∷ xs) ys = final_append _ xs ys
+final_append table (x ∷ xs) ys = final_append (handle table x).table xs ys
 
 events_append : (xs ys : List (Step Scripted Shown)) → events_of (xs ++ ys) ≡ events_of xs ++ events_of ys
 events_append [] ys = refl

@@ -27,14 +27,14 @@ module _ (bytes : List ℕ) (at : ℕ) (table : Table) {left : ℕ} where
   run_goes_on some is gave = rw (gave, is) (ap (final_of table) (events_next some bytes at))
 
 -- with a table made the run is that of the schedule
-made_runs : (events : List Event) (fresh : FreshTable) → fresh .answer ≡ Made
-    → (run_fresh (fresh .answer) (fresh .table) events).table ≡ final_of (fresh .table) events
+made_runs : (events : List Event) (fresh : FreshTable) → fresh.answer ≡ Made
+    → (run_fresh (fresh.answer) (fresh.table) events).table ≡ final_of (fresh.table) events
 unfolding run_fresh
-made_runs events fresh made = ap (λ (answer : FreshAnswer). (run_fresh answer (fresh .table) events).table) made
+made_runs events fresh made = ap (λ (answer : FreshAnswer). (run_fresh answer (fresh.table) events).table) made
 
 module _ (request : FreshRequest) (events : List Event) {result : RunResult} where
-  pub run_same : {fresh : FreshTable} → fresh ≡ fresh_of request → result ≡ run_fresh (fresh .answer) (fresh .table) events → result ≡ run_of request events
-  run_same gave ran = ran ∙ ap (λ (fresh : FreshTable). run_fresh (fresh .answer) (fresh .table) events) gave
+  pub run_same : {fresh : FreshTable} → fresh ≡ fresh_of request → result ≡ run_fresh (fresh.answer) (fresh.table) events → result ≡ run_of request events
+  run_same gave ran = ran ∙ ap (λ (fresh : FreshTable). run_fresh (fresh.answer) (fresh.table) events) gave
 
   -- its table is the one that the schedule came to
   ran_to : result ≡ run_of request events → InRange request → result.table ≡ final_of (fresh_of request).table events

@@ -60,17 +60,17 @@ pub react_known : (session : Session) (line : Line) {issound : Bool} → issound
 react_known session line known = react_with session.stage session.table known line
 
 -- an unsound table is left alone
-refused_same : (table : Table) (event : Event) → sound_of table ≡ false → handle table event.table ≡ table
+refused_same : (table : Table) (event : Event) → sound_of table ≡ false → (handle table event).table ≡ table
 unfolding handle
 refused_same table event unsound = rw unsound (ap (λ (outcome : Outcome). outcome.table) (handle_shut table event false NotSound (shut event)))
   where
     shut : (event : Event)
-        → gate false (table .threadcount) (table .objectcount) event (thread_status (thread_at table (event_thread event).phase)) ≡ Shut NotSound
+        → gate false table.threadcount table.objectcount event (thread_status (thread_at table (event_thread event)).phase) ≡ Shut NotSound
     shut (BeginEvent operation thread object limit) = refl
     shut (StepEvent thread) = refl
     shut TickEvent = refl
 
-event_same : (table : Table) → WellTyped table → (event : Event) (issound : Bool) → sound_of table ≡ issound → sound_of (handle table event.table) ≡ sound_of table
+event_same : (table : Table) → WellTyped table → (event : Event) (issound : Bool) → sound_of table ≡ issound → sound_of (handle table event).table ≡ sound_of table
 event_same table typed event true sound = sound_kept table typed sound event ∙ sym sound
 event_same table typed event false unsound = ap sound_of (refused_same table event unsound)
 
