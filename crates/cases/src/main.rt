@@ -2,59 +2,61 @@
 // document 01 is among them. The other cases are executed on the library for C, by tests in Rust (tests/tables).
 #![tactic(auto)]
 
-use libc::STDOUT_FILENO;
 use lock_table::{FreshAnswer, Table};
 
-// hexadecimal digits of a word
-const DIGITS: usize = 6;
-
-fn write_number(number: u64) {
-    io::write_all(STDOUT_FILENO, b" ");
-    io::print_decimal(STDOUT_FILENO, number);
+fn write_number<P: Print>(rt: &P, number: u64) {
+    let _ = print!(rt; " {number}");
 }
 
-fn write_phase(table: Table, thread: u8) {
+fn write_phase<P: Print>(rt: &P, table: Table, thread: u8) {
     let record = lock_table::thread_at(table, thread);
     let phase = record.phase;
-    write_number(lock_table::phase_number(phase) as u64);
+    write_number(rt, lock_table::phase_number(phase) as u64);
 }
 
-fn write_word(table: Table, object: u8) {
+// Six hexadecimal digits, or as many as the word has.
+fn write_word<P: Print>(rt: &P, table: Table, object: u8) {
     let record = lock_table::object_at(table, object);
-    io::write_all(STDOUT_FILENO, b" ");
-    io::print_hex(STDOUT_FILENO, record.word as u64, DIGITS);
+    let word = record.word;
+    let _ = print!(rt; " {word:06x}");
 }
 
 // The number returned; then, of a table that was made, the phases of threads 1 and 2, and the words of objects 1 and 2.
-fn write_run(answer: FreshAnswer, table: Table) {
-    write_number(lock_table::fresh_returned(answer) as u64);
+fn write_run<P: Print>(rt: &P, answer: FreshAnswer, table: Table) {
+    write_number(rt, lock_table::fresh_returned(answer) as u64);
     match answer {
         FreshAnswer::Made => {
-            write_phase(table, 1);
-            write_phase(table, 2);
-            write_word(table, 1);
-            write_word(table, 2);
+            write_phase(rt, table, 1);
+            write_phase(rt, table, 2);
+            write_word(rt, table, 1);
+            write_word(rt, table, 2);
         }
         FreshAnswer::Refused(_) => {}
     }
-    io::write_all(STDOUT_FILENO, b"\n");
+    let _ = println!(rt; "");
 }
 
 // A run's result stays here: what it promises is long, and whoever has the result carries it along, which a check pays for.
-fn run_case(name: &[u8], threads: u16, objects: u16, reserved: bool, events: &[u8]) {
-    io::write_all(STDOUT_FILENO, name);
-    io::write_all(STDOUT_FILENO, b":");
+fn run_case<P: Print>(
+    rt: &P,
+    name: &str,
+    threads: u16,
+    objects: u16,
+    reserved: bool,
+    events: &[u8],
+) {
+    let _ = print!(rt; "{name}:");
     let result = lock_schedule::run(
         lock_table::sized_request(threads, objects, reserved),
         events,
     );
     let answer = result.answer;
     let table = result.table;
-    write_run(answer, table);
+    write_run(rt, answer, table);
 }
 
 // Document 01's listing, whole and cut off: its eighth event is the exit of thread 1.
-fn listing_cases() {
+fn listing_cases<P: Print>(rt: &P) {
     let listing = *b"\
         \x00\x01\x01\x01\x00\x00\x00\x00\
         \x01\x01\x00\x00\x00\x00\x00\x00\
@@ -71,51 +73,51 @@ fn listing_cases() {
         \x01\x01\x00\x00\x00\x00\x00\x00\
         \x01\x02\x00\x00\x00\x00\x00\x00\
         \x01\x02\x00\x00\x00\x00\x00\x00";
-    run_case(b"listing", 2, 1, false, &listing);
-    run_case(b"listing, 63 bytes", 2, 1, false, &listing[..63]);
-    run_case(b"listing, 64 bytes", 2, 1, false, &listing[..64]);
+    run_case(rt, "listing", 2, 1, false, &listing);
+    run_case(rt, "listing, 63 bytes", 2, 1, false, &listing[..63]);
+    run_case(rt, "listing, 64 bytes", 2, 1, false, &listing[..64]);
 }
 
 // What is no event, and what is one but names no kind or no operation.
-fn encoding_cases() {
+fn encoding_cases<P: Print>(rt: &P) {
     let begin = *b"\x00\x01\x01\x01\x00\x00\x00\x00";
-    run_case(b"no bytes", 2, 1, false, b"");
-    run_case(b"7 bytes", 2, 1, false, &begin[..7]);
-    run_case(b"8 bytes", 2, 1, false, &begin);
+    run_case(rt, "no bytes", 2, 1, false, b"");
+    run_case(rt, "7 bytes", 2, 1, false, &begin[..7]);
+    run_case(rt, "8 bytes", 2, 1, false, &begin);
     // begins of no operation and of one too many, and a step of nobody
     let unknown = b"\
         \x00\x01\x00\x01\x00\x00\x00\x00\
         \x00\x01\x06\x01\x00\x00\x00\x00\
         \x01\x03\x00\x00\x00\x00\x00\x00";
-    run_case(b"refused", 2, 1, false, unknown);
+    run_case(rt, "refused", 2, 1, false, unknown);
     // the events of two kinds that are none, of thread 1; thread 2 begins behind them
     let kinds = b"\
         \x02\x01\x01\x01\x00\x00\x00\x00\
         \xff\x01\x01\x01\x00\x00\x00\x00\
         \x00\x02\x01\x01\x00\x00\x00\x00";
-    run_case(b"no such kind", 2, 1, false, kinds);
+    run_case(rt, "no such kind", 2, 1, false, kinds);
     // a kind that is none is no step either
     let stays = b"\
         \x00\x01\x01\x01\x00\x00\x00\x00\
         \x02\x01\x00\x00\x00\x00\x00\x00";
-    run_case(b"no step", 2, 1, false, stays);
+    run_case(rt, "no step", 2, 1, false, stays);
 }
 
 // Thread 1 enters object 2: the kinds of words, and sizes out of range. The bytes that an event does not read have no meaning.
-fn size_cases() {
+fn size_cases<P: Print>(rt: &P) {
     let enter = b"\
         \x00\x01\x01\x02\xff\xff\xff\xff\
         \x01\x01\x06\x07\xff\xff\xff\xff";
-    run_case(b"enter, free", 2, 2, false, enter);
-    run_case(b"enter, reserved", 2, 2, true, enter);
-    run_case(b"no threads", 0, 2, true, enter);
-    run_case(b"65 objects", 2, 65, true, enter);
-    run_case(b"K7 32", 32, 1, false, b"");
-    run_case(b"K7 33", 33, 1, false, b"");
+    run_case(rt, "enter, free", 2, 2, false, enter);
+    run_case(rt, "enter, reserved", 2, 2, true, enter);
+    run_case(rt, "no threads", 0, 2, true, enter);
+    run_case(rt, "65 objects", 2, 65, true, enter);
+    run_case(rt, "K7 32", 32, 1, false, b"");
+    run_case(rt, "K7 33", 33, 1, false, b"");
 }
 
 // Thread 1 enters and waits; thread 2 enters and notifies, then exits, and thread 1 goes on.
-fn waiting_cases() {
+fn waiting_cases<P: Print>(rt: &P) {
     let waiting = *b"\
         \x00\x01\x01\x01\x00\x00\x00\x00\
         \x01\x01\x00\x00\x00\x00\x00\x00\
@@ -134,14 +136,14 @@ fn waiting_cases() {
         \x01\x02\x00\x00\x00\x00\x00\x00\
         \x01\x02\x00\x00\x00\x00\x00\x00\
         \x01\x01\x00\x00\x00\x00\x00\x00";
-    run_case(b"waiting", 2, 1, false, &waiting[..56]);
-    run_case(b"notified", 2, 1, false, &waiting[..104]);
-    run_case(b"resumed", 2, 1, false, &waiting);
+    run_case(rt, "waiting", 2, 1, false, &waiting[..56]);
+    run_case(rt, "notified", 2, 1, false, &waiting[..104]);
+    run_case(rt, "resumed", 2, 1, false, &waiting);
 }
 
-fn main() {
-    listing_cases();
-    encoding_cases();
-    size_cases();
-    waiting_cases();
+fn main(rt: HostRuntime) {
+    listing_cases(&rt);
+    encoding_cases(&rt);
+    size_cases(&rt);
+    waiting_cases(&rt);
 }

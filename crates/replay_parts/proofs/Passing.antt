@@ -11,13 +11,13 @@ use Rattle.replay_lines.specs.Cutting.{line_end, line_limit}
 use Rattle.replay_parts.specs.Replay.{Replay, rest_output}
 use Rattle.replay_parts.specs.Part.{end_room, Fed, Passed, Settled}
 
-pub passed_none : {S : Type 0} (replay : Replay S) (session : S) (inside last : Bool) (input : List ℕ)
+unfoldable pub passed_none : {S : Type 0} (replay : Replay S) (session : S) (inside last : Bool) (input : List ℕ)
     → Passed replay session inside last input session inside input
 passed_none replay session inside last input = record { printed = []; prints = λ tail follows. refl }
 
 module _ {S : Type 0} {replay : Replay S} {session session' : S} {inside inside' : Bool} {input rest : List ℕ} where
   -- what a part more prints stands behind what was printed
-  pub passed_fed : {last : Bool} {out : List ℕ} {session'' : S} {inside'' : Bool} {used wrote : ℕ}
+  unfoldable pub passed_fed : {last : Bool} {out : List ℕ} {session'' : S} {inside'' : Bool} {used wrote : ℕ}
       → Passed replay session inside last input session' inside' rest
       → Fed replay session' inside' last rest out session'' inside'' used wrote
       → Passed replay session inside last input session'' inside'' (drop used rest)
@@ -29,7 +29,7 @@ module _ {S : Type 0} {replay : Replay S} {session session' : S} {inside inside'
   }
 
   -- the part that was passed on before stands in front
-  pub passed_both : {last : Bool} {session'' : S} {inside'' : Bool} {rest'' : List ℕ}
+  unfoldable pub passed_both : {last : Bool} {session'' : S} {inside'' : Bool} {rest'' : List ℕ}
       → Passed replay session inside false input session' inside' rest
       → Passed replay session' inside' last rest session'' inside'' rest''
       → Passed replay session inside last input session'' inside'' rest''
@@ -41,7 +41,7 @@ module _ {S : Type 0} {replay : Replay S} {session session' : S} {inside inside'
   }
 
   -- bytes that come behind the input come behind its rest
-  pub passed_more : (more : List ℕ) → Passed replay session inside false input session' inside' rest
+  unfoldable pub passed_more : (more : List ℕ) → Passed replay session inside false input session' inside' rest
       → Passed replay session inside false (input ++ more) session' inside' (rest ++ more)
   passed_more more passed = record {
     printed = passed.printed;

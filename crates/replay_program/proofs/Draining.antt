@@ -1,11 +1,12 @@
--- The input passed on part by part: what holds between two parts, and where it stops.
+-- The input passed on part by part, and what it printed written: what holds between two parts, and where it stops.
 use Prim.Native.Nat.{ℕ, ◌+◌, ◌-◌, ◌≤◌}
-use mathlib.Core.Path.{◌≡◌, ap, sym, ◌∙◌, subst}
+use mathlib.Core.Path.{◌≡◌, refl, ap, sym, ◌∙◌, subst}
 use mathlib.Core.Bool.{Bool, true, false}
 use mathlib.Core.List.{List}
 use native.Mathlib.Omega.{arith}
 use lib.ListN.{length, take, drop, length-drop}
 use lib.Seq.{drop-drop}
+use Rattle.std.specs.Prelude.{Option}
 use Rattle.laws.proofs.Choice.{false≢true}
 use Rattle.replay_lines.proofs.Fields.{rest_of}
 use Rattle.replay_parts.specs.Part.{end_room}
@@ -13,29 +14,44 @@ use Rattle.replay_parts.proofs.Passing.{passed_none, passed_fed, settled}
 use Rattle.program_state.specs.Take.{program}
 use Rattle.replay_stream.specs.declared.feeding.{Stream.Stream, Progress.Progress}
 use Rattle.replay_stream.specs.Stream.{FedFrom}
-use Rattle.replay_program.specs.Run.{PassedOn, SettledAt, Drains}
+use Rattle.replay_program.specs.Run.{PassedOn, SettledAt, Written, DrainsTo}
+use Rattle.replay_program.proofs.Written.{written_none, written_both}
 
--- the input was passed on up to `rest`, which stands at its end
-pub record Draining (start : Stream) (last : Bool) (input : List ℕ) (stream : Stream) (rest : List ℕ) : Type 0 where
+-- the input was passed on up to `rest`, and what it printed on the way was written, or its front where a write failed
+pub record PassedTo (failed : Bool) (before after : Option (List ℕ)) (start : Stream) (last : Bool) (input : List ℕ) (stream : Stream) (rest : List ℕ) : Type 0 where
+  pub passed : PassedOn start last input stream rest
+  pub wrote : Written failed before after passed.printed
+
+pub passed_to_none : (written : Option (List ℕ)) (start : Stream) (last : Bool) (input : List ℕ) → PassedTo false written written start last input start input
+unfolding passed_none
+passed_to_none written start last input = record { passed = passed_none program start.state start.inside last input; wrote = written_none false written }
+
+-- the same, and the rest stands at the input's end
+pub record Draining (failed : Bool) (before after : Option (List ℕ)) (start : Stream) (last : Bool) (input : List ℕ) (stream : Stream) (rest : List ℕ) : Type 0 where
   pub rest_within : length rest ≤ length input
   pub rest_place : drop (length input - length rest) input ≡ rest
-  pub passed : PassedOn start last input stream rest
+  pub passed : PassedTo failed before after start last input stream rest
 
-pub draining_first : (start : Stream) (last : Bool) (input : List ℕ) → Draining start last input start input
-draining_first start last input = record {
+pub draining_first : (written : Option (List ℕ)) (start : Stream) (last : Bool) (input : List ℕ) → Draining false written written start last input start input
+draining_first written start last input = record {
   rest_within = omega arith;
   rest_place = ap (λ (n : ℕ). drop n input) (let none : length input - length input ≡ 0 = omega arith in none);
-  passed = passed_none program start.state start.inside last input;
+  passed = passed_to_none written start last input;
 }
 
 -- the rest as a slice that begins in the middle has it
 abbrev pub rest_behind : ℕ → List ℕ → List ℕ
 rest_behind used rest = take (length rest - used) (drop used rest)
 
-module _ {start stream : Stream} {last : Bool} {input rest : List ℕ} (draining : Draining start last input stream rest) where
-  fed_further : {out : List ℕ} {r : Progress} → FedFrom stream.state stream.inside last rest out r
-      → Draining start last input r.stream (drop r.used rest)
-  fed_further {out} {r} fed =
+module _ {before now : Option (List ℕ)} {start stream : Stream} {last : Bool} {input rest : List ℕ} (draining : Draining false before now start last input stream rest) where
+  passed_further : {failed : Bool} {after : Option (List ℕ)} {out : List ℕ} {r : Progress} → FedFrom stream.state stream.inside last rest out r
+      → Written failed now after (take r.wrote out) → PassedTo failed before after start last input r.stream (drop r.used rest)
+  unfolding passed_fed
+  passed_further fed more = record { passed = passed_fed draining.passed.passed fed; wrote = written_both draining.passed.wrote more }
+
+  fed_further : {failed : Bool} {after : Option (List ℕ)} {out : List ℕ} {r : Progress} → FedFrom stream.state stream.inside last rest out r
+      → Written failed now after (take r.wrote out) → Draining failed before after start last input r.stream (drop r.used rest)
+  fed_further {out = out} {r} fed more =
       let left : length (drop r.used rest) ≡ length rest - r.used = length-drop r.used rest in
       let fits = fed.used_within in
       record {
@@ -45,29 +61,45 @@ module _ {start stream : Stream} {last : Bool} {input rest : List ℕ} (draining
             (let further : length input - length (drop r.used rest) ≡ (length input - length rest) + r.used =
             omega (arith, left, fits, draining.rest_within) in further)
             ∙ sym (drop-drop r.used (length input - length rest) input) ∙ ap (drop r.used) draining.rest_place;
-        passed = passed_fed draining.passed fed;
+        passed = passed_further fed more;
       }
 
   -- a part more
-  pub draining_next : {out : List ℕ} {r : Progress} → FedFrom stream.state stream.inside last rest out r
-      → Draining start last input r.stream (rest_behind r.used rest)
-  draining_next {r = r} fed = subst (λ (x : List ℕ). Draining start last input r.stream x) (sym (rest_of r.used rest)) (fed_further fed)
+  pub draining_next : {failed : Bool} {after : Option (List ℕ)} {out : List ℕ} {r : Progress} → FedFrom stream.state stream.inside last rest out r
+      → Written failed now after (take r.wrote out) → Draining failed before after start last input r.stream (rest_behind r.used rest)
+  draining_next {failed} {after} {r = r} fed more =
+      subst (λ (x : List ℕ). Draining failed before after start last input r.stream x) (sym (rest_of r.used rest)) (fed_further fed more)
+
+module _ {failed : Bool} {before after : Option (List ℕ)} {start stream : Stream} {last : Bool} {input rest : List ℕ} (draining : Draining failed before after start last input stream rest) where
+  -- the rest where it stands in the input
+  passed_up_to : PassedTo failed before after start last input stream (drop (length input - length rest) input)
+  passed_up_to = subst (λ (x : List ℕ). PassedTo failed before after start last input stream x) (sym draining.rest_place) draining.passed
+
+  -- no write failed
+  pub draining_on : failed ≡ false → Draining false before after start last input stream rest
+  draining_on wrote = subst (λ (x : Bool). Draining x before after start last input stream rest) wrote draining
 
   -- a write failed
-  pub drained_failed : Drains start last input (record { stream = stream; from = length input - length rest; failed = true })
-  drained_failed = record {
-    from_within = omega arith;
-    passed = subst (λ (x : List ℕ). PassedOn start last input stream x) (sym draining.rest_place) draining.passed;
-    settled = λ never. false≢true (sym never);
-  }
+  drained_so : (b : Bool) → failed ≡ b → (b ≡ false → SettledAt stream last rest)
+      → DrainsTo before after start last input (record { stream = stream; from = length input - length rest; failed = b })
+  drained_so b same at_rest =
+      let up = subst (λ (x : Bool). PassedTo x before after start last input stream (drop (length input - length rest) input)) same passed_up_to in
+      record {
+        drains = record {
+          from_within = omega arith;
+          passed = up.passed;
+          settled = λ wrote. subst (λ (x : List ℕ). SettledAt stream last x) (sym draining.rest_place) (at_rest wrote);
+        };
+        wrote = up.wrote;
+      }
+
+  pub drained_failed : failed ≡ true → DrainsTo before after start last input (record { stream = stream; from = length input - length rest; failed = true })
+  drained_failed fails = drained_so true fails (λ never. false≢true (sym never))
 
   -- nothing more can be taken
-  pub drained_settled : SettledAt stream last rest → Drains start last input (record { stream = stream; from = length input - length rest; failed = false })
-  drained_settled at_rest = record {
-    from_within = omega arith;
-    passed = subst (λ (x : List ℕ). PassedOn start last input stream x) (sym draining.rest_place) draining.passed;
-    settled = λ wrote. subst (λ (x : List ℕ). SettledAt stream last x) (sym draining.rest_place) at_rest;
-  }
+  pub drained_settled : failed ≡ false → SettledAt stream last rest
+      → DrainsTo before after start last input (record { stream = stream; from = length input - length rest; failed = false })
+  drained_settled wrote at_rest = drained_so false wrote (λ none. at_rest)
 
 -- a part of which nothing is taken is left as it is
 pub untouched : {stream : Stream} {last : Bool} {rest out : List ℕ} {r : Progress} → FedFrom stream.state stream.inside last rest out r

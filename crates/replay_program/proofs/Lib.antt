@@ -1,5 +1,6 @@
 -- Laws of the program.
 pub mod Counts
+pub mod Written
 pub mod Draining
 pub mod Taking
 pub mod ReadSoFar

@@ -1,63 +1,101 @@
--- What the run has read and passed on between two reads, and what that gives where it ends.
+-- What the run has read, passed on and written between two reads, and what that gives where it ends.
 use Prim.Native.Nat.{ℕ, ◌+◌, ◌-◌, ◌≤◌}
 use mathlib.Core.Path.{◌≡◌, ap, sym, ◌∙◌, subst}
-use mathlib.Core.Bool.{Bool, false}
+use mathlib.Core.Bool.{Bool, true, false}
 use mathlib.Core.List.{List, [], ◌++◌}
 use native.Mathlib.Omega.{arith}
 use lib.ListN.{take, drop}
 use lib.Seq.{take-add, length-take-le}
+use Rattle.std.specs.Prelude.{Option}
+use Rattle.std.specs.Io.KnownBytes.{Consumes, IsAtEnd}
+use Rattle.std.proofs.KnownBytes.{Consumes-nil, Consumes-trans}
+use Rattle.laws.proofs.Choice.{false≢true}
 use Rattle.replay_lines.specs.Cutting.{line_limit}
-use Rattle.replay_parts.specs.Part.{Passed}
-use Rattle.replay_parts.proofs.Passing.{passed_none, passed_both, passed_more}
-use Rattle.program_state.specs.State.{fresh_state}
-use Rattle.program_state.specs.Take.{program}
+use Rattle.replay_parts.proofs.Passing.{passed_both, passed_more}
 use Rattle.replay_stream.specs.declared.feeding.Stream.{Stream}
 use Rattle.replay_stream.specs.Stream.{fresh_stream}
 use Rattle.replay_program.specs.declared.{ending.Ending.Ending, running.Held.Held, moving.Moved.Moved}
-use Rattle.replay_program.specs.Run.{Takes, ReadBehind, EndedAs, Runs}
+use Rattle.replay_program.specs.Run.{TakesTo, ReadBehind, EndedAs, write_failed, RunsOn}
+use Rattle.replay_program.proofs.Written.{written_both}
+use Rattle.replay_program.proofs.Draining.{PassedTo, passed_to_none}
 
--- some input was read, and passed on up to `rest`; `ended` says that it has ended
-pub record Read (reporting ended : Bool) (stream : Stream) (rest : List ℕ) : Type 0 where
+-- some input was read, and passed on up to `rest`, and what it printed was written; `ended` says that it has ended, and `failed` that a write failed
+pub record Read (reporting ended failed : Bool) (readbefore readafter writtenbefore writtenafter : Option (List ℕ)) (stream : Stream) (rest : List ℕ) : Type 0 where
   pub input : List ℕ
-  pub passed : Passed program (fresh_state reporting) false ended input stream.state stream.inside rest
+  pub passed : PassedTo failed writtenbefore writtenafter (fresh_stream reporting) ended input stream rest
+  pub read : Consumes readbefore readafter input
+  pub at_end : ended ≡ true → IsAtEnd readafter
 
-pub read_first : {reporting : Bool} {stream : Stream} → stream ≡ fresh_stream reporting → Read reporting false stream []
-read_first {reporting} fresh =
-    subst (λ (x : Stream). Read reporting false x []) (sym fresh) (record { input = []; passed = passed_none program (fresh_state reporting) false false [] })
+pub read_first : {reporting : Bool} {stream : Stream} (given written : Option (List ℕ)) → stream ≡ fresh_stream reporting
+    → Read reporting false false given given written written stream []
+read_first {reporting} given written fresh =
+    subst (λ (x : Stream). Read reporting false false given given written written x []) (sym fresh) (record {
+      input = [];
+      passed = passed_to_none written (fresh_stream reporting) false [];
+      read = Consumes-nil given;
+      at_end = λ never. false≢true never;
+    })
 
-module _ {reporting : Bool} {stream : Stream} {held : ℕ} {before after : List ℕ} {r : Moved} (behind : ReadBehind held before after r)
-    (read : Read reporting false stream (take held before)) where
-  -- nothing came
-  pub read_same : Read reporting false stream (take held after)
-  read_same = subst (λ (x : List ℕ). Read reporting false stream x) (sym behind.kept) read
-
+module _ {reporting : Bool} {readbefore readnow readafter writtenbefore writtennow : Option (List ℕ)} {stream : Stream} {held : ℕ} {before after : List ℕ} {r : Moved}
+    (behind : ReadBehind held before after r) (came : Consumes readnow readafter (take (r.count - held) (drop held after)))
+    (read : Read reporting false false readbefore readnow writtenbefore writtennow stream (take held before)) where
   -- what came stands behind what was held
-  pub read_more : Read reporting false stream (take r.count after)
+  pub read_more : Read reporting false false readbefore readafter writtenbefore writtennow stream (take r.count after)
+  unfolding passed_more
   read_more =
       let more = take (r.count - held) (drop held after) in
       let order = behind.from_held in
       let whole : held + (r.count - held) ≡ r.count = omega arith in
       let joined : take held before ++ more ≡ take r.count after =
       ap (λ (x : List ℕ). x ++ more) (sym behind.kept) ∙ sym (take-add held (r.count - held) after) ∙ ap (λ (n : ℕ). take n after) whole in
+      let further : PassedTo false writtenbefore writtennow (fresh_stream reporting) false (read.input ++ more) stream (take held before ++ more) =
+      record { passed = passed_more more read.passed.passed; wrote = read.passed.wrote } in
       record {
         input = read.input ++ more;
-        passed =
-            subst (λ (x : List ℕ). Passed program (fresh_state reporting) false false (read.input ++ more) stream.state stream.inside x) joined
-            (passed_more more read.passed);
+        passed = subst (λ (x : List ℕ). PassedTo false writtenbefore writtennow (fresh_stream reporting) false (read.input ++ more) stream x) joined further;
+        read = Consumes-trans readbefore readnow readafter read.input more read.read came;
+        at_end = λ never. false≢true never;
       }
 
+  -- nothing came
+  pub read_same : r.failed ≡ true → Read reporting false false readbefore readafter writtenbefore writtennow stream (take held after)
+  read_same fails =
+      subst (λ (n : ℕ). Read reporting false false readbefore readafter writtenbefore writtennow stream (take n after)) (behind.none_failed fails) read_more
+
 -- a part was taken
-module _ {start : Stream} {last : Bool} {count : ℕ} {before after : List ℕ} {r : Held} (takes : Takes start last count before after r) where
-  pub read_taken : {reporting : Bool} → Read reporting false start (take count before) → Read reporting last r.stream (take r.held after)
-  read_taken read = record { input = read.input; passed = passed_both read.passed takes.passed }
+module _ {writtennow writtenafter : Option (List ℕ)} {start : Stream} {last : Bool} {count : ℕ} {before after : List ℕ} {r : Held}
+    (to : TakesTo writtennow writtenafter start last count before after r) where
+  pub read_taken : {reporting : Bool} {readbefore readafter writtenbefore : Option (List ℕ)} → (last ≡ true → IsAtEnd readafter)
+      → Read reporting false false readbefore readafter writtenbefore writtennow start (take count before)
+      → Read reporting last r.failed readbefore readafter writtenbefore writtenafter r.stream (take r.held after)
+  unfolding passed_both
+  read_taken at_end read = record {
+    input = read.input;
+    passed = record { passed = passed_both read.passed.passed to.takes.passed; wrote = written_both read.passed.wrote to.wrote };
+    read = read.read;
+    at_end = at_end;
+  }
 
   pub held_short : r.failed ≡ false → r.held ≤ line_limit
-  held_short wrote = omega (arith, (takes.settled wrote).short, length-take-le r.held after takes.held_within)
+  held_short wrote = omega (arith, (to.takes.settled wrote).short, length-take-le r.held after to.takes.held_within)
 
--- the input has not ended
-pub read_open : {reporting ended : Bool} {stream : Stream} {rest : List ℕ} → ended ≡ false → Read reporting ended stream rest → Read reporting false stream rest
-read_open {reporting} {stream = stream} {rest} more read = subst (λ (x : Bool). Read reporting x stream rest) more read
+-- the input has not ended, and no write failed
+pub read_open : {reporting ended failed : Bool} {readbefore readafter writtenbefore writtenafter : Option (List ℕ)} {stream : Stream} {rest : List ℕ}
+    → ended ≡ false → failed ≡ false → Read reporting ended failed readbefore readafter writtenbefore writtenafter stream rest
+    → Read reporting false false readbefore readafter writtenbefore writtenafter stream rest
+read_open {reporting} {ended} {failed} {readbefore} {readafter} {writtenbefore} {writtenafter} {stream} {rest} more wrote read =
+    subst (λ (x : Bool). Read reporting x false readbefore readafter writtenbefore writtenafter stream rest) more
+    (subst (λ (x : Bool). Read reporting ended x readbefore readafter writtenbefore writtenafter stream rest) wrote read)
 
-pub runs : {reporting ended : Bool} {stream : Stream} {held : ℕ} {buffer : List ℕ} {ending : Ending} → Read reporting ended stream (take held buffer)
-    → EndedAs ending ended stream (take held buffer) → Runs reporting buffer (record { stream = stream; held = held; ending = ending })
-runs {ended = ended} read right = record { input = read.input; ended = ended; passed = read.passed; right = right }
+pub runs : {reporting ended failed : Bool} {readbefore readafter writtenbefore writtenafter : Option (List ℕ)} {stream : Stream} {held : ℕ} {buffer : List ℕ} {ending : Ending}
+    → Read reporting ended failed readbefore readafter writtenbefore writtenafter stream (take held buffer) → failed ≡ write_failed ending
+    → EndedAs ending ended stream (take held buffer)
+    → RunsOn reporting readbefore readafter writtenbefore writtenafter buffer (record { stream = stream; held = held; ending = ending })
+runs {reporting} {ended} {failed} {readbefore} {readafter} {writtenbefore} {writtenafter} {stream} {held} {buffer} {ending} read same right =
+    let told = subst (λ (x : Bool). Read reporting ended x readbefore readafter writtenbefore writtenafter stream (take held buffer)) same read in
+    record {
+      runs = record { input = told.input; ended = ended; passed = told.passed.passed; right = right };
+      read = told.read;
+      at_end = told.at_end;
+      wrote = told.passed.wrote;
+    }

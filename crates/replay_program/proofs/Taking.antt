@@ -6,21 +6,30 @@ use mathlib.Core.List.{List}
 use native.Mathlib.Omega.{arith}
 use lib.ListN.{length, take, drop}
 use lib.Seq.{length-take-le}
+use Rattle.std.specs.Prelude.{Option}
 use Rattle.replay_parts.specs.Keeping.{keep_rest}
 use Rattle.replay_parts.proofs.Kept.{kept_front, kept_length}
 use Rattle.replay_stream.specs.declared.feeding.Stream.{Stream}
 use Rattle.replay_program.specs.declared.running.Drained.{Drained}
-use Rattle.replay_program.specs.Run.{PassedOn, SettledAt, Drains, Takes}
+use Rattle.replay_program.specs.Run.{SettledAt, DrainsTo, TakesTo}
+use Rattle.replay_program.proofs.Draining.{PassedTo}
 
-pub taken_part : {start : Stream} {last : Bool} {held : ℕ} {before after : List ℕ} {r : Drained} → held ≤ length before
-    → Drains start last (take held before) r → after ≡ keep_rest r.from held before
-    → Takes start last held before after (record { stream = r.stream; held = held - r.from; failed = r.failed })
-taken_part {start} {last} {held} {before} {after} {r} fits drains kept =
+pub taken_part : {writtenbefore writtenafter : Option (List ℕ)} {start : Stream} {last : Bool} {held : ℕ} {before after : List ℕ} {r : Drained}
+    → held ≤ length before → DrainsTo writtenbefore writtenafter start last (take held before) r → after ≡ keep_rest r.from held before
+    → TakesTo writtenbefore writtenafter start last held before after (record { stream = r.stream; held = held - r.from; failed = r.failed })
+taken_part {writtenbefore} {writtenafter} {start} {last} {held} {before} {after} {r} fits to kept =
+    let drains = to.drains in
     let order : r.from ≤ held = omega (arith, drains.from_within, length-take-le held before fits) in
     let front : drop r.from (take held before) ≡ take (held - r.from) after =
     sym (ap (take (held - r.from)) kept ∙ kept_front r.from held before order fits) in
+    let rest : PassedTo r.failed writtenbefore writtenafter start last (take held before) r.stream (drop r.from (take held before)) =
+    record { passed = drains.passed; wrote = to.wrote } in
+    let moved = subst (λ (x : List ℕ). PassedTo r.failed writtenbefore writtenafter start last (take held before) r.stream x) front rest in
     record {
-      held_within = omega (arith, fits, ap length kept, kept_length r.from held before order fits);
-      passed = subst (λ (x : List ℕ). PassedOn start last (take held before) r.stream x) front drains.passed;
-      settled = λ wrote. subst (λ (x : List ℕ). SettledAt r.stream last x) front (drains.settled wrote);
+      takes = record {
+        held_within = omega (arith, fits, ap length kept, kept_length r.from held before order fits);
+        passed = moved.passed;
+        settled = λ wrote. subst (λ (x : List ℕ). SettledAt r.stream last x) front (drains.settled wrote);
+      };
+      wrote = moved.wrote;
     }

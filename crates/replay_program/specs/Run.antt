@@ -1,7 +1,8 @@
--- A program's loop, of values: no contract can speak of what was read or written. What is handed to `write` is what the feed just gave.
-use Rattle.std.specs.Prelude.{ℕ, ◌+◌, ◌≤◌, ◌≡◌, Bool, true, false, List, [], ℤ, pos, negsuc, length, take, drop}
-use Rattle.replay_text.specs.Bytes.{digit_zero}
-use Rattle.replay_parts.specs.Replay.{rest_output}
+-- A program's loop, of values; and of what was read and written, where the bytes that its input has left and its output holds are known.
+use Rattle.std.specs.Prelude.{ℕ, ◌≤◌, ◌≡◌, Bool, true, false, List, [], Option, IfSome, Result, Ok, Err, length, take, drop}
+use Rattle.std.specs.Io.KnownBytes.{Appends, Consumes, IsAtEnd}
+use Rattle.std.specs.Process.{exit_status}
+use Rattle.replay_parts.specs.Replay.{replay_of, rest_output}
 use Rattle.replay_parts.specs.Part.{Passed, Settled}
 use Rattle.program_state.specs.State.{fresh_state}
 use Rattle.program_state.specs.Take.{state_over, program}
@@ -14,10 +15,15 @@ use Rattle.replay_program.specs.declared.moving.Moved.{Moved}
 use Rattle.replay_program.specs.declared.running.Ran.{Ran}
 use Rattle.replay_program.specs.declared.Told.{Told}
 
--- a call of C's that moved something, or nothing at the input's end, is not tried again
-abbrev pub OnlyFailed : ℤ → Bool → Type 0
-OnlyFailed (pos moved) again = again ≡ false
-OnlyFailed (negsuc error) again = Unit {0}
+-- a read or a write that moved something, or nothing at the input's end, is not tried again
+abbrev pub OnlyFailed : {E : Type 0} → Result ℕ E → Bool → Type 0
+OnlyFailed (Ok moved) again = again ≡ false
+OnlyFailed (Err error) again = Unit {0}
+
+-- what a read that was not interrupted answered
+abbrev pub Arrived : {E : Type 0} → Result ℕ E → Moved → Type 0
+Arrived (Ok moved) r = (r.count ≡ moved) × (r.failed ≡ false)
+Arrived (Err error) r = (r.count ≡ 0) × (r.failed ≡ true)
 
 -- one read or write of up to `most` bytes: where it failed it moved none
 pub record Moves (most : ℕ) (r : Moved) : Type 0 where
@@ -28,6 +34,13 @@ pub record Moves (most : ℕ) (r : Moved) : Type 0 where
 pub record WritesAll (all : ℕ) (r : Moved) : Type 0 where
   pub within : r.count ≤ all
   pub whole : r.failed ≡ false → r.count ≡ all
+
+-- what was printed was written to an output, on the bytes that it holds where those are known: all of it where no write failed, else its front
+pub record Written (failed : Bool) (before after : Option (List ℕ)) (printed : List ℕ) : Type 0 where
+  pub taken : ℕ
+  pub within : taken ≤ length printed
+  pub appended : Appends before after (take taken printed)
+  pub whole : failed ≡ false → taken ≡ length printed
 
 -- a stream passed the input on up to `rest`, and there is something that it printed on the way
 abbrev pub PassedOn : Stream → Bool → List ℕ → Stream → List ℕ → Type 0
@@ -43,17 +56,27 @@ pub record Drains (start : Stream) (last : Bool) (input : List ℕ) (r : Drained
   pub passed : PassedOn start last input r.stream (drop r.from input)
   pub settled : r.failed ≡ false → SettledAt r.stream last (drop r.from input)
 
+-- and what was printed was written
+pub record DrainsTo (before after : Option (List ℕ)) (start : Stream) (last : Bool) (input : List ℕ) (r : Drained) : Type 0 where
+  pub drains : Drains start last input r
+  pub wrote : Written r.failed before after drains.passed.printed
+
 -- the same, with the rest at the front of the buffer
 pub record Takes (start : Stream) (last : Bool) (held : ℕ) (before after : List ℕ) (r : Held) : Type 0 where
   pub held_within : r.held ≤ length after
   pub passed : PassedOn start last (take held before) r.stream (take r.held after)
   pub settled : r.failed ≡ false → SettledAt r.stream last (take r.held after)
 
--- bytes come behind those that the buffer holds
+pub record TakesTo (writtenbefore writtenafter : Option (List ℕ)) (start : Stream) (last : Bool) (held : ℕ) (before after : List ℕ) (r : Held) : Type 0 where
+  pub takes : Takes start last held before after r
+  pub wrote : Written r.failed writtenbefore writtenafter takes.passed.printed
+
+-- bytes come behind those that the buffer holds; where the read failed there are none
 pub record ReadBehind (held : ℕ) (before after : List ℕ) (r : Moved) : Type 0 where
   pub from_held : held ≤ r.count
   pub within : r.count ≤ length after
   pub kept : take held after ≡ take held before
+  pub none_failed : r.failed ≡ true → r.count ≡ held
 
 -- all of an input that ended was printed; or the run stopped before it, so that whatever follows prints nothing; or a read failed before the end
 abbrev pub EndedAs : Ending → Bool → Stream → List ℕ → Type 0
@@ -70,19 +93,36 @@ pub record Runs (reporting : Bool) (buffer : List ℕ) (r : Ran) : Type 0 where
   pub passed : Passed program (fresh_state reporting) false ended input r.stream.state r.stream.inside (take r.held buffer)
   pub right : EndedAs r.ending ended r.stream (take r.held buffer)
 
--- the exit status of the script
+-- whether a write failed
+abbrev pub write_failed : Ending → Bool
+write_failed AllRead = false
+write_failed Stopped = false
+write_failed ReadFailed = false
+write_failed WriteFailed = true
+
+-- that input is what was read, up to the end where it has ended; and what was printed of it was written
+pub record RunsOn (reporting : Bool) (readbefore readafter writtenbefore writtenafter : Option (List ℕ)) (buffer : List ℕ) (r : Ran) : Type 0 where
+  pub runs : Runs reporting buffer r
+  pub read : Consumes readbefore readafter runs.input
+  pub at_end : runs.ended ≡ true → IsAtEnd readafter
+  pub wrote : Written (write_failed r.ending) writtenbefore writtenafter runs.passed.printed
+
+-- a run that no failure stopped wrote what the program prints of all that its input had
+abbrev pub WritesReplay : Bool → Option (List ℕ) → Option (List ℕ) → Option (List ℕ) → Ending → Type 0
+WritesReplay reporting given before after AllRead = IfSome given (λ bytes. Appends before after (replay_of program (fresh_state reporting) bytes))
+WritesReplay reporting given before after Stopped = IfSome given (λ bytes. Appends before after (replay_of program (fresh_state reporting) bytes))
+WritesReplay reporting given before after ReadFailed = Unit {0}
+WritesReplay reporting given before after WriteFailed = Unit {0}
+
+-- the exit status
 unfoldable pub status_of : Ending → ℕ
 status_of AllRead = 0
 status_of Stopped = 3
 status_of ReadFailed = 4
 status_of WriteFailed = 5
 
--- its digit
-unfoldable pub ending_byte : Ending → ℕ
-ending_byte ending = digit_zero + status_of ending
-
--- a run as the program's loop makes one, on some buffer, and the byte that tells how it ended
-pub record Tells (reporting : Bool) (r : Told) : Type 0 where
+-- a run as the program's loop makes one, on some buffer, and the exit status that tells how it ended
+pub record Tells (reporting : Bool) (readbefore readafter writtenbefore writtenafter : Option (List ℕ)) (r : Told) : Type 0 where
   pub buffer : List ℕ
-  pub runs : Runs reporting buffer r.ran
-  pub byte : r.byte ≡ ending_byte r.ran.ending
+  pub runs : RunsOn reporting readbefore readafter writtenbefore writtenafter buffer r.ran
+  pub code : exit_status r.code ≡ status_of r.ran.ending

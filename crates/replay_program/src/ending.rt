@@ -1,10 +1,9 @@
-// How a run ended, told in one byte on descriptor 3, where that is open: a program has no exit status of its own.
+// How a run ended, and the exit status that says so.
 ghost use Rattle.std.specs.Prelude.{◌≡◌};
-ghost use Rattle.replay_program.specs.Run.{ending_byte};
+ghost use Rattle.std.specs.Process.{exit_status};
+ghost use Rattle.replay_program.specs.Run.{status_of};
 
-use crate::moving::interrupted;
-
-const ENDING_FILENO: i32 = 3;
+use std::process::ExitCode;
 
 #[derive(Clone, Copy)]
 pub enum Ending {
@@ -15,32 +14,22 @@ pub enum Ending {
     WriteFailed,
 }
 
-// The digit of the exit status that stands for the ending.
-#[tactic(auto, unfolding(crate::specs::Run::ending_byte, crate::specs::Run::status_of))]
-fn ending_byte(ending: Ending) -> u8
-    ensures { result ≡ ending_byte ending }
+// The exit status that stands for the ending.
+#[tactic(auto, unfolding(crate::specs::Run::status_of))]
+fn status_of(ending: Ending) -> u8
+    ensures { result ≡ status_of ending }
 {
     match ending {
-        Ending::AllRead => b'0',
-        Ending::Stopped => b'3',
-        Ending::ReadFailed => b'4',
-        Ending::WriteFailed => b'5',
+        Ending::AllRead => 0,
+        Ending::Stopped => 3,
+        Ending::ReadFailed => 4,
+        Ending::WriteFailed => 5,
     }
 }
 
-// Tells how the run ended, and gives back the byte that it handed to the write; tried again where it was interrupted. Where descriptor 3 is not open
-// nobody asks, and the write fails.
-pub(crate) fn tell(ending: Ending) -> u8
-    ensures { result ≡ ending_byte ending }
+// What `main` hands back, so that the program ends with that status.
+pub(crate) fn exit_code(ending: Ending) -> ExitCode
+    ensures { exit_status result ≡ status_of ending }
 {
-    let told = ending_byte(ending);
-    let mut turns = u64::MAX;
-    while 0 < turns {
-        turns = turns - 1;
-        let got = libc::write(ENDING_FILENO, &[told]);
-        if !interrupted(got) {
-            return told;
-        }
-    }
-    told
+    ExitCode::from(status_of(ending))
 }

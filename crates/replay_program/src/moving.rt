@@ -1,9 +1,13 @@
-// Reads from standard input and writes to standard output, tried again where they were interrupted.
-ghost use Rattle.std.specs.Prelude.{◌≤◌, ◌≡◌, length};
-ghost use Rattle.replay_program.specs.Run.{OnlyFailed, Moves, WritesAll, ReadBehind};
+// Reads from an input and writes to an output, tried again where they were interrupted.
+ghost use Rattle.std.specs.Prelude.{◌≤◌, ◌≡◌, ◌<◌, ◌-◌, false, length, take, drop, MatchResult};
+ghost use Rattle.std.specs.Io.KnownBytes.{Appends, Consumes, IsAtEnd, Keeps};
+ghost use Rattle.std.specs.Io.{ReadsAtMost};
+ghost use Rattle.replay_program.specs.Run.{OnlyFailed, Moves, Arrived, WritesAll, ReadBehind};
 ghost use Rattle.replay_program.specs.Messages.{output_name, input_name};
 
-use libc::{STDERR_FILENO, STDIN_FILENO, STDOUT_FILENO};
+use std::fmt::InlineText;
+use std::io;
+use std::io::{ErrorKind, Read, Write};
 
 // How many bytes a read or a write moved, and whether it failed.
 #[derive(Clone, Copy)]
@@ -13,13 +17,13 @@ pub struct Moved {
 }
 
 // Whether a read or a write that answered `got` is to be tried again.
-pub(crate) fn interrupted(got: isize) -> bool
-    ensures { OnlyFailed got result }
+fn interrupted(got: &io::Result<usize>) -> bool
+    ensures { OnlyFailed got.now result }
 {
-    if got < 0 {
-        return os::errno() == libc::EINTR;
+    match got {
+        Ok(_) => false,
+        Err(error) => error.kind() == ErrorKind::Interrupted,
     }
-    false
 }
 
 // What a failure is named by on standard error, in the program's name.
@@ -43,35 +47,76 @@ fn input_name(reporting: bool) -> [u8; 22]
     *b"replay: standard input"
 }
 
-// One write to standard output: the only one in a program. It is no failure where it was interrupted.
-fn write_once(reporting: bool, bytes: &[u8]) -> Moved
-    ensures { Moves (length bytes.now) result }
+// The text of an error of the system as C gives it, without the number that std puts behind it.
+fn reason(text: &str) -> &str {
+    match text.split_once(" (os error ") {
+        Some((reason, _)) => reason,
+        None => text,
+    }
+}
+
+// Writes a line to standard error: what failed, as the caller names it, a colon and why. Where that fails nothing more can be said.
+fn say_failed<E: Write>(errors: &mut E, name: &[u8], error: &io::Error) {
+    let text = InlineText::<320>::of(error);
+    let _ = errors.write_all(name);
+    let _ = errors.write_all(b": ");
+    let _ = errors.write_all(reason(text.as_str()).as_bytes());
+    let _ = errors.write_all(b"\n");
+}
+
+// The line of a write that took nothing and gave no reason.
+fn say_nothing_written<E: Write>(errors: &mut E, name: &[u8]) {
+    let _ = errors.write_all(name);
+    let _ = errors.write_all(b": nothing was written\n");
+}
+
+// One write to the output: the only one in a program. It is no failure where it was interrupted.
+fn write_once<W: Write, E: Write>(
+    reporting: bool,
+    output: &mut W,
+    errors: &mut E,
+    bytes: &[u8],
+) -> Moved
+    ensures moved { Moves (length bytes.now) result }
+    ensures wrote { Appends (W.contents output.old) (W.contents output.new) (take result.count bytes.now) }
 {
-    let got = libc::write(STDOUT_FILENO, bytes);
-    let again = interrupted(got);
-    let count = io::count(got, bytes);
-    if again {
+    let got = output.write(bytes);
+    if interrupted(&got) {
         return Moved {
-            count: count,
+            count: 0,
             failed: false,
         };
     }
     let name = output_name(reporting);
-    if got < 0 {
-        os::fail(&name);
-    } else if count == 0 {
-        io::write_all(STDERR_FILENO, &name);
-        io::write_all(STDERR_FILENO, b": nothing was written\n");
-    }
-    Moved {
-        count: count,
-        failed: count == 0,
+    match got {
+        Ok(count) => {
+            if count == 0 {
+                say_nothing_written(errors, &name);
+            }
+            Moved {
+                count: count,
+                failed: count == 0,
+            }
+        }
+        Err(error) => {
+            say_failed(errors, &name, &error);
+            Moved {
+                count: 0,
+                failed: true,
+            }
+        }
     }
 }
 
 // Writes all of the bytes, or stops at the first write that fails: how many the writes took.
-pub(crate) fn write_out(reporting: bool, bytes: &[u8]) -> Moved
-    ensures { WritesAll (length bytes.now) result }
+pub(crate) fn write_out<W: Write, E: Write>(
+    reporting: bool,
+    output: &mut W,
+    errors: &mut E,
+    bytes: &[u8],
+) -> Moved
+    ensures moved { WritesAll (length bytes.now) result }
+    ensures wrote { Appends (W.contents output.old) (W.contents output.new) (take result.count bytes.now) }
 {
     let mut rest = bytes;
     let mut turns = u64::MAX;
@@ -83,7 +128,7 @@ pub(crate) fn write_out(reporting: bool, bytes: &[u8]) -> Moved
             };
         }
         turns = turns - 1;
-        let wrote = write_once(reporting, rest);
+        let wrote = write_once(reporting, output, errors, rest);
         let count = wrote.count;
         let failed = wrote.failed;
         if failed {
@@ -101,32 +146,48 @@ pub(crate) fn write_out(reporting: bool, bytes: &[u8]) -> Moved
 }
 
 // What a read that was not interrupted has moved. At the end of the input that is nothing.
-fn arrived(reporting: bool, got: isize, buffer: &[u8]) -> Moved
-    ensures { Moves (length buffer.now) result }
+fn arrived<E: Write>(
+    reporting: bool,
+    errors: &mut E,
+    got: io::Result<usize>,
+    buffer: &[u8],
+) -> Moved
+    requires { ReadsAtMost got buffer.now }
+    ensures moved { Moves (length buffer.now) result }
+    ensures told { Arrived got result }
 {
-    if got < 0 {
-        os::fail(&input_name(reporting));
-        return Moved {
-            count: 0,
-            failed: true,
-        };
-    }
-    Moved {
-        count: io::count(got, buffer),
-        failed: false,
+    match got {
+        Ok(count) => Moved {
+            count: count,
+            failed: false,
+        },
+        Err(error) => {
+            say_failed(errors, &input_name(reporting), &error);
+            Moved {
+                count: 0,
+                failed: true,
+            }
+        }
     }
 }
 
 // One read, tried again where it was interrupted.
-fn read_once(reporting: bool, buffer: &mut [u8]) -> Moved
-    ensures { Moves (length buffer.new) result }
+fn read_once<R: Read, E: Write>(
+    reporting: bool,
+    input: &mut R,
+    errors: &mut E,
+    buffer: &mut [u8],
+) -> Moved
+    ensures moved { Moves (length buffer.new) result }
+    ensures read { Consumes (R.remaining input.old) (R.remaining input.new) (take result.count buffer.new) }
+    ensures ended { result.failed ≡ false → result.count ≡ 0 → 0 < length buffer.new → IsAtEnd (R.remaining input.new) }
 {
     let mut turns = u64::MAX;
     while 0 < turns {
         turns = turns - 1;
-        let got = libc::read(STDIN_FILENO, buffer);
-        if !interrupted(got) {
-            return arrived(reporting, got, buffer);
+        let got = input.read(buffer);
+        if !interrupted(&got) {
+            return arrived(reporting, errors, got, buffer);
         }
     }
     Moved {
@@ -136,11 +197,19 @@ fn read_once(reporting: bool, buffer: &mut [u8]) -> Moved
 }
 
 // One read behind the bytes that the buffer holds; how many it then holds.
-pub(crate) fn read_behind(reporting: bool, buffer: &mut [u8], held: usize) -> Moved
+pub(crate) fn read_behind<R: Read, E: Write>(
+    reporting: bool,
+    input: &mut R,
+    errors: &mut E,
+    buffer: &mut [u8],
+    held: usize,
+) -> Moved
     requires { held ≤ length buffer.old }
-    ensures { ReadBehind held buffer.old buffer.new result }
+    ensures moved { ReadBehind held buffer.old buffer.new result }
+    ensures read { Consumes (R.remaining input.old) (R.remaining input.new) (take (result.count - held) (drop held buffer.new)) }
+    ensures ended { result.failed ≡ false → result.count ≡ held → held < length buffer.new → IsAtEnd (R.remaining input.new) }
 {
-    let got = read_once(reporting, &mut buffer[held..]);
+    let got = read_once(reporting, input, errors, &mut buffer[held..]);
     let count = got.count;
     let failed = got.failed;
     Moved {
