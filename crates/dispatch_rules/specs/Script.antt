@@ -1,5 +1,5 @@
 -- Scripts: operations that the kiosk lends, two bytes for each, and for each thread where its own are and how far it has come.
-use Rattle.std.specs.Prelude.{ℕ, ◌+◌, ◌*◌, ◌/◌, ◌-◌, Bool, true, false, List, ltb, leb, length, get_or, set}
+use Rattle.std.specs.Prelude.{ℕ, ◌+◌, ◌*◌, ◌/◌, Bool, true, false, List, ltb, leb, length, get_or, set}
 use Rattle.laws.specs.Choice.{both, within}
 use Rattle.laws.specs.Every.{all_below}
 use Rattle.lock_rules.specs.declared.event.Event.{Event}

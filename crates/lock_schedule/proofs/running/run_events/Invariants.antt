@@ -6,7 +6,7 @@ use Rattle.lock_schedule.proofs.running.run_events.Given as goal
 
 abbrev pub invariant-loop-left : goal.invariant-loop-left
 invariant-loop-left l =
-    (l.at + l.left * event_size ≤ length l.events) × (final_of l.table (events_of l.events) ≡ final_of l.current (events_from l.left l.events l.at))
+    (l.at + l.left * event_size ≤ length l.events) × (final_of l.fn.table (events_of l.events) ≡ final_of l.current (events_from l.left l.events l.at))
 
 abbrev pub decreases-loop-left : goal.decreases-loop-left
 decreases-loop-left l = l.left
