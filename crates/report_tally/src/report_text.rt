@@ -37,7 +37,6 @@ fn put_rows(out: &mut [u8], at: usize, largest: u8, objects: [Figures; 64]) -> u
 }
 
 // All of the report.
-#[tactic(auto, using(replay_text::proofs::Stores::wrote_both, replay_text::proofs::Stores::wrote_length, replay_text::proofs::Room::written_put), unfolding(crate::specs::Rows::report_text))]
 fn put_report_text(out: &mut [u8], at: usize, tally: Tally) -> usize
     requires { at + report_room ≤ length out.old }
     ensures { Wrote out.old out.new at result (report_text tally) }
