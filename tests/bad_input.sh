@@ -1,6 +1,6 @@
 #!/bin/sh
 # Input and output that no schedule has: very long lines, very many of them, noise, damaged headers, an input that does not end, reads and writes
-# that fail. How a run ended is read from descriptor 3: 0 all read, 3 ended early, 4 read failed, 5 write failed.
+# that fail. The exit status says how a run ended: 0 all read, 3 ended early, 4 read failed, 5 write failed.
 # tests/bad_input.sh PROVED SECOND, folders of replay and report, and of reference_replay and reference_report; the last line is 'N passed, M failed'.
 set -u
 . "$(dirname "$0")/counting.sh"
@@ -27,7 +27,7 @@ own() { if [ "$name" = replay ]; then echo "$1"; else echo "$2"; fi; }
 # told CASE INPUT OF_REPLAY OF_REPORT: what each program prints of what the command INPUT writes, and how its run ended.
 told() {
     for name in replay report; do
-        found=$("$2" | timeout 20 "$proved/$name" 3>"$work/ending" | tr '\n' ';')
+        found=$("$2" | { timeout 20 "$proved/$name"; echo $? >"$work/ending"; } | tr '\n' ';')
         check "$name: $1" "$found $(cat "$work/ending")" "$(own "$3" "$4")"
     done
 }
@@ -54,7 +54,7 @@ check 'replay: a million empty lines' "$found" '1*0;1000000*21;'
 # The report takes 60,000 lines and any number of headers, good and bad. A line more, also one without its newline, and there is no report.
 filled() { yes 'L 1 1 0' | head -n 100000; printf 'E 1 1\nS 1\n'; yes L | head -n 100000; yes '' | head -n 59998; }
 limit() {
-    found=$({ filled; printf "$2"; } | "$proved/report" 3>"$work/ending" | tr '\n' ';')
+    found=$({ filled; printf "$2"; } | { "$proved/report"; echo $? >"$work/ending"; } | tr '\n' ';')
     check "report: $1" "$found $(cat "$work/ending")" "$3"
 }
 limit '60,000 lines' '' "1${one}0$one 0"
@@ -84,7 +84,7 @@ endless() { printf 'L 33 1 0\n'; yes 'E 1 1'; }
 told 'sizes out of range, endless' endless '22; 3' '24; 3'
 told 'no input' true '21; 3' "0$nothing 0"
 
-# A good header and the end of the input; descriptor 3 closed, or open for reading only, is as good as none.
+# A good header and the end of the input; whatever descriptor 3 is, on which an earlier version told how it ended.
 told 'all read' entering "$entered 0" "1${one}0$one 0"
 cut_off() { printf 'L 1 1 0\nE 1 1\nS 1'; }
 told 'a last line without its newline' cut_off "${begun}21; 0" "1${nothing}0$nothing 0"
@@ -98,13 +98,13 @@ done
 # the run.
 { printf 'L 1 1 0\n'; yes 'E 1 1' | head -n 3000000; } >"$work/long"
 for name in replay report; do
-    entering | "$proved/$name" 3>"$work/ending" >/dev/full 2>"$work/said"
-    check "$name: a full device" "$(cat "$work/ending") $(grep -c "^$name: " "$work/said")" '5 1'
-    entering | "$proved/$name" 3>"$work/ending" >&- 2>"$work/said"
-    check "$name: no standard output" "$(cat "$work/ending") $(grep -c "^$name: " "$work/said")" '5 1'
-    found=$("$proved/$name" <. 3>"$work/ending" 2>"$work/said")
-    check "$name: a folder as input" "$found$(cat "$work/ending") $(grep -c "^$name: " "$work/said")" '4 1'
-    timeout 20 sh -c '"$1" <"$2" | head -n 1 >"$3"' sh "$proved/$name" "$work/long" "$work/first"
+    entering | "$proved/$name" >/dev/full 2>"$work/said"
+    check "$name: a full device" "$? $(grep -c "^$name: " "$work/said")" '5 1'
+    entering | "$proved/$name" >&- 2>"$work/said"
+    check "$name: no standard output" "$? $(grep -c "^$name: " "$work/said")" '5 1'
+    found=$("$proved/$name" <. 2>"$work/said"; echo $?)
+    check "$name: a folder as input" "$found $(grep -c "^$name: " "$work/said")" '4 1'
+    timeout 20 sh -c '"$1" <"$2" | head -n 1 >"$3"' sh "$proved/$name" "$work/long" "$work/first" 2>/dev/null
     check "$name: a closed output, status" "$?" 0
     check "$name: a closed output, first line" "$(cat "$work/first");" "$(own "$begun" '24;')"
     found=$("$(dirname "$0")"/pipes.py "$name" "$proved/$name" | tr '\n' ';')

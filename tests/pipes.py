@@ -14,8 +14,6 @@ import time
 
 TIME_LIMIT = 20
 EVENTS = 100_000
-# where the program tells how its run ended
-ENDING = 3
 # What ends a run before the end of its input, in one write, and what the program prints of PIECES.
 EARLY = {'replay': b'x\n', 'report': b'\n' * 60_001}
 PIECES = (b'L 1 1', b' 0\nE 1 1\n', b'S 1\nX', b' 1 1\nS 1\n')
@@ -28,39 +26,25 @@ def nonblocking(descriptor):
 
 
 def start(program, stdin, stdout):
-    """The program with descriptor 3 open on a pipe, and the end of that pipe to read from."""
-    reader, writer = os.pipe()
-    os.dup2(writer, ENDING)
-    os.close(writer)
-    child = subprocess.Popen([program], stdin=stdin, stdout=stdout, stderr=subprocess.DEVNULL, pass_fds=[ENDING])
-    keep_ending_taken()
-    return child, reader
+    return subprocess.Popen([program], stdin=stdin, stdout=stdout, stderr=subprocess.DEVNULL)
 
 
-def keep_ending_taken():
-    """Descriptor 3 stays open on nothing, so that no pipe of ours gets its number."""
-    nothing = os.open(os.devnull, os.O_WRONLY)
-    if nothing != ENDING:
-        os.dup2(nothing, ENDING)
-        os.close(nothing)
-
-
-def ending(child, reader):
+def ending(child):
+    """The exit status, which says how the run ended."""
     try:
-        child.wait(TIME_LIMIT)
+        return child.wait(TIME_LIMIT)
     except subprocess.TimeoutExpired:
         child.kill()
         return 'does not end'
-    return os.read(reader, 2).decode()
 
 
 def early_then_silence(program, early):
     """What ends the run, on an input that stays open, as at a terminal: it ends and does not wait for more."""
     reader, writer = os.pipe()
-    child, told = start(program, reader, subprocess.PIPE)
+    child = start(program, reader, subprocess.PIPE)
     os.close(reader)
     os.write(writer, early)
-    result = ending(child, told)
+    result = ending(child)
     return f'{child.stdout.read().decode().strip()} {result}'
 
 
@@ -68,20 +52,20 @@ def no_input_yet(program):
     """A non-blocking input with nothing in it yet is a read that fails, and not the end of the input."""
     reader, _writer = os.pipe()
     nonblocking(reader)
-    child, told = start(program, reader, subprocess.PIPE)
-    result = ending(child, told)
+    child = start(program, reader, subprocess.PIPE)
+    result = ending(child)
     return f'{child.stdout.read().decode()}{result}'
 
 
 def in_pieces(program, answers):
     """An input that comes in pieces, cut inside a line and at its end: what has not come yet is not the end of the input."""
-    child, told = start(program, subprocess.PIPE, subprocess.PIPE)
+    child = start(program, subprocess.PIPE, subprocess.PIPE)
     for piece in PIECES:
         child.stdin.write(piece)
         child.stdin.flush()
         time.sleep(0.2)
     child.stdin.close()
-    result = ending(child, told)
+    result = ending(child)
     return f'{"all" if child.stdout.read() == answers else "other answers"} {result}'
 
 
@@ -94,13 +78,13 @@ def full_output(program):
             os.write(writer, b' ' * (1 << 12))
     except BlockingIOError:
         pass
-    child, told = start(program, subprocess.PIPE, writer)
+    child = start(program, subprocess.PIPE, writer)
     try:
         child.stdin.write(b''.join(PIECES))
         child.stdin.close()
     except BrokenPipeError:
         pass
-    return ending(child, told)
+    return ending(child)
 
 
 def slow_reader(program):
@@ -108,7 +92,7 @@ def slow_reader(program):
     answers = b'0 1 0 000000 00000000\n' + b'14\n' * (2 * EVENTS - 1)
     reader, writer = os.pipe()
     nonblocking(writer)
-    child, told = start(program, subprocess.PIPE, writer)
+    child = start(program, subprocess.PIPE, writer)
     os.close(writer)
 
     def feed():
@@ -128,13 +112,12 @@ def slow_reader(program):
     while piece := os.read(reader, 1 << 16):
         output += piece
     feeding.join()
-    result = ending(child, told)
+    result = ending(child)
     shape = 'all' if output == answers else 'a start' if answers.startswith(output) else 'holes'
     return f'{shape} {result}'
 
 
 def main(name, program):
-    keep_ending_taken()
     print(early_then_silence(program, EARLY[name]), flush=True)
     print(no_input_yet(program), flush=True)
     print(in_pieces(program, ANSWERS[name]), flush=True)

@@ -286,8 +286,7 @@ build() {
     true >"$log" && true >"$began" || exit 1
     progress $$ &
     watcher=$!
-    # rt tries a proved program, which tells on descriptor 3, if that is open, how it ended.
-    make_program >>"$log" 2>&1 </dev/null 3>&-
+    make_program >>"$log" 2>&1 </dev/null
     built=$?
     if [ "$built" -ne 0 ]; then
         kill "$watcher" 2>/dev/null

@@ -31,7 +31,7 @@ hand_on() {
     exit 5
 }
 
-# Ends with the status that was told, and says what it alone does not; where nobody hears that, the status is the same.
+# Ends with the program's status, and says what it alone does not; where nobody hears that, the status is the same.
 ended_with() {
     case $1 in
     3) say "ended with status 3: $ended_early" ;;
@@ -40,8 +40,14 @@ ended_with() {
     exit "$1"
 }
 
-# Runs the program with descriptor 3 open on a file, into which it writes one digit, the status. What it writes is held back only where something is
-# said of it: the report, which is short and is not written before the input has ended.
+# Ends as other filters do where nobody reads any more, which to the program is a write that failed: by the signal, unless the caller ignores that.
+unread() {
+    case $(tail -n 1 "$work/complaint") in *': Broken pipe') ;; *) return 0 ;; esac
+    sh -c 'kill -s PIPE "$$"' || exit 141
+}
+
+# Runs the program. What it writes is held back only where something is said of it: the report, which is short and is not written before the input has
+# ended. What it complains of comes when it has ended, which it then does at once.
 start() {
     work=$(mktemp -d) || exit 1
     running=''
@@ -50,14 +56,12 @@ start() {
     trap 'kill "$running" 2>/dev/null; exit 143' TERM
     exec 5<&0 6>&1
     [ -z "$no_header" ] || exec >"$work/output"
-    awaited "$here/$program" 3>"$work/ending"
+    awaited "$here/$program" 2>"$work/complaint"
     ended=$?
+    [ "$ended" -ne 5 ] || unread
+    cat "$work/complaint" >&2 2>/dev/null
     [ -z "$no_header" ] || hand_on
-    told=$(cat "$work/ending")
-    case $told in [0-9]) ended_with "$told" ;; esac
-    [ "$ended" -eq 0 ] || exit "$ended"
-    say 'the program ended and did not say how'
-    exit 1
+    ended_with "$ended"
 }
 
 . "$here/tools/program.sh"

@@ -8,6 +8,10 @@ use std::time::Duration;
 
 /// Far more than any case needs; a program that takes longer counts as failed.
 const TIME_LIMIT: Duration = Duration::from_secs(60);
+/// The status of a program that ended before its input, and what it then printed: of the replay that there is no header or a bad one, of the report
+/// that there are too many lines.
+const ENDED_EARLY: i32 = 3;
+const EARLY: [&[u8]; 3] = [b"21\n", b"22\n", b"24\n"];
 /// A program that prints without end is cut off here.
 const MAX_OUTPUT: u64 = 1 << 26;
 
@@ -41,13 +45,19 @@ pub fn run(program: &str, input: &[u8]) -> Result<Vec<u8>, String> {
     });
     let _ = reader.join();
     let output = received.map_err(|_| "the program does not end".to_string());
-    wait(child)?;
-    output?.map_err(|error| format!("output not readable: {error}"))
+    let early = wait(child)?;
+    let output = output?.map_err(|error| format!("output not readable: {error}"))?;
+    if early && !EARLY.contains(&output.as_slice()) {
+        return Err(format!("the program ended with status {ENDED_EARLY}, and not early"));
+    }
+    Ok(output)
 }
 
-fn wait(mut child: Child) -> Result<(), String> {
+/// Whether it ended before its input, by its status.
+fn wait(mut child: Child) -> Result<bool, String> {
     match child.wait() {
-        Ok(status) if status.success() => Ok(()),
+        Ok(status) if status.success() => Ok(false),
+        Ok(status) if status.code() == Some(ENDED_EARLY) => Ok(true),
         Ok(status) => Err(format!("the program ended with {status}")),
         Err(error) => Err(format!("the program cannot be waited for: {error}")),
     }
