@@ -43,7 +43,7 @@ run_known table known (Begin operation thread object limit) =
     ∙ narrow_begun table thread operation object limit
 run_known table known (Step thread) =
     let number = narrow_of thread in
-    ap (λ (outcome : Outcome). after_event outcome number (thread_at table number.object)) (event_told table known (StepEvent number))
+    ap (λ (outcome : Outcome). after_event outcome number (thread_at table number).object) (event_told table known (StepEvent number))
     ∙ narrow_stepped table thread
 run_known table known Tick = ap after_tick (event_told table known TickEvent)
 run_known table known BadHeader = refl
@@ -99,7 +99,7 @@ opens request = at (fresh_either request)
         rw made (rw made at (reached_sound request in_range []), rw made at (reached_well_typed request in_range []))
     at (inr (refusal, refused)) = rw refused (refl, tt)
 
-open_kept : (table : Table) (line : Line) → let session = open_by table line.session in (session_sound session ≡ true) × WellTypedBy session.stage session.table
+open_kept : (table : Table) (line : Line) → let session = (open_by table line).session in (session_sound session ≡ true) × WellTypedBy session.stage session.table
 unfolding open_by sound_by
 open_kept table (Header threads objects reserved) = opens (sized_request threads objects reserved)
 open_kept table (Begin operation thread object limit) = (refl, tt)
@@ -109,14 +109,14 @@ open_kept table BadHeader = (refl, tt)
 open_kept table Malformed = (refl, tt)
 
 -- an event keeps the table well typed, too
-event_well_typed : (table : Table) → WellTyped table → (event : Event) (issound : Bool) → sound_of table ≡ issound → WellTyped (handle table event.table)
+event_well_typed : (table : Table) → WellTyped table → (event : Event) (issound : Bool) → sound_of table ≡ issound → WellTyped (handle table event).table
 event_well_typed table typed event true sound = well_typed_kept table typed sound event
 event_well_typed table typed event false unsound = subst WellTyped (sym (refused_same table event unsound)) typed
 
 abbrev Kept : Table → Session → Type 0
 Kept table session = (session_sound session ≡ sound_of table) × WellTypedBy session.stage session.table
 
-run_kept : (table : Table) → WellTyped table → (line : Line) → Kept table (run_of table line.session)
+run_kept : (table : Table) → WellTyped table → (line : Line) → Kept table (run_of table line).session
 unfolding run_of sound_by
 run_kept table typed (Header threads objects reserved) = (refl, typed)
 run_kept table typed (Begin operation thread object limit) =
@@ -130,7 +130,7 @@ run_kept table typed BadHeader = (refl, typed)
 run_kept table typed Malformed = (refl, typed)
 
 react_kept : (stage : Stage) (table : Table) → WellTypedBy stage table → (line : Line)
-    → let session = react_at_stage stage table line.session in
+    → let session = (react_at_stage stage table line).session in
     (session_sound session ≡ sound_by stage table) × WellTypedBy session.stage session.table
 unfolding react_at_stage sound_by
 react_kept Opening table typed line = open_kept table line
