@@ -6,7 +6,7 @@ use mathlib.Core.Logic.{◌⊎◌}
 use mathlib.Core.Bool.{Bool, true, false}
 use mathlib.Core.List.{List, [], ◌∷◌, ◌++◌, append_assoc, append-nil}
 use native.Mathlib.Omega.{arith}
-use lib.ListN.{length, get_or, set, length-set, length-append}
+use lib.ListN.{length, get_or, set, length-append}
 use lib.Seq.{set-get_or, get_or-set_same}
 use borrow.Author.Tests.{lt-ltb}
 use Rattle.laws.specs.Choice.{pick}
@@ -293,11 +293,6 @@ module _ {scripts : List ℕ} {q threads objects : ℕ} {whole : Ran Scripted Sh
   pub counts_fit : 0 < position.left → (took : Bool) → steps + one_if took ≤ loop_room
   counts_fit more true = omega (arith, going.room, some_ahead threads q position more)
   counts_fit more false = omega (arith, going.room)
-
--- a trace keeps its length
-pub put_length : (took : Bool) (trace : List ℕ) (place entry : ℕ) → length (pick took (set trace place entry) trace) ≡ length trace
-put_length true trace place entry = length-set trace place entry
-put_length false trace place entry = refl
 
 -- the run begins, or is over where it is refused
 pub run_begins : (scripts : List ℕ) (q lent : ℕ) (w : Scripted) (trace : List ℕ) (answer : DispatchAnswer) (rounds : ℕ) → WellTyped w.table

@@ -54,6 +54,7 @@ fn script_known(scripts: &[u8], objects: u8, cursor: ScriptCursor) -> bool
 }
 
 // So is each of the threads', from the last to the first.
+#[tactic(auto, using(lock_table::proofs::Places::place_inside))]
 fn each_known(scripts: &[u8], threads: u8, objects: u8, cursors: [ScriptCursor; 32]) -> bool
     ensures { result ≡ all_up_to threads (λ n. script_known scripts.now objects (cursor_at cursors n)) }
 {

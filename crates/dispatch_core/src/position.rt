@@ -33,6 +33,7 @@ fn left_of(cursor: ScriptCursor) -> u32
     0
 }
 
+#[tactic(auto, using(lock_table::proofs::Places::place_inside))]
 fn operations_left(threads: u8, cursors: [ScriptCursor; 32]) -> u64
     ensures value { result ≡ operations_left threads cursors }
     ensures small { result ≤ threads * cursor_room }

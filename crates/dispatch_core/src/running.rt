@@ -16,6 +16,7 @@ use lock_work::{work_done, work_stays};
 // Runs the scripts from the given cursors on, round after round, until a round is without a step. `lent` records were lent; those of the table's threads are
 // the first cursors. Refused, it changes nothing. Soundness is tested once, before the loop: every event keeps it. A begin is made on the record that
 // the step is then taken from, since it changes nothing else.
+#[tactic(auto, using(lock_table::proofs::Places::place_inside))]
 pub fn run_scripts(
     table: Table,
     quantum: u32,
