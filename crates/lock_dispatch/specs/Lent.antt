@@ -1,6 +1,5 @@
 -- Records that are lent: copied into an array for a run, and back after it.
-use Rattle.std.specs.Prelude.{nat_lt, slice_index_or, slice_set}
-use Rattle.std.specs.Prelude.{ℕ, zero, suc, ◌≡◌, ◌≢◌, List, ltb, length, replicate, get_or, set}
+use Rattle.std.specs.Prelude.{ℕ, zero, suc, ◌≡◌, ◌≢◌, List, nat_lt, length, replicate, slice_index_or, slice_set}
 use Rattle.laws.specs.Choice.{pick}
 use Rattle.lock_table.specs.Limits.{thread_limit}
 use Rattle.lock_table.specs.declared.record.Table.{Table}

@@ -10,7 +10,7 @@ use dispatch_core::run_scripts;
 use dispatch_rules::{Dispatched, ScriptCursor};
 use lock_table::{THREADS, Table};
 
-// The array with its first records those of the slice, which stays as it is. It takes the slice as `store` does, so that both are walked alike.
+// The array with its first records those of the slice, which stays as it is. It takes the slice as `store` does.
 fn load(cursors: &mut [ScriptCursor], array: [ScriptCursor; 32], count: usize) -> [ScriptCursor; 32]
     requires { (count ≤ thread_limit) × (count ≤ length cursors.old) }
     ensures value { result ≡ copied count cursors.old array }
