@@ -28,7 +28,6 @@ fn ended(turn: Turn, used: usize) -> Progress
 }
 
 // What is left of a line that was answered already prints nothing; a last piece without a newline is a line of its own.
-#[tactic(auto, using(replay_parts::proofs::AnySplit::end_inside, replay_parts::proofs::AnySplit::end_empty, replay_parts::proofs::AnySplit::end_piece, replay_parts::proofs::AnySplit::end_part))]
 pub(crate) fn take_end(state: State, inside: bool, input: &[u8], out: &mut [u8]) -> Progress
     requires { (end_room ≤ length out.old) × (line_end input.now ≡ 0) }
     ensures { FedFrom state inside true input.now out.new result }

@@ -165,7 +165,6 @@ fn take_lines(start: State, input: &[u8], out: &mut [u8]) -> Progress
 }
 
 // What is left of a line that was answered already.
-#[tactic(auto, using(replay_parts::proofs::Taken::skipped_part, replay_parts::proofs::Taken::skipped_line))]
 fn skip_line(state: State, input: &[u8], out: &mut [u8]) -> Progress
     ensures { FedLines state true input.now out.old out.new result }
 {
@@ -191,7 +190,6 @@ fn skip_line(state: State, input: &[u8], out: &mut [u8]) -> Progress
 }
 
 // The start of a line that is too long for any form: it is answered, and what is left of it will be skipped.
-#[tactic(auto, using(replay_parts::proofs::Taken::long_part))]
 fn take_long_line(state: State, input: &[u8], out: &mut [u8]) -> Progress
     requires { (line_limit < length input.now) × (line_end input.now ≡ 0) × (line_room ≤ length out.old) }
     ensures { FedLines state false input.now out.old out.new result }

@@ -19,7 +19,6 @@ pub struct Turn {
 }
 
 // A line without a newline: the start of one that is too long, or the last piece of the input. It is no event.
-#[tactic(auto, using(crate::proofs::NoEvent::open_not_in_place, crate::proofs::Turned::turned, crate::proofs::Turned::taken_by_parts))]
 pub(crate) fn take_line(state: State, issound: bool, line: &[u8], out: &mut [u8], at: usize) -> Turn
     requires { (at + line_room ≤ length out.old) × (issound ≡ session_sound state.session) × (line_end line.now ≡ 0) }
     ensures { Turned state line.now out.old out.new at result }
@@ -49,7 +48,6 @@ pub(crate) fn take_line(state: State, issound: bool, line: &[u8], out: &mut [u8]
 }
 
 // The end of the input.
-#[tactic(auto, using(crate::proofs::Turned::closed))]
 pub(crate) fn close(state: State, out: &mut [u8], at: usize) -> Turn
     requires { at + report_room ≤ length out.old }
     ensures { Closed state out.old out.new at result }

@@ -1,0 +1,224 @@
+use Rattle.std.proofs.Common.{ℕ, ◌≡◌, ◌<◌, take, inl, inr, refl, sym, ◌∙◌, arith}
+use Rattle.replay_text.specs.Text.{answer_text}
+use Rattle.lock_table.specs.Limits.{thread_limit, object_limit}
+use Rattle.lock_table.specs.Place.{thread_place, object_place}
+use Rattle.lock_table.proofs.Places.{place_inside}
+use Rattle.lock_engine.specs.Handle.{handle_trusting}
+use Rattle.lock_engine.proofs.InPlace.{Taken, stored_so, worked_so}
+use Rattle.replay_lines.specs.Grammar.{read_line}
+use Rattle.replay_lines.proofs.Lines.{line_fits, line_length, rest_shorter}
+use Rattle.replay_parts.proofs.Turn.{going_first, going_stops}
+use Rattle.program_state.proofs.OwnedState.{state_well_typed}
+use Rattle.replay_stream.specs.Stream.{joined}
+use Rattle.replay_stream.proofs.SoundSession.{well_typed_by}
+use Rattle.replay_stream.proofs.StateInPlace.{EventDone, replayed, reported, lines_left, sound_stays}
+use Rattle.replay_stream.proofs.Turned.{taken_by_parts, next_line, next_silent}
+use Rattle.replay_stream.proofs.feeding.take_lines.Goals as goal
+use Rattle.replay_stream.proofs.feeding.take_lines.Goals.{else-loop-out-test, then-loop-out-test+then-end-eq0, then-work_stays, else-work_stays}
+
+place_in : (place thread : ℕ) → place ≡ thread_place thread → place < thread_limit
+place_in place thread is = rw is (place_inside thread_limit thread (omega arith))
+
+home_in : (home object : ℕ) → home ≡ object_place object → home < object_limit
+home_in home object is = rw is (place_inside object_limit object (omega arith))
+
+pub loop-out-init : goal.loop-out-init
+loop-out-init c = (
+  going_first _ _ _ _,
+  c.session_sound-issound.ensures,
+  well_typed_by c.args.start.session.stage (state_well_typed c.args.start _ c.well_formed.0),
+)
+
+-- the loop stops for want of room, or of a whole line
+pub returns : goal.returns
+returns c =
+    rw (c.progressed.ensures, c.joined.ensures)
+    (λ last goes_on.
+    going_stops c.loop-out.invariant.0
+    (elim c.loop-out-test.branch [
+      | else-loop-out-test w ↦ inl w.loop-out-test.false
+      | then-loop-out-test+then-end-eq0 w ↦ inr (sym w.line_end-end.ensures ∙ w.if-end-eq0.true)
+    ])
+    c.requires goes_on)
+
+pub slice_bounds-read_line-end : goal.slice_bounds-read_line-end
+slice_bounds-read_line-end c = line_length c.line_end-end.result c.loop-out.rest.now c.line_end-end.ensures
+
+pub slice_bounds-rest-count : goal.slice_bounds-rest-count
+slice_bounds-rest-count c = line_fits c.line_end-end.result c.loop-out.rest.now c.line_end-end.ensures
+
+pub slice_bounds-rest-start : goal.slice_bounds-rest-start
+slice_bounds-rest-start c = line_fits c.line_end-end.result c.loop-out.rest.now c.line_end-end.ensures
+
+-- the rest is shorter behind a line that was read
+pub loop-out-smaller-then-not-runs_in_place : goal.loop-out-smaller-then-not-runs_in_place
+loop-out-smaller-then-not-runs_in_place c = rest_shorter c.line_end-end.result c.loop-out.rest.now c.line_end-end.ensures c.if-end-eq0.false
+
+pub loop-out-smaller-then-reporting : goal.loop-out-smaller-then-reporting
+loop-out-smaller-then-reporting c = rest_shorter c.line_end-end.result c.loop-out.rest.now c.line_end-end.ensures c.if-end-eq0.false
+
+pub loop-out-smaller : goal.loop-out-smaller
+loop-out-smaller c = rest_shorter c.line_end-end.result c.loop-out.rest.now c.line_end-end.ensures c.if-end-eq0.false
+
+-- a line that is no event of a thread to be carried out in place
+pub loop-out-preserved-then-not-runs_in_place : goal.loop-out-preserved-then-not-runs_in_place
+loop-out-preserved-then-not-runs_in_place c =
+    let gave =
+    taken_by_parts (joined c.args.start.reporting c.loop-out.stage c.loop-out.table c.loop-out.tally) c.loop-out.issound
+    (sym c.runs_in_place.ensures ∙ c.if-not-runs_in_place.true) c.read_line-line.ensures
+    c.line_reaction-reaction.ensures c.line_answer-said.ensures c.lines_after.ensures c.largest_after.ensures in
+    next_line c.loop-out.invariant c.line_end-end.ensures c.if-end-eq0.false gave c.loop-out-test.true c.put_answer-wrote.ensures
+    c.put_answer-wrote.auto.out (rw c.read_line-line.ensures at c.sound_after-issound.ensures)
+
+pub bounds-table-place : goal.bounds-table-place
+bounds-table-place c = place_in _ _ c.thread_place-place.ensures
+
+pub offset_bounds-table-place : goal.offset_bounds-table-place
+offset_bounds-table-place c = let inside : c.thread_place-place.result < thread_limit = place_in _ _ c.thread_place-place.ensures in omega (arith, inside)
+
+pub bounds-table-home : goal.bounds-table-home
+bounds-table-home c = home_in _ _ c.object_place-home.ensures
+
+pub offset_bounds-table-home : goal.offset_bounds-table-home
+offset_bounds-table-home c = let inside : c.object_place-home.result < object_limit = home_in _ _ c.object_place-home.ensures in omega (arith, inside)
+
+pub bounds-table-place-then-work_stays : goal.bounds-table-place-then-work_stays
+bounds-table-place-then-work_stays c = place_in _ _ c.thread_place-place.ensures
+
+pub offset_bounds-table-place-then-work_stays : goal.offset_bounds-table-place-then-work_stays
+offset_bounds-table-place-then-work_stays c = let inside : c.thread_place-place.result < thread_limit = place_in _ _ c.thread_place-place.ensures in omega (arith, inside)
+
+pub bounds-table-home-then-work_stays : goal.bounds-table-home-then-work_stays
+bounds-table-home-then-work_stays c = home_in _ _ c.object_place-home.ensures
+
+pub offset_bounds-table-home-then-work_stays : goal.offset_bounds-table-home-then-work_stays
+offset_bounds-table-home-then-work_stays c = let inside : c.object_place-home.result < object_limit = home_in _ _ c.object_place-home.ensures in omega (arith, inside)
+
+pub bounds-tally-home : goal.bounds-tally-home
+bounds-tally-home c = home_in _ _ c.object_place-home.ensures
+
+pub offset_bounds-tally-home : goal.offset_bounds-tally-home
+offset_bounds-tally-home c = let inside : c.object_place-home.result < object_limit = home_in _ _ c.object_place-home.ensures in omega (arith, inside)
+
+pub bounds-tally-home-then-reporting : goal.bounds-tally-home-then-reporting
+bounds-tally-home-then-reporting c = home_in _ _ c.object_place-home.ensures
+
+pub offset_bounds-tally-home-then-reporting : goal.offset_bounds-tally-home-then-reporting
+offset_bounds-tally-home-then-reporting c = let inside : c.object_place-home.result < object_limit = home_in _ _ c.object_place-home.ensures in omega (arith, inside)
+
+-- the report has lines left to count
+pub overflow_add-tally : goal.overflow_add-tally
+overflow_add-tally c =
+    let turn = c.turn_with-turn.result in
+    let taken : Taken c.loop-out.table c.line_event-event.result c.loop-out.issound c.event_thread-thread.result c.thread_place-place.result
+    c.event_object-number.result c.object_place-home.result turn =
+    record {
+      thread_is = c.event_thread-thread.ensures;
+      place_is = c.thread_place-place.ensures;
+      number_is = c.event_object-number.ensures;
+      home_is = c.object_place-home.ensures;
+      turn_is = c.turn_with-turn.ensures;
+    } in
+    let handled : record { table = c.if-work_stays.table; reply = turn.reply; commits = turn.commits; unparked = c.if-work_stays.unparked }
+    ≡ handle_trusting c.loop-out.table c.line_event-event.result c.loop-out.issound =
+    elim c.if-work_stays.branch [
+      | then-work_stays w ↦
+          (λ j. record { table = w.table-is j; reply = turn.reply; commits = turn.commits; unparked = w.unparked-is j })
+          ∙ stored_so taken (sym c.work_stays.ensures ∙ w.if-work_stays.true)
+      | else-work_stays w ↦
+          (λ j. record { table = w.table-is j; reply = turn.reply; commits = turn.commits; unparked = w.unparked-is j })
+          ∙ worked_so taken (sym c.work_stays.ensures ∙ w.if-work_stays.false) w.work_done-done.ensures
+    ] in
+    let done : EventDone c.loop-out.stage c.loop-out.table c.read_line-line.result (read_line (take c.line_end-end.result c.loop-out.rest.now))
+    c.line_event-event.result c.loop-out.issound c.event_thread-thread.result c.thread_place-place.result c.event_object-number.result
+    c.object_place-home.result c.if-work_stays.unparked turn c.if-work_stays.table =
+    record {
+      taken = taken;
+      read = c.read_line-line.ensures;
+      asks = c.line_event-event.ensures;
+      known = c.loop-out.invariant.1;
+      typed = c.loop-out.invariant.2;
+      handled = handled;
+    } in
+    let runs = sym c.runs_in_place.ensures ∙ c.if-not-runs_in_place.false in
+    let left = lines_left done c.loop-out.tally c.if-reporting.true runs in
+    omega (arith, left)
+
+-- it has counted the event
+pub loop-out-preserved-then-reporting : goal.loop-out-preserved-then-reporting
+unfolding answer_text
+loop-out-preserved-then-reporting c =
+    let turn = c.turn_with-turn.result in
+    let taken : Taken c.loop-out.table c.line_event-event.result c.loop-out.issound c.event_thread-thread.result c.thread_place-place.result
+    c.event_object-number.result c.object_place-home.result turn =
+    record {
+      thread_is = c.event_thread-thread.ensures;
+      place_is = c.thread_place-place.ensures;
+      number_is = c.event_object-number.ensures;
+      home_is = c.object_place-home.ensures;
+      turn_is = c.turn_with-turn.ensures;
+    } in
+    let handled : record { table = c.if-work_stays.table; reply = turn.reply; commits = turn.commits; unparked = c.if-work_stays.unparked }
+    ≡ handle_trusting c.loop-out.table c.line_event-event.result c.loop-out.issound =
+    elim c.if-work_stays.branch [
+      | then-work_stays w ↦
+          (λ j. record { table = w.table-is j; reply = turn.reply; commits = turn.commits; unparked = w.unparked-is j })
+          ∙ stored_so taken (sym c.work_stays.ensures ∙ w.if-work_stays.true)
+      | else-work_stays w ↦
+          (λ j. record { table = w.table-is j; reply = turn.reply; commits = turn.commits; unparked = w.unparked-is j })
+          ∙ worked_so taken (sym c.work_stays.ensures ∙ w.if-work_stays.false) w.work_done-done.ensures
+    ] in
+    let done : EventDone c.loop-out.stage c.loop-out.table c.read_line-line.result (read_line (take c.line_end-end.result c.loop-out.rest.now))
+    c.line_event-event.result c.loop-out.issound c.event_thread-thread.result c.thread_place-place.result c.event_object-number.result
+    c.object_place-home.result c.if-work_stays.unparked turn c.if-work_stays.table =
+    record {
+      taken = taken;
+      read = c.read_line-line.ensures;
+      asks = c.line_event-event.ensures;
+      known = c.loop-out.invariant.1;
+      typed = c.loop-out.invariant.2;
+      handled = handled;
+    } in
+    let runs = sym c.runs_in_place.ensures ∙ c.if-not-runs_in_place.false in
+    rw (c.with_enter-tally.ensures, c.with_enter-counted.ensures, c.event_way-way.ensures)
+    (next_silent c.loop-out.invariant c.line_end-end.ensures c.if-end-eq0.false (reported done c.loop-out.tally c.if-reporting.true runs) refl
+    (sound_stays done c.loop-out.tally _ runs))
+
+-- the replay has printed it
+pub loop-out-preserved : goal.loop-out-preserved
+loop-out-preserved c =
+    let turn = c.turn_with-turn.result in
+    let taken : Taken c.loop-out.table c.line_event-event.result c.loop-out.issound c.event_thread-thread.result c.thread_place-place.result
+    c.event_object-number.result c.object_place-home.result turn =
+    record {
+      thread_is = c.event_thread-thread.ensures;
+      place_is = c.thread_place-place.ensures;
+      number_is = c.event_object-number.ensures;
+      home_is = c.object_place-home.ensures;
+      turn_is = c.turn_with-turn.ensures;
+    } in
+    let handled : record { table = c.if-work_stays.table; reply = turn.reply; commits = turn.commits; unparked = c.if-work_stays.unparked }
+    ≡ handle_trusting c.loop-out.table c.line_event-event.result c.loop-out.issound =
+    elim c.if-work_stays.branch [
+      | then-work_stays w ↦
+          (λ j. record { table = w.table-is j; reply = turn.reply; commits = turn.commits; unparked = w.unparked-is j })
+          ∙ stored_so taken (sym c.work_stays.ensures ∙ w.if-work_stays.true)
+      | else-work_stays w ↦
+          (λ j. record { table = w.table-is j; reply = turn.reply; commits = turn.commits; unparked = w.unparked-is j })
+          ∙ worked_so taken (sym c.work_stays.ensures ∙ w.if-work_stays.false) w.work_done-done.ensures
+    ] in
+    let done : EventDone c.loop-out.stage c.loop-out.table c.read_line-line.result (read_line (take c.line_end-end.result c.loop-out.rest.now))
+    c.line_event-event.result c.loop-out.issound c.event_thread-thread.result c.thread_place-place.result c.event_object-number.result
+    c.object_place-home.result c.if-work_stays.unparked turn c.if-work_stays.table =
+    record {
+      taken = taken;
+      read = c.read_line-line.ensures;
+      asks = c.line_event-event.ensures;
+      known = c.loop-out.invariant.1;
+      typed = c.loop-out.invariant.2;
+      handled = handled;
+    } in
+    let runs = sym c.runs_in_place.ensures ∙ c.if-not-runs_in_place.false in
+    next_line c.loop-out.invariant c.line_end-end.ensures c.if-end-eq0.false
+    (replayed done c.loop-out.tally c.if-reporting.false runs c.event_answer.ensures) c.loop-out-test.true
+    c.put_answer-wrote-else-reporting.ensures c.put_answer-wrote-else-reporting.auto.out (sound_stays done c.loop-out.tally _ runs)
