@@ -38,7 +38,7 @@ module _ (event : Event) {first table : Table} {thread number : ℕ} {own : Thre
   unfolding handle handle_trusting
   turn_answers =
       λ j. packed_of (reply_returned (turn_same j).reply) (reply_woken (turn_same j).reply) (turn_same j).commits
-          (pick (work_stays (turn_same j).work) 0 (work_done_of (table_is j) (thread_is j) (number_same j) (turn_same j)).unparked)
+      (pick (work_stays (turn_same j).work) 0 (work_done_of (table_is j) (thread_is j) (number_same j) (turn_same j)).unparked)
 
   pub turn_stores : (bytes : List ℕ)
       → store_turn bytes table thread number turn (reply_changes turn.reply)

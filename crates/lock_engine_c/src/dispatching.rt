@@ -1,5 +1,4 @@
-// A run of scripts over a table in bytes (document 02, L6): the bytes are read once, and written once if the run takes a step. The borrow checker does not
-// cover a slice of structs, so the call that holds it is proved by a walk of its MIR, by hand, and does no more than three calls.
+// A run of scripts over a table in bytes (document 02, L6): the bytes are read once, and written once if the run takes a step.
 ghost use Rattle.std.specs.Prelude.{◌≡◌, ◌<◌, ltb};
 ghost use Rattle.table_bytes.specs.Reading.{AreBytes};
 ghost use Rattle.dispatch_rules.specs.Dispatch.{steps_room};
@@ -17,7 +16,7 @@ use table_bytes::{is_table, read_table};
 const STEPS_UNIT: u64 = 256;
 
 // The table that the bytes say; where they are no table, one without threads, which is not sound, so that the run is refused with 11. That the
-// slice holds bytes is said for the walk below, which does not look into it.
+// slice holds bytes is said for the call below.
 fn table_or_none(bytes: &[u8]) -> Table
     ensures value { result ≡ table_or_none bytes.now }
     ensures small { AreBytes bytes.now }

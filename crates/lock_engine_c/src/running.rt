@@ -48,6 +48,7 @@ fn event_at(events: &[u8], at: usize) -> Event
 
 // Runs the events one behind the other, as calls of their own would. What is no table's, or not sound, stays so: it is tested
 // once, and every event is answered 11.
+#[tactic(auto, using(lock_table::proofs::Places::place_inside))]
 pub fn duskclamp_run(bytes: &mut [u8], events: &[u8], answers: &mut [u64]) -> usize
     ensures value { result ≡ run_count (length events.now) (length answers.old) }
     ensures answers_after { answers.new ≡ overwritten 0 (run_answers bytes.old (run_events events.now answers.old)) answers.old }
