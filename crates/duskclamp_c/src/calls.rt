@@ -1,13 +1,9 @@
 // The calls that change a table: a fresh one, a begin, a timed wait, a step, a tick.
 ghost use Rattle.std.specs.Prelude.{◌≡◌};
 ghost use Rattle.lock_rules.specs.Operations.{timed_wait};
-ghost use Rattle.lock_engine.specs.Handle.{handle};
-ghost use Rattle.lock_table.specs.Fresh.{fresh_of};
 ghost use Rattle.table_bytes.specs.Layout.{table_size};
-ghost use Rattle.table_bytes.specs.Reading.{is_table, table_of};
-ghost use Rattle.lock_engine_c.specs.Calls.{event_answer, event_bytes, RefusedTo, RefusedLeaves};
-ghost use Rattle.lock_engine_c.specs.Calls.{answer_changes, reply_changes, stored_over, store_turn, event_over};
-ghost use Rattle.lock_engine_c.specs.Calls.{begun_on, stepped_on, ticked_on, fresh_on, has_size, fresh_answer, fresh_bytes, fresh_if_sized};
+ghost use Rattle.table_bytes.specs.Reading.{is_table};
+ghost use Rattle.lock_engine_c.specs.Calls.{event_answer, event_bytes, RefusedTo, RefusedLeaves, begun_on, stepped_on, ticked_on, fresh_on, has_size, fresh_answer, fresh_bytes};
 
 // How many bytes a table has.
 #[unsafe(no_mangle)]

@@ -1,9 +1,6 @@
 // A run of scripts.
-ghost use Rattle.std.specs.Prelude.{◌≡◌, ◌<◌, ltb};
-ghost use Rattle.table_bytes.specs.Reading.{AreBytes};
-ghost use Rattle.dispatch_rules.specs.Dispatch.{steps_room};
-ghost use Rattle.lock_engine_c.specs.Calls.{stored_over};
-ghost use Rattle.lock_engine_c.specs.Dispatch.{run_answer, dispatched_answer, dispatched_bytes, dispatched_cursors, dispatched_trace, table_or_none};
+ghost use Rattle.std.specs.Prelude.{◌≡◌};
+ghost use Rattle.lock_engine_c.specs.Dispatch.{dispatched_answer, dispatched_bytes, dispatched_cursors, dispatched_trace};
 
 use dispatch_rules::ScriptCursor;
 

@@ -1,7 +1,7 @@
 // A fresh table with what its threads are given.
-ghost use Rattle.std.specs.Prelude.{◌≡◌, get_or};
+ghost use Rattle.std.specs.Prelude.{◌≡◌};
 ghost use Rattle.lock_engine_c.specs.Calls.{has_size, fresh_answer, fresh_bytes};
-ghost use Rattle.lock_engine_c.specs.Given.{given_from, threads_from, fresh_given_on};
+ghost use Rattle.lock_engine_c.specs.Given.{fresh_given_on};
 
 // A fresh table whose threads are given this: 11, 22 or 27 where there is none, and the bytes are left.
 #[unsafe(no_mangle)]

@@ -1,6 +1,5 @@
 // A run: many events in one call.
-ghost use Rattle.std.specs.Prelude.{◌≡◌, ◌+◌, ◌≤◌, length};
-ghost use Rattle.event_bytes.specs.Encoding.{event_size, event_at};
+ghost use Rattle.std.specs.Prelude.{◌≡◌, length};
 ghost use Rattle.table_bytes.specs.Rows.{overwritten};
 ghost use Rattle.lock_engine_c.specs.Run.{run_count, run_events, run_answers, run_bytes};
 
