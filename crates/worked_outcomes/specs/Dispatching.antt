@@ -1,6 +1,6 @@
 -- Examples of the dispatcher (document 02, L6), on tables that the engine's definition computes with: what a step is, that it is taken from the record as
 -- begun, and where it stands in the trace.
-use Rattle.std.specs.Prelude.{ℕ, ◌≡◌, true, false, List, [], ◌∷◌}
+use Rattle.std.specs.Prelude.{ℕ, ◌≡◌, true, false, [], ◌∷◌}
 use Rattle.lock_rules.specs.declared.Doing.{Doing}
 use Rattle.lock_rules.specs.declared.Doing.TheVariants.{EnterCheck, ExitLook}
 use Rattle.lock_table.specs.Record.{no_monitor}
