@@ -20,11 +20,11 @@ use Rattle.replay_program.proofs.Written.{written_both}
 use Rattle.replay_program.proofs.Draining.{PassedTo, passed_to_none}
 
 -- some input was read, and passed on up to `rest`, and what it printed was written; `ended` says that it has ended, and `failed` that a write failed
-pub record Read (reporting ended failed : Bool) (readbefore readafter writtenbefore writtenafter : Option (List ℕ)) (stream : Stream) (rest : List ℕ) : Type 0 where
+pub record Read (reporting ended failed : Bool) (read_before read_after written_before written_after : Option (List ℕ)) (stream : Stream) (rest : List ℕ) : Type 0 where
   pub input : List ℕ
-  pub passed : PassedTo failed writtenbefore writtenafter (fresh_stream reporting) ended input stream rest
-  pub read : Consumes readbefore readafter input
-  pub at_end : ended ≡ true → IsAtEnd readafter
+  pub passed : PassedTo failed written_before written_after (fresh_stream reporting) ended input stream rest
+  pub read : Consumes read_before read_after input
+  pub at_end : ended ≡ true → IsAtEnd read_after
 
 pub read_first : {reporting : Bool} {stream : Stream} (given written : Option (List ℕ)) → stream ≡ fresh_stream reporting
     → Read reporting false false given given written written stream []
@@ -36,11 +36,11 @@ read_first {reporting} given written fresh =
       at_end = λ never. false≢true never;
     })
 
-module _ {reporting : Bool} {readbefore readnow readafter writtenbefore writtennow : Option (List ℕ)} {stream : Stream} {held : ℕ} {before after : List ℕ} {r : Moved}
-    (behind : ReadBehind held before after r) (came : Consumes readnow readafter (take (r.count - held) (drop held after)))
-    (read : Read reporting false false readbefore readnow writtenbefore writtennow stream (take held before)) where
+module _ {reporting : Bool} {read_before read_now read_after written_before written_now : Option (List ℕ)} {stream : Stream} {held : ℕ} {before after : List ℕ} {r : Moved}
+    (behind : ReadBehind held before after r) (came : Consumes read_now read_after (take (r.count - held) (drop held after)))
+    (read : Read reporting false false read_before read_now written_before written_now stream (take held before)) where
   -- what came stands behind what was held
-  pub read_more : Read reporting false false readbefore readafter writtenbefore writtennow stream (take r.count after)
+  pub read_more : Read reporting false false read_before read_after written_before written_now stream (take r.count after)
   unfolding passed_more
   read_more =
       let more = take (r.count - held) (drop held after) in
@@ -48,26 +48,26 @@ module _ {reporting : Bool} {readbefore readnow readafter writtenbefore writtenn
       let whole : held + (r.count - held) ≡ r.count = omega arith in
       let joined : take held before ++ more ≡ take r.count after =
       ap (λ (x : List ℕ). x ++ more) (sym behind.kept) ∙ sym (take-add held (r.count - held) after) ∙ ap (λ (n : ℕ). take n after) whole in
-      let further : PassedTo false writtenbefore writtennow (fresh_stream reporting) false (read.input ++ more) stream (take held before ++ more) =
+      let further : PassedTo false written_before written_now (fresh_stream reporting) false (read.input ++ more) stream (take held before ++ more) =
       record { passed = passed_more more read.passed.passed; wrote = read.passed.wrote } in
       record {
         input = read.input ++ more;
-        passed = subst (λ (x : List ℕ). PassedTo false writtenbefore writtennow (fresh_stream reporting) false (read.input ++ more) stream x) joined further;
-        read = Consumes-trans readbefore readnow readafter read.input more read.read came;
+        passed = subst (λ (x : List ℕ). PassedTo false written_before written_now (fresh_stream reporting) false (read.input ++ more) stream x) joined further;
+        read = Consumes-trans read_before read_now read_after read.input more read.read came;
         at_end = λ never. false≢true never;
       }
 
   -- nothing came
-  pub read_same : r.failed ≡ true → Read reporting false false readbefore readafter writtenbefore writtennow stream (take held after)
+  pub read_same : r.failed ≡ true → Read reporting false false read_before read_after written_before written_now stream (take held after)
   read_same fails =
-      subst (λ (n : ℕ). Read reporting false false readbefore readafter writtenbefore writtennow stream (take n after)) (behind.none_failed fails) read_more
+      subst (λ (n : ℕ). Read reporting false false read_before read_after written_before written_now stream (take n after)) (behind.none_failed fails) read_more
 
 -- a part was taken
-module _ {writtennow writtenafter : Option (List ℕ)} {start : Stream} {last : Bool} {count : ℕ} {before after : List ℕ} {r : Held}
-    (to : TakesTo writtennow writtenafter start last count before after r) where
-  pub read_taken : {reporting : Bool} {readbefore readafter writtenbefore : Option (List ℕ)} → (last ≡ true → IsAtEnd readafter)
-      → Read reporting false false readbefore readafter writtenbefore writtennow start (take count before)
-      → Read reporting last r.failed readbefore readafter writtenbefore writtenafter r.stream (take r.held after)
+module _ {written_now written_after : Option (List ℕ)} {start : Stream} {last : Bool} {count : ℕ} {before after : List ℕ} {r : Held}
+    (to : TakesTo written_now written_after start last count before after r) where
+  pub read_taken : {reporting : Bool} {read_before read_after written_before : Option (List ℕ)} → (last ≡ true → IsAtEnd read_after)
+      → Read reporting false false read_before read_after written_before written_now start (take count before)
+      → Read reporting last r.failed read_before read_after written_before written_after r.stream (take r.held after)
   unfolding passed_both
   read_taken at_end read = record {
     input = read.input;
@@ -80,19 +80,19 @@ module _ {writtennow writtenafter : Option (List ℕ)} {start : Stream} {last : 
   held_short wrote = omega (arith, (to.takes.settled wrote).short, length-take-le r.held after to.takes.held_within)
 
 -- the input has not ended, and no write failed
-pub read_open : {reporting ended failed : Bool} {readbefore readafter writtenbefore writtenafter : Option (List ℕ)} {stream : Stream} {rest : List ℕ}
-    → ended ≡ false → failed ≡ false → Read reporting ended failed readbefore readafter writtenbefore writtenafter stream rest
-    → Read reporting false false readbefore readafter writtenbefore writtenafter stream rest
-read_open {reporting} {ended} {failed} {readbefore} {readafter} {writtenbefore} {writtenafter} {stream} {rest} more wrote read =
-    subst (λ (x : Bool). Read reporting x false readbefore readafter writtenbefore writtenafter stream rest) more
-    (subst (λ (x : Bool). Read reporting ended x readbefore readafter writtenbefore writtenafter stream rest) wrote read)
+pub read_open : {reporting ended failed : Bool} {read_before read_after written_before written_after : Option (List ℕ)} {stream : Stream} {rest : List ℕ}
+    → ended ≡ false → failed ≡ false → Read reporting ended failed read_before read_after written_before written_after stream rest
+    → Read reporting false false read_before read_after written_before written_after stream rest
+read_open {reporting} {ended} {failed} {read_before} {read_after} {written_before} {written_after} {stream} {rest} more wrote read =
+    subst (λ (x : Bool). Read reporting x false read_before read_after written_before written_after stream rest) more
+    (subst (λ (x : Bool). Read reporting ended x read_before read_after written_before written_after stream rest) wrote read)
 
-pub runs : {reporting ended failed : Bool} {readbefore readafter writtenbefore writtenafter : Option (List ℕ)} {stream : Stream} {held : ℕ} {buffer : List ℕ} {ending : Ending}
-    → Read reporting ended failed readbefore readafter writtenbefore writtenafter stream (take held buffer) → failed ≡ write_failed ending
+pub runs : {reporting ended failed : Bool} {read_before read_after written_before written_after : Option (List ℕ)} {stream : Stream} {held : ℕ} {buffer : List ℕ} {ending : Ending}
+    → Read reporting ended failed read_before read_after written_before written_after stream (take held buffer) → failed ≡ write_failed ending
     → EndedAs ending ended stream (take held buffer)
-    → RunsOn reporting readbefore readafter writtenbefore writtenafter buffer (record { stream = stream; held = held; ending = ending })
-runs {reporting} {ended} {failed} {readbefore} {readafter} {writtenbefore} {writtenafter} {stream} {held} {buffer} {ending} read same right =
-    let told = subst (λ (x : Bool). Read reporting ended x readbefore readafter writtenbefore writtenafter stream (take held buffer)) same read in
+    → RunsOn reporting read_before read_after written_before written_after buffer (record { stream = stream; held = held; ending = ending })
+runs {reporting} {ended} {failed} {read_before} {read_after} {written_before} {written_after} {stream} {held} {buffer} {ending} read same right =
+    let told = subst (λ (x : Bool). Read reporting ended x read_before read_after written_before written_after stream (take held buffer)) same read in
     record {
       runs = record { input = told.input; ended = ended; passed = told.passed.passed; right = right };
       read = told.read;

@@ -14,17 +14,17 @@ use Rattle.replay_program.specs.declared.running.Drained.{Drained}
 use Rattle.replay_program.specs.Run.{SettledAt, DrainsTo, TakesTo}
 use Rattle.replay_program.proofs.Draining.{PassedTo}
 
-pub taken_part : {writtenbefore writtenafter : Option (List ℕ)} {start : Stream} {last : Bool} {held : ℕ} {before after : List ℕ} {r : Drained}
-    → held ≤ length before → DrainsTo writtenbefore writtenafter start last (take held before) r → after ≡ keep_rest r.from held before
-    → TakesTo writtenbefore writtenafter start last held before after (record { stream = r.stream; held = held - r.from; failed = r.failed })
-taken_part {writtenbefore} {writtenafter} {start} {last} {held} {before} {after} {r} fits to kept =
+pub taken_part : {written_before written_after : Option (List ℕ)} {start : Stream} {last : Bool} {held : ℕ} {before after : List ℕ} {r : Drained}
+    → held ≤ length before → DrainsTo written_before written_after start last (take held before) r → after ≡ keep_rest r.from held before
+    → TakesTo written_before written_after start last held before after (record { stream = r.stream; held = held - r.from; failed = r.failed })
+taken_part {written_before} {written_after} {start} {last} {held} {before} {after} {r} fits to kept =
     let drains = to.drains in
     let order : r.from ≤ held = omega (arith, drains.from_within, length-take-le held before fits) in
     let front : drop r.from (take held before) ≡ take (held - r.from) after =
     sym (ap (take (held - r.from)) kept ∙ kept_front r.from held before order fits) in
-    let rest : PassedTo r.failed writtenbefore writtenafter start last (take held before) r.stream (drop r.from (take held before)) =
+    let rest : PassedTo r.failed written_before written_after start last (take held before) r.stream (drop r.from (take held before)) =
     record { passed = drains.passed; wrote = to.wrote } in
-    let moved = subst (λ (x : List ℕ). PassedTo r.failed writtenbefore writtenafter start last (take held before) r.stream x) front rest in
+    let moved = subst (λ (x : List ℕ). PassedTo r.failed written_before written_after start last (take held before) r.stream x) front rest in
     record {
       takes = record {
         held_within = omega (arith, fits, ap length kept, kept_length r.from held before order fits);

@@ -67,9 +67,9 @@ pub record Takes (start : Stream) (last : Bool) (held : ℕ) (before after : Lis
   pub passed : PassedOn start last (take held before) r.stream (take r.held after)
   pub settled : r.failed ≡ false → SettledAt r.stream last (take r.held after)
 
-pub record TakesTo (writtenbefore writtenafter : Option (List ℕ)) (start : Stream) (last : Bool) (held : ℕ) (before after : List ℕ) (r : Held) : Type 0 where
+pub record TakesTo (written_before written_after : Option (List ℕ)) (start : Stream) (last : Bool) (held : ℕ) (before after : List ℕ) (r : Held) : Type 0 where
   pub takes : Takes start last held before after r
-  pub wrote : Written r.failed writtenbefore writtenafter takes.passed.printed
+  pub wrote : Written r.failed written_before written_after takes.passed.printed
 
 -- bytes come behind those that the buffer holds; where the read failed there are none
 pub record ReadBehind (held : ℕ) (before after : List ℕ) (r : Moved) : Type 0 where
@@ -101,11 +101,11 @@ write_failed ReadFailed = false
 write_failed WriteFailed = true
 
 -- that input is what was read, up to the end where it has ended; and what was printed of it was written
-pub record RunsOn (reporting : Bool) (readbefore readafter writtenbefore writtenafter : Option (List ℕ)) (buffer : List ℕ) (r : Ran) : Type 0 where
+pub record RunsOn (reporting : Bool) (read_before read_after written_before written_after : Option (List ℕ)) (buffer : List ℕ) (r : Ran) : Type 0 where
   pub runs : Runs reporting buffer r
-  pub read : Consumes readbefore readafter runs.input
-  pub at_end : runs.ended ≡ true → IsAtEnd readafter
-  pub wrote : Written (write_failed r.ending) writtenbefore writtenafter runs.passed.printed
+  pub read : Consumes read_before read_after runs.input
+  pub at_end : runs.ended ≡ true → IsAtEnd read_after
+  pub wrote : Written (write_failed r.ending) written_before written_after runs.passed.printed
 
 -- a run that no failure stopped wrote what the program prints of all that its input had
 abbrev pub WritesReplay : Bool → Option (List ℕ) → Option (List ℕ) → Option (List ℕ) → Ending → Type 0
@@ -122,7 +122,7 @@ status_of ReadFailed = 4
 status_of WriteFailed = 5
 
 -- a run as the program's loop makes one, on some buffer, and the exit status that tells how it ended
-pub record Tells (reporting : Bool) (readbefore readafter writtenbefore writtenafter : Option (List ℕ)) (r : Told) : Type 0 where
+pub record Tells (reporting : Bool) (read_before read_after written_before written_after : Option (List ℕ)) (r : Told) : Type 0 where
   pub buffer : List ℕ
-  pub runs : RunsOn reporting readbefore readafter writtenbefore writtenafter buffer r.ran
+  pub runs : RunsOn reporting read_before read_after written_before written_after buffer r.ran
   pub code : exit_status r.code ≡ status_of r.ran.ending
