@@ -1,7 +1,8 @@
 -- A program's loop, of values; and of what was read and written, where the bytes that its input has left and its output holds are known.
-use Rattle.std.specs.Prelude.{ℕ, ◌≤◌, ◌≡◌, Bool, true, false, List, [], Option, IfSome, Result, Ok, Err, length, take, drop}
+use Rattle.std.specs.Prelude.{ℕ, ◌+◌, ◌≤◌, ◌≡◌, Bool, true, false, List, [], Option, IfSome, Result, Ok, Err, length, take, drop}
 use Rattle.std.specs.Io.KnownBytes.{Appends, Consumes, IsAtEnd}
 use Rattle.std.specs.Process.{exit_status}
+use Rattle.replay_text.specs.Bytes.{digit_zero}
 use Rattle.replay_parts.specs.Replay.{replay_of, rest_output}
 use Rattle.replay_parts.specs.Part.{Passed, Settled}
 use Rattle.program_state.specs.State.{fresh_state}
@@ -121,8 +122,13 @@ status_of Stopped = 3
 status_of ReadFailed = 4
 status_of WriteFailed = 5
 
--- a run as the program's loop makes one, on some buffer, and the exit status that tells how it ended
+-- its digit
+unfoldable pub ending_byte : Ending → ℕ
+ending_byte ending = digit_zero + status_of ending
+
+-- a run as the program's loop makes one, on some buffer, and the byte and the exit status that tell how it ended
 pub record Tells (reporting : Bool) (read_before read_after written_before written_after : Option (List ℕ)) (r : Told) : Type 0 where
   pub buffer : List ℕ
   pub runs : RunsOn reporting read_before read_after written_before written_after buffer r.ran
+  pub byte : r.byte ≡ ending_byte r.ran.ending
   pub code : exit_status r.code ≡ status_of r.ran.ending

@@ -1,7 +1,7 @@
-// How a run ended, and the exit status that says so.
+// How a run ended, and the exit status and the byte that say so.
 ghost use Rattle.std.specs.Prelude.{◌≡◌};
 ghost use Rattle.std.specs.Process.{exit_status};
-ghost use Rattle.replay_program.specs.Run.{status_of};
+ghost use Rattle.replay_program.specs.Run.{status_of, ending_byte};
 
 use std::process::ExitCode;
 
@@ -24,6 +24,19 @@ fn status_of(ending: Ending) -> u8
         Ending::Stopped => 3,
         Ending::ReadFailed => 4,
         Ending::WriteFailed => 5,
+    }
+}
+
+// The digit of the exit status that stands for the ending.
+#[tactic(auto, unfolding(crate::specs::Run::ending_byte, crate::specs::Run::status_of))]
+pub(crate) fn ending_byte(ending: Ending) -> u8
+    ensures { result ≡ ending_byte ending }
+{
+    match ending {
+        Ending::AllRead => b'0',
+        Ending::Stopped => b'3',
+        Ending::ReadFailed => b'4',
+        Ending::WriteFailed => b'5',
     }
 }
 

@@ -14,10 +14,11 @@ use running::Ran;
 use std::io::{Read, Write};
 use std::process::ExitCode;
 
-// How a run went, and the exit status that tells of it.
+// How a run went, the byte that tells of it, which is the digit of the exit status, and that status for `main`.
 #[derive(Clone, Copy)]
 pub struct Told {
     pub ran: Ran,
+    pub byte: u8,
     pub code: ExitCode,
 }
 
@@ -44,9 +45,11 @@ pub fn run_program<R: Read, W: Write, E: Write>(
     let mut out = large_buffer();
     let ran = running::run(reporting, input, output, errors, &mut buffer, &mut out);
     let ending = ran.ending;
+    let byte = ending::ending_byte(ending);
     let code = ending::exit_code(ending);
     Told {
         ran: ran,
+        byte: byte,
         code: code,
     }
 }

@@ -17,7 +17,7 @@ pub struct Moved {
 }
 
 // Whether a read or a write that answered `got` is to be tried again.
-fn interrupted(got: &io::Result<usize>) -> bool
+pub(crate) fn interrupted(got: &io::Result<usize>) -> bool
     ensures { OnlyFailed got.now result }
 {
     match got {
@@ -152,13 +152,12 @@ fn arrived<E: Write>(
     got: io::Result<usize>,
     buffer: &[u8],
 ) -> Moved
-    requires { ReadsAtMost got buffer.now }
     ensures moved { Moves (length buffer.now) result }
-    ensures told { Arrived got result }
+    ensures told { ReadsAtMost got buffer.now → Arrived got result }
 {
     match got {
         Ok(count) => Moved {
-            count: count,
+            count: count.min(buffer.len()),
             failed: false,
         },
         Err(error) => {
