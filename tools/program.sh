@@ -12,7 +12,7 @@
 #     start             runs the program, and ends with its status
 set -u
 kit='rattle-kit-13f logic dac8208d650f15bf'       # what `rt version` prints of the kit that the proofs were checked with
-build_time='some minutes'                         # of each program, from nothing
+build_time='about nine minutes on four processors'# of each program, from nothing
 quiet=30                                         # seconds of a build after which something is said in any case
 
 usage() {
