@@ -116,7 +116,7 @@ for name in replay report explain timeline; do
 done
 anew
 check 'something is said every minute' "$([ "$quiet" -gt 0 ] && [ "$quiet" -le 60 ] && echo yes)" yes
-check 'one kit is named' "$(grep -rhoI --exclude-dir=.git --exclude-dir=target --exclude-dir=out 'rattle-kit-[0-9a-z-]* logic [0-9a-f]*' "$here" | sort -u)" "$kit"
+check 'the kit is named once' "$(grep -rhoI --exclude-dir=.git --exclude-dir=target --exclude-dir=out 'rattle-kit-[0-9a-z-]* logic [0-9a-f]*' "$here")" "$kit"
 
 # A change of what is in Rust builds the viewers again, both by one build, and proves nothing.
 outcome "$work/copy/explain" "$listing" >/dev/null

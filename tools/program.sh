@@ -11,7 +11,7 @@
 #     open_file         opens the file that is to be read, if that is not the program's to do
 #     start             runs the program, and ends with its status
 set -u
-kit='rattle-kit-13f logic dac8208d650f15bf'        # what `rt version` prints of the kit that the proofs were checked with
+kit='rattle-kit-13f logic dac8208d650f15bf'        # what `rt version` prints of the kit that the proofs were checked with; it is named nowhere else
 build_time='about nine minutes on four processors' # of each program, from nothing
 quiet=30                                           # seconds of a build after which something is said in any case
 

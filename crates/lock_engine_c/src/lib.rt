@@ -1,4 +1,4 @@
-// The lock engine over a table that the caller lends as bytes, for C and Rust to link. Only numbers and slices, of numbers or of scripts' cursors, cross the
+// The lock engine over a table that the caller lends as bytes, as `duskclamp_c` exports it. Only numbers and slices, of numbers or of scripts' cursors, cross the
 // boundary, and no call asks anything of them: bytes that are no table are answered 11 and left as they are.
 #![tactic(auto)]
 
