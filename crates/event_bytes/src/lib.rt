@@ -3,7 +3,7 @@
 #![tactic(auto)]
 
 ghost use Rattle.std.specs.Prelude.{◌≡◌, ◌%◌, ◌<◌};
-ghost use Rattle.event_bytes.specs.Encoding.{limit_from, event_from};
+ghost use Rattle.event_bytes.specs.Encoding.{limit_from, event_from, event_at};
 ghost use Rattle.event_bytes.specs.Answer.{set_unit, free_unit, packed_of};
 
 use lock_rules::Event;
@@ -30,7 +30,7 @@ const SET_UNIT: u64 = 4294967296;
 pub fn limit_from(first: u8, second: u8, third: u8, fourth: u8) -> u32
     ensures { result ≡ limit_from first second third fourth }
 {
-    (first as u32) + (second as u32) * 256 + (third as u32) * 65536 + (fourth as u32) * 16777216
+    u32::from_le_bytes([first, second, third, fourth])
 }
 
 // The event of these bytes. A kind that is none is taken as the begin of no operation, which the engine refuses with 17.
@@ -38,26 +38,40 @@ pub fn limit_from(first: u8, second: u8, third: u8, fourth: u8) -> u32
 pub fn event_from(kind: u8, thread: u8, operation: u8, object: u8, limit: u32) -> Event
     ensures { result ≡ event_from kind thread operation object limit }
 {
-    if kind == BEGIN_KIND {
-        return Event::Begin {
-            operation: operation,
-            thread: thread,
-            object: object,
-            limit: limit,
-        };
+    match kind {
+        BEGIN_KIND => Event::Begin {
+            operation,
+            thread,
+            object,
+            limit,
+        },
+        STEP_KIND => Event::Step { thread },
+        TICK_KIND => Event::Tick,
+        _ => Event::Begin {
+            operation: NO_OPERATION,
+            thread,
+            object,
+            limit,
+        },
     }
-    if kind == STEP_KIND {
-        return Event::Step { thread: thread };
-    }
-    if kind == TICK_KIND {
-        return Event::Tick;
-    }
-    Event::Begin {
-        operation: NO_OPERATION,
-        thread: thread,
-        object: object,
-        limit: limit,
-    }
+}
+
+// The event of these eight bytes.
+pub fn event_of(bytes: &[u8; EVENT_SIZE]) -> Event
+    ensures { result ≡ event_at bytes.now 0 }
+{
+    let [
+        kind,
+        thread,
+        operation,
+        object,
+        first,
+        second,
+        third,
+        fourth,
+    ] = *bytes;
+    let limit = limit_from(first, second, third, fourth);
+    event_from(kind, thread, operation, object, limit)
 }
 
 // An answer: the returned number, the woken number, whether the event committed, and the set of threads that it unparked. Bits 17 to 31 are not used.
@@ -66,9 +80,8 @@ pub fn packed(returned: u8, woken: u8, commits: bool, unparked: u32) -> u64
     ensures value { result ≡ packed_of returned woken commits unparked }
     ensures free { result % set_unit < free_unit }
 {
-    let set = (unparked as u64) * SET_UNIT;
-    if commits {
-        return (returned as u64) + (woken as u64) * WOKEN_UNIT + COMMITS_UNIT + set;
-    }
-    (returned as u64) + (woken as u64) * WOKEN_UNIT + set
+    u64::from(returned)
+        + u64::from(woken) * WOKEN_UNIT
+        + u64::from(commits) * COMMITS_UNIT
+        + u64::from(unparked) * SET_UNIT
 }
