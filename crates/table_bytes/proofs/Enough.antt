@@ -1,15 +1,16 @@
 -- Bytes that are enough for a table say what they are; too few say the empty table.
 use Prim.Native.Nat.{ℕ, ◌-◌, ◌≤◌, ◌<◌}
-use mathlib.Core.Path.{◌≡◌, refl, ap, sym}
+use mathlib.Core.Path.{◌≡◌, refl, ap, sym, ◌∙◌}
 use mathlib.Core.Logic.{◌≢◌}
 use mathlib.Core.List.{List, []}
 use native.Mathlib.Omega.{arith}
+use Rattle.std.proofs.Common.{Some, None}
 use lib.Dec.{eqb, ltb}
 use lib.ListN.{length, get_or, replicate}
-use borrow.Author.Tests.{le-ltb, lt-ltb, ne_eqb}
+use borrow.Author.Tests.{le-ltb, lt-ltb, ne_eqb, eqb-false, ltb-false}
 use Rattle.laws.specs.Choice.{pick}
 use Rattle.laws.specs.Sequence.{tabulate}
-use Rattle.laws.proofs.Choice.{by_test}
+use Rattle.laws.proofs.Choice.{by_test, split}
 use Rattle.laws.proofs.Sequence.{tabulate_at, tabulate_every}
 use Rattle.lock_table.specs.Limits.{thread_limit, object_limit}
 use Rattle.lock_table.specs.Operation.{operation_from}
@@ -55,6 +56,14 @@ module _ {A : Type 0} (limit number : ℕ) (f : ℕ → A) (none : A) where
   pub numbered_is : number ≢ 0 → number ≤ limit → f (number - 1) ≡ numbered
   numbered_is some few =
       rw (ne_eqb number 0 some, le-ltb limit number few) (sym (tabulate_at limit f none (number - 1) (omega (arith, some, few))))
+
+  pub numbered_placed : (place : ℕ) → Some place ≡ pick (eqb number 0) None (pick (ltb limit number) None (Some (number - 1))) → f place ≡ numbered
+  numbered_placed place is =
+      split (eqb number 0) (λ zero. let never : Some place ≡ None = rw zero at is in cc)
+      (λ some. split (ltb limit number) (λ past. let never : Some place ≡ None = rw (some, past) at is in cc)
+      (λ few. let here : Some place ≡ Some (number - 1) = rw (some, few) at is in
+      let same : place ≡ number - 1 = cc in
+      ap f same ∙ numbered_is (eqb-false number 0 some) (ltb-false limit number few)))
 
   pub numbered_none : ((i : ℕ) → f i ≡ none) → none ≡ numbered
   numbered_none each =

@@ -8,4 +8,3 @@ pub mod Enough
 pub mod ReadBack
 pub mod SameBytes
 pub mod SetRecords
-pub mod ReadSoFar

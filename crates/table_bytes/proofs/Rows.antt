@@ -1,14 +1,14 @@
 -- Laws of records laid out by rows, for any rows: bytes that were written read back as the record's numbers, and numbers that were read are written
 -- back as the same bytes.
-use Prim.Native.Nat.{ℕ, zero, suc, ◌+◌, ◌-◌, ◌*◌, ◌/◌, ◌%◌, ◌<◌}
+use Prim.Native.Nat.{ℕ, zero, suc, ◌+◌, ◌*◌, ◌/◌, ◌%◌, ◌<◌}
 use mathlib.Core.Path.{◌≡◌, refl, ap, sym, ◌∙◌}
 use mathlib.Core.Bool.{Bool, true}
 use mathlib.Core.List.{List, [], ◌∷◌, ◌++◌, append_assoc}
 use native.Mathlib.Omega.{arith}
 use native.Mathlib.Nat.{zero-add, suc-add}
 use lib.Dec.{ltb}
-use lib.ListN.{length, get_or, take, drop, length-append, length-drop}
-use lib.Seq.{take_all, get_or-drop, get_or-append-add}
+use lib.ListN.{length, get_or, length-append}
+use lib.Seq.{get_or-append-add}
 use borrow.Author.Tests.{ltb-true}
 use Rattle.laws.specs.{Choice.both, Sequence.tabulate}
 use Rattle.laws.proofs.Choice.{both_first, both_second}
@@ -37,6 +37,12 @@ number_same (suc (suc more)) byte small =
     let high : (byte 0 + rest * 256) / 256 ≡ rest = omega (arith, small 0) in
     rw (low, high, number_same (suc more) (λ i. byte (suc i)) (λ i. small (suc i))) refl
 
+number_same_bytes : (width : ℕ) (f g : ℕ → ℕ) → ((i : ℕ) → i < width → f i ≡ g i) → number_in width f ≡ number_in width g
+number_same_bytes zero f g same = refl
+number_same_bytes (suc zero) f g same = same 0 (omega arith)
+number_same_bytes (suc (suc more)) f g same =
+    rw (same 0 (omega arith), number_same_bytes (suc more) (λ i. f (suc i)) (λ i. g (suc i)) (λ i low. same (suc i) (omega (arith, low)))) refl
+
 -- one run of places behind another
 pub tabulate_more : {A : Type 0} (n m : ℕ) (f : ℕ → A) → tabulate n f ++ tabulate m (λ i. f (n + i)) ≡ tabulate (n + m) f
 unfolding tabulate
@@ -52,6 +58,14 @@ module _ {A : Type 0} where
   abbrev pub numbers : (rows : List (Field A)) → A → Numbers rows
   numbers [] whole = tt
   numbers (row ∷ rows) whole = (row.number whole, numbers rows whole)
+
+  -- equal bytes say equal numbers
+  numbers_same : (rows : List (Field A)) (f g : ℕ → ℕ) → ((i : ℕ) → i < size rows → f i ≡ g i) → numbers_in rows f ≡ numbers_in rows g
+  numbers_same [] f g same = refl
+  numbers_same (row ∷ rows) f g same =
+      let first : number_in row.width f ≡ number_in row.width g = number_same_bytes row.width f g (λ i low. same i (omega (arith, low))) in
+      let others = numbers_same rows (λ i. f (row.width + i)) (λ i. g (row.width + i)) (λ i low. same (row.width + i) (omega (arith, low))) in
+      λ k. (first k, others k)
 
   pub record_length : (rows : List (Field A)) (whole : A) → length (record_bytes rows whole) ≡ size rows
   record_length [] whole = refl
@@ -74,11 +88,13 @@ module _ {A : Type 0} where
         (ap (numbers_in rows) (λ j i. behind i j) ∙ read_rows rows (both_second (ltb 0 row.width) (wide rows) some) whole rest) k,
       ))
 
-  -- a record is read from a part of the bytes as from the whole
-  pub read_part : (rows : List (Field A)) (bytes : List ℕ) (at : ℕ)
-      → numbers_in rows (byte_at (take (length bytes - at) (drop at bytes))) ≡ numbers_in rows (λ i. byte_at bytes (at + i))
-  read_part rows bytes at =
-      rw (take_all (length bytes - at) (drop at bytes) (omega (arith, length-drop at bytes))) (ap (numbers_in rows) (λ k i. get_or-drop at bytes i 0 k))
+  -- a record is read from its own bytes as from the whole
+  pub numbers_at : (rows : List (Field A)) (width start place : ℕ) (stored bytes : List ℕ) → size rows ≡ width
+      → ((i : ℕ) → i < width → byte_at stored i ≡ byte_at bytes (start + place * width + i))
+      → numbers_in rows (byte_at stored) ≡ numbers_in rows (λ i. byte_at bytes (start + place * size rows + i))
+  numbers_at rows width start place stored bytes sized same =
+      numbers_same rows (byte_at stored) (λ i. byte_at bytes (start + place * size rows + i))
+      (λ i low. same i (omega (arith, low, sized)) ∙ ap (λ (n : ℕ). byte_at bytes (start + place * n + i)) (sym sized))
 
   -- what was read is written back
   pub write_rows : (rows : List (Field A)) (whole : A) (byte : ℕ → ℕ) → ((i : ℕ) → byte i < 256) → numbers rows whole ≡ numbers_in rows byte

@@ -6,7 +6,7 @@ use mathlib.Core.List.{List, [], ◌∷◌, ◌++◌, append-nil}
 use native.Mathlib.Omega.{arith}
 use native.Mathlib.Nat.{zero-add}
 use lib.Dec.{eqb}
-use lib.ListN.{length, length-append, drop_of_length-le}
+use lib.ListN.{length, set, length-append, drop_of_length-le}
 use borrow.Author.Tests.{eqb-true, eq-eqb}
 use Rattle.laws.proofs.Choice.{both_first}
 use Rattle.lock_table.specs.Limits.{thread_limit, object_limit}
@@ -66,6 +66,12 @@ module _ (table : Table) where
         ∙ overwritten_next 0 front objects bytes (omega arith)
         ∙ ap (λ (rest : List ℕ). bytes_of table ++ rest) (drop_of_length-le bytes past)
         ∙ append-nil (bytes_of table)
+
+-- the sizes, stored one by one
+pub sizes_set : (bytes : List ℕ) (threads objects : ℕ) → 2 ≤ length bytes → set (set bytes 0 threads) 1 objects ≡ overwritten 0 (threads ∷ objects ∷ []) bytes
+sizes_set [] threads objects room = absurd (omega (arith, room))
+sizes_set (x ∷ []) threads objects room = absurd (omega (arith, room))
+sizes_set (x ∷ y ∷ rest) threads objects room = refl
 
 pub kept_is : (bytes : List ℕ) (table : Table) → length bytes ≡ table_size → kept_over bytes table ≡ bytes_of table
 unfolding kept_over

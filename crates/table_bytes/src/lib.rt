@@ -1,11 +1,10 @@
 // A table as bytes, each field at its place (specs/Layout.antt), the same on every machine.
 #![tactic(auto)]
 
-mod copying;
 mod layout;
-mod numbers;
 mod object_bytes;
 mod reading;
+mod records;
 mod thread_bytes;
 mod writing;
 

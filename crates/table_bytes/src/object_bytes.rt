@@ -1,91 +1,79 @@
-// An object's record in bytes: where its fields lie, the record that bytes say, whether there is such a record, and the bytes of a record.
-ghost use Rattle.std.specs.Prelude.{◌≡◌, ◌+◌, ◌≤◌, length};
-ghost use Rattle.table_bytes.specs.Rows.{numbers_in};
-ghost use Rattle.table_bytes.specs.ObjectBytes.{flag_byte, object_layout, object_of, object_known};
-ghost use Rattle.table_bytes.specs.Layout.{object_size, object_bytes};
-ghost use Rattle.table_bytes.specs.Reading.{byte_at};
-
-use crate::numbers::{half_bytes, half_of, word_bytes, word_of};
+// An object's record in bytes: the record that bytes say, whether there is such a record, and the bytes of a record.
+use crate::records::Stored;
 use lock_table::{Monitor, ObjectRecord};
 
 // How often this layout has changed.
 pub(crate) const OBJECT_REVISION: u32 = 0;
 
-// Offsets: each field begins where the one before it ends.
-const WORD_AT: usize = 0;
+// How many bytes a record has.
+pub(crate) const OBJECT_SIZE: usize = 11;
 
-const FLAG_AT: usize = WORD_AT + 4;
+// Its bytes stand in the order of the layout in specs/ObjectBytes.antt.
+impl Stored<OBJECT_SIZE> for ObjectRecord {
+    ghost use Rattle.std.specs.Prelude.{refl};
+    ghost use Rattle.lock_table.specs.Record.{no_object};
+    ghost use Rattle.table_bytes.specs.ObjectBytes.{object_layout, object_of, object_known};
 
-const HOLDER_AT: usize = FLAG_AT + 1;
+    ghost layout = { object_layout };
 
-const DEPTH_AT: usize = HOLDER_AT + 1;
+    ghost empty = { no_object };
 
-const ENTRY_AT: usize = DEPTH_AT + 2;
+    ghost said = { object_of };
 
-const CONTENTION_AT: usize = ENTRY_AT + 1;
+    ghost known = { object_known };
 
-const WAITING_AT: usize = CONTENTION_AT + 1;
+    ghost sized = { refl };
 
-pub(crate) const OBJECT_SIZE: usize = WAITING_AT + 1;
-
-pub(crate) fn object_of(stored: &[u8]) -> ObjectRecord
-    requires { object_size ≤ length stored.now }
-    ensures { result ≡ object_of (numbers_in object_layout (byte_at stored.now)) }
-{
-    let monitor = Monitor {
-        depth: half_of(stored[DEPTH_AT], stored[DEPTH_AT + 1]),
-        holder: stored[HOLDER_AT],
-        entry: stored[ENTRY_AT],
-        contention: stored[CONTENTION_AT],
-        waiting: stored[WAITING_AT],
-    };
-    ObjectRecord {
-        word: word_of(
-            stored[WORD_AT],
-            stored[WORD_AT + 1],
-            stored[WORD_AT + 2],
-            stored[WORD_AT + 3],
-        ),
-        monitor: monitor,
-        flag: stored[FLAG_AT] == 1,
+    fn from_bytes(stored: &[u8; OBJECT_SIZE]) -> ObjectRecord {
+        let [
+            w0,
+            w1,
+            w2,
+            w3,
+            flag,
+            holder,
+            d0,
+            d1,
+            entry,
+            contention,
+            waiting,
+        ] = *stored;
+        ObjectRecord {
+            word: u32::from_le_bytes([w0, w1, w2, w3]),
+            monitor: Monitor {
+                depth: u16::from_le_bytes([d0, d1]),
+                holder,
+                entry,
+                contention,
+                waiting,
+            },
+            flag: flag == 1,
+        }
     }
-}
 
-// Whether the record at `at` has a flag that there is.
-pub(crate) fn object_known(bytes: &[u8], at: usize) -> bool
-    requires { at + object_size ≤ length bytes.now }
-    ensures { result ≡ object_known (numbers_in object_layout (λ i. byte_at bytes.now (at + i))) }
-{
-    bytes[at + FLAG_AT] <= 1
-}
-
-#[tactic(auto, unfolding(crate::specs::ObjectBytes::flag_byte))]
-fn flag_byte(flag: bool) -> u8
-    ensures { result ≡ flag_byte flag }
-{
-    if flag {
-        return 1;
+    // It has a flag that there is.
+    fn is_known(stored: &[u8; OBJECT_SIZE]) -> bool {
+        let [_, _, _, _, flag, ..] = *stored;
+        flag <= 1
     }
-    0
-}
 
-pub(crate) fn object_bytes(object: ObjectRecord) -> [u8; OBJECT_SIZE]
-    ensures { result ≡ object_bytes object }
-{
-    let monitor = object.monitor;
-    let word = word_bytes(object.word);
-    let depth = half_bytes(monitor.depth);
-    [
-        word[0],
-        word[1],
-        word[2],
-        word[3],
-        flag_byte(object.flag),
-        monitor.holder,
-        depth[0],
-        depth[1],
-        monitor.entry,
-        monitor.contention,
-        monitor.waiting,
-    ]
+    #[tactic(auto, unfolding(crate::specs::ObjectBytes::flag_byte))]
+    fn to_bytes(self) -> [u8; OBJECT_SIZE] {
+        let monitor = self.monitor;
+        let [w0, w1, w2, w3] = self.word.to_le_bytes();
+        let [d0, d1] = monitor.depth.to_le_bytes();
+        [
+            w0,
+            w1,
+            w2,
+            w3,
+            u8::from(self.flag),
+            monitor.holder,
+            d0,
+            d1,
+            monitor.entry,
+            monitor.contention,
+            monitor.waiting,
+        ]
+    }
 }

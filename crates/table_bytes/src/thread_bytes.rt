@@ -1,11 +1,8 @@
-// A thread's record in bytes: where its fields lie, the record that bytes say, whether there is such a record, and the bytes of a record.
-ghost use Rattle.std.specs.Prelude.{◌≡◌, ◌+◌, ◌≤◌, length};
-ghost use Rattle.table_bytes.specs.Rows.{numbers_in};
-ghost use Rattle.table_bytes.specs.ThreadBytes.{thread_layout, onward_from, later_phase_from, phase_from, thread_of, carried_known, thread_known};
-ghost use Rattle.table_bytes.specs.Layout.{thread_size, thread_bytes};
-ghost use Rattle.table_bytes.specs.Reading.{byte_at};
+// A thread's record in bytes: the record that bytes say, whether there is such a record, and the bytes of a record.
+ghost use Rattle.std.specs.Prelude.{◌≡◌};
+ghost use Rattle.table_bytes.specs.ThreadBytes.{onward_from, phase_from, carried_known};
 
-use crate::numbers::{half_bytes, half_of, word_bytes, word_of};
+use crate::records::Stored;
 use lock_table::{
     Onward, Phase, ThreadRecord, carried_number, operation_from, operation_number, phase_number,
 };
@@ -13,126 +10,49 @@ use lock_table::{
 // How often this layout has changed.
 pub(crate) const THREAD_REVISION: u32 = 2;
 
-// Offsets: each field begins where the one before it ends.
-const OPERATION_AT: usize = 0;
-
-const OBJECT_AT: usize = OPERATION_AT + 1;
-
-const PHASE_AT: usize = OBJECT_AT + 1;
-
-const CARRIED_AT: usize = PHASE_AT + 1;
-
-const KEPT_AT: usize = CARRIED_AT + 1;
-
-const SAVED_AT: usize = KEPT_AT + 4;
-
-const NEXT_AT: usize = SAVED_AT + 2;
-
-const TICKS_AT: usize = NEXT_AT + 1;
-
-const RANK_AT: usize = TICKS_AT + 2;
-
-pub(crate) const THREAD_SIZE: usize = RANK_AT + 1;
+// How many bytes a record has.
+pub(crate) const THREAD_SIZE: usize = 14;
 
 const LAST_OPERATION: u8 = 6;
 
 const LAST_PHASE: u8 = 15;
 
+// The number of the phase that carries another.
+const QUEUED: u8 = 5;
+
 #[tactic(auto, unfolding(crate::specs::ThreadBytes::onward_from))]
 fn onward_from(carried: u8) -> Onward
     ensures { result ≡ onward_from carried }
 {
-    if carried == 6 {
-        return Onward::ToCheck;
+    match carried {
+        6 => Onward::ToCheck,
+        10 => Onward::ToTell,
+        12 => Onward::ToInflate,
+        _ => Onward::ToResume,
     }
-    if carried == 10 {
-        return Onward::ToTell;
-    }
-    if carried == 12 {
-        return Onward::ToInflate;
-    }
-    Onward::ToResume
 }
 
-// Phases 8 to 15.
-#[tactic(auto, unfolding(crate::specs::ThreadBytes::later_phase_from))]
-fn later_phase_from(phase: u8) -> Phase
-    ensures { result ≡ later_phase_from phase }
-{
-    if phase == 8 {
-        return Phase::Contending;
-    }
-    if phase == 9 {
-        return Phase::Test;
-    }
-    if phase == 10 {
-        return Phase::Tell;
-    }
-    if phase == 11 {
-        return Phase::Leave;
-    }
-    if phase == 12 {
-        return Phase::Inflate;
-    }
-    if phase == 13 {
-        return Phase::GiveUp;
-    }
-    if phase == 14 {
-        return Phase::Waiting;
-    }
-    if phase == 15 {
-        return Phase::Resume;
-    }
-    Phase::Idle
-}
-
-#[tactic(auto, unfolding(crate::specs::ThreadBytes::phase_from))]
+#[tactic(auto, unfolding(crate::specs::ThreadBytes::phase_from, crate::specs::ThreadBytes::later_phase_from))]
 fn phase_from(phase: u8, carried: u8) -> Phase
     ensures { result ≡ phase_from phase carried }
 {
-    if phase == 1 {
-        return Phase::Look;
-    }
-    if phase == 2 {
-        return Phase::Store;
-    }
-    if phase == 3 {
-        return Phase::Cancel;
-    }
-    if phase == 4 {
-        return Phase::GoIn;
-    }
-    if phase == 5 {
-        return Phase::Queued(onward_from(carried));
-    }
-    if phase == 6 {
-        return Phase::Check;
-    }
-    if phase == 7 {
-        return Phase::Try;
-    }
-    later_phase_from(phase)
-}
-
-// The record that these bytes begin with.
-pub(crate) fn thread_of(stored: &[u8]) -> ThreadRecord
-    requires { thread_size ≤ length stored.now }
-    ensures { result ≡ thread_of (numbers_in thread_layout (byte_at stored.now)) }
-{
-    ThreadRecord {
-        kept: word_of(
-            stored[KEPT_AT],
-            stored[KEPT_AT + 1],
-            stored[KEPT_AT + 2],
-            stored[KEPT_AT + 3],
-        ),
-        saved: half_of(stored[SAVED_AT], stored[SAVED_AT + 1]),
-        ticks: half_of(stored[TICKS_AT], stored[TICKS_AT + 1]),
-        object: stored[OBJECT_AT],
-        next: stored[NEXT_AT],
-        rank: stored[RANK_AT],
-        operation: operation_from(stored[OPERATION_AT]),
-        phase: phase_from(stored[PHASE_AT], stored[CARRIED_AT]),
+    match phase {
+        1 => Phase::Look,
+        2 => Phase::Store,
+        3 => Phase::Cancel,
+        4 => Phase::GoIn,
+        QUEUED => Phase::Queued(onward_from(carried)),
+        6 => Phase::Check,
+        7 => Phase::Try,
+        8 => Phase::Contending,
+        9 => Phase::Test,
+        10 => Phase::Tell,
+        11 => Phase::Leave,
+        12 => Phase::Inflate,
+        13 => Phase::GiveUp,
+        14 => Phase::Waiting,
+        15 => Phase::Resume,
+        _ => Phase::Idle,
     }
 }
 
@@ -140,45 +60,82 @@ pub(crate) fn thread_of(stored: &[u8]) -> ThreadRecord
 fn carried_known(phase: u8, carried: u8) -> bool
     ensures { result ≡ carried_known phase carried }
 {
-    if phase == 5 {
-        return (carried == 6) | ((carried == 10) | ((carried == 12) | (carried == 15)));
+    match phase {
+        QUEUED => matches!(carried, 6 | 10 | 12 | 15),
+        _ => carried == 0,
     }
-    carried == 0
 }
 
-// Whether the record at `at` has an operation, a phase and a carried phase that there are.
-pub(crate) fn thread_known(bytes: &[u8], at: usize) -> bool
-    requires { at + thread_size ≤ length bytes.now }
-    ensures { result ≡ thread_known (numbers_in thread_layout (λ i. byte_at bytes.now (at + i))) }
-{
-    let operation = bytes[at + OPERATION_AT];
-    let phase = bytes[at + PHASE_AT];
-    let carried = carried_known(phase, bytes[at + CARRIED_AT]);
-    (operation <= LAST_OPERATION) & ((phase <= LAST_PHASE) & carried)
-}
+// Its bytes stand in the order of the layout in specs/ThreadBytes.antt.
+impl Stored<THREAD_SIZE> for ThreadRecord {
+    ghost use Rattle.std.specs.Prelude.{refl};
+    ghost use Rattle.lock_table.specs.Record.{no_thread};
+    ghost use Rattle.table_bytes.specs.ThreadBytes.{thread_layout, thread_of, thread_known};
 
-pub(crate) fn thread_bytes(thread: ThreadRecord) -> [u8; THREAD_SIZE]
-    ensures { result ≡ thread_bytes thread }
-{
-    let operation = thread.operation;
-    let phase = thread.phase;
-    let kept = word_bytes(thread.kept);
-    let saved = half_bytes(thread.saved);
-    let ticks = half_bytes(thread.ticks);
-    [
-        operation_number(operation),
-        thread.object,
-        phase_number(phase),
-        carried_number(phase),
-        kept[0],
-        kept[1],
-        kept[2],
-        kept[3],
-        saved[0],
-        saved[1],
-        thread.next,
-        ticks[0],
-        ticks[1],
-        thread.rank,
-    ]
+    ghost layout = { thread_layout };
+
+    ghost empty = { no_thread };
+
+    ghost said = { thread_of };
+
+    ghost known = { thread_known };
+
+    ghost sized = { refl };
+
+    fn from_bytes(stored: &[u8; THREAD_SIZE]) -> ThreadRecord {
+        let [
+            operation,
+            object,
+            phase,
+            carried,
+            k0,
+            k1,
+            k2,
+            k3,
+            s0,
+            s1,
+            next,
+            t0,
+            t1,
+            rank,
+        ] = *stored;
+        ThreadRecord {
+            kept: u32::from_le_bytes([k0, k1, k2, k3]),
+            saved: u16::from_le_bytes([s0, s1]),
+            ticks: u16::from_le_bytes([t0, t1]),
+            object,
+            next,
+            rank,
+            operation: operation_from(operation),
+            phase: phase_from(phase, carried),
+        }
+    }
+
+    // It has an operation, a phase and a carried phase that there are.
+    fn is_known(stored: &[u8; THREAD_SIZE]) -> bool {
+        let [operation, _, phase, carried, ..] = *stored;
+        operation <= LAST_OPERATION && phase <= LAST_PHASE && carried_known(phase, carried)
+    }
+
+    fn to_bytes(self) -> [u8; THREAD_SIZE] {
+        let [k0, k1, k2, k3] = self.kept.to_le_bytes();
+        let [s0, s1] = self.saved.to_le_bytes();
+        let [t0, t1] = self.ticks.to_le_bytes();
+        [
+            operation_number(self.operation),
+            self.object,
+            phase_number(self.phase),
+            carried_number(self.phase),
+            k0,
+            k1,
+            k2,
+            k3,
+            s0,
+            s1,
+            self.next,
+            t0,
+            t1,
+            self.rank,
+        ]
+    }
 }
