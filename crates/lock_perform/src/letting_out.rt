@@ -5,14 +5,14 @@ ghost use Rattle.lock_perform.specs.Moving.{queued_exit, let_out, lets_out};
 ghost use Rattle.lock_perform.specs.InPlace.{none_out};
 
 use lock_rules::ChainWork;
-use lock_table::{LetOut, Monitor, Phase, ThreadRecord, carried_number, no_activity, phase_number};
+use lock_table::{LetOut, Monitor, Onward, Phase, ThreadRecord, no_activity};
 
 // Whether a thread is a queued exit: it carries 10.
+#[tactic(auto, unfolding(lock_table::specs::Phase::carried_number, lock_table::specs::Phase::phase_number, lock_table::specs::Phase::onward_number))]
 pub fn queued_exit(thread: ThreadRecord) -> bool
     ensures { result ≡ queued_exit thread }
 {
-    let phase = thread.phase;
-    carried_number(phase) == phase_number(Phase::Tell)
+    matches!(thread.phase, Phase::Queued(Onward::ToTell))
 }
 
 // A thread of the entry chain, in no chain yet: idle if it goes.
@@ -22,24 +22,17 @@ pub fn let_out(thread: ThreadRecord, goes: bool) -> ThreadRecord
 {
     let after = thread.with_next(0);
     if goes {
-        return after.with_activity(no_activity());
+        after.with_activity(no_activity())
+    } else {
+        after
     }
-    after
 }
 
 // Whether a work lets the queued exits out.
 pub fn lets_out(work: ChainWork) -> bool
     ensures { result ≡ lets_out work }
 {
-    match work {
-        ChainWork::Stay => false,
-        ChainWork::Join(_) => false,
-        ChainWork::JoinAndHand(_) => false,
-        ChainWork::Hand => false,
-        ChainWork::Move(_, _) => false,
-        ChainWork::MoveAndLetOut => true,
-        ChainWork::SendBack(_) => false,
-    }
+    matches!(work, ChainWork::MoveAndLetOut)
 }
 
 // The monitor before anybody is let out, and the set of threads that the work has unparked.
@@ -47,7 +40,7 @@ pub fn none_out(monitor: Monitor, unparked: u32) -> LetOut
     ensures { result ≡ none_out monitor unparked }
 {
     LetOut {
-        monitor: monitor,
+        monitor,
         threads: unparked,
     }
 }

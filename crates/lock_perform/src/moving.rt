@@ -37,22 +37,8 @@ fn back_from(thread: ThreadRecord, phase: Phase) -> ThreadRecord
     ensures { result ≡ back_from thread phase }
 {
     match phase {
-        Phase::Idle => thread,
-        Phase::Look => thread,
         Phase::Store => look_again(thread),
-        Phase::Cancel => thread,
-        Phase::GoIn => thread,
-        Phase::Queued(_) => thread,
-        Phase::Check => thread,
-        Phase::Try => thread,
-        Phase::Contending => thread,
-        Phase::Test => thread,
-        Phase::Tell => thread,
-        Phase::Leave => thread,
-        Phase::Inflate => thread,
-        Phase::GiveUp => thread,
-        Phase::Waiting => thread,
-        Phase::Resume => thread,
+        _ => thread,
     }
 }
 
@@ -61,10 +47,10 @@ fn sent_back(object: u8, thread: ThreadRecord) -> ThreadRecord
     ensures { result ≡ sent_back_of object thread }
 {
     if thread.object == object {
-        let phase = thread.phase;
-        return back_from(thread, phase);
+        back_from(thread, thread.phase)
+    } else {
+        thread
     }
-    thread
 }
 
 fn touched_by_move(monitor: Monitor, from: Chain, taken: Taken) -> u8
@@ -81,13 +67,11 @@ pub fn touched(work: ChainWork, monitor: Monitor) -> u8
     ensures { result ≡ touched work monitor }
 {
     match work {
-        ChainWork::Stay => 0,
-        ChainWork::Join(_) => 0,
-        ChainWork::JoinAndHand(_) => monitor.entry,
-        ChainWork::Hand => monitor.entry,
+        ChainWork::Stay | ChainWork::Join(_) => 0,
+        ChainWork::JoinAndHand(_) | ChainWork::Hand => monitor.entry,
         ChainWork::Move(from, taken) => touched_by_move(monitor, from, taken),
         ChainWork::MoveAndLetOut => touched_by_move(monitor, Chain::Contention, Taken::All),
-        ChainWork::SendBack(owner) => narrow(owner as u32),
+        ChainWork::SendBack(owner) => narrow(u32::from(owner)),
     }
 }
 
@@ -95,9 +79,9 @@ fn unlinked(changed: ThreadRecord, monitor: Monitor, unparked: u32) -> ChainPlan
     ensures { result ≡ unlinked changed monitor unparked }
 {
     ChainPlan {
-        changed: changed,
-        monitor: monitor,
-        unparked: unparked,
+        changed,
+        monitor,
+        unparked,
         back: 0,
         into: Chain::Entry,
     }
@@ -113,9 +97,9 @@ fn joining(
     ensures { result ≡ joining changed monitor unparked chain thread }
 {
     ChainPlan {
-        changed: changed,
-        monitor: monitor,
-        unparked: unparked,
+        changed,
+        monitor,
+        unparked,
         back: thread,
         into: chain,
     }
@@ -126,7 +110,7 @@ fn moving(changed: ThreadRecord, monitor: Monitor, from: Chain, left: u8) -> Cha
 {
     let first = monitor.first_in(from);
     ChainPlan {
-        changed: changed,
+        changed,
         monitor: monitor.with_first(from, left),
         unparked: 0,
         back: first,
@@ -189,13 +173,11 @@ fn plan(
 pub fn if_record(number: u8, there: ThreadRecord, other: ThreadRecord) -> ThreadRecord
     ensures { result ≡ if_record number there other }
 {
-    if number == 0 {
-        return other;
+    if (1..=THREADS).contains(&number) {
+        there
+    } else {
+        other
     }
-    if THREADS < number {
-        return other;
-    }
-    there
 }
 
 // The plan by the record that is at the place of the changed one. Where nobody's changes, that record stays as it is.
@@ -210,10 +192,11 @@ pub fn plan_at(
 {
     let number = touched(work, monitor);
     let before = if_record(number, there, no_thread());
-    let mut planned = plan(work, monitor, thread, object, before);
-    let after = if_record(number, planned.changed, there);
-    planned.changed = after;
-    planned
+    let planned = plan(work, monitor, thread, object, before);
+    ChainPlan {
+        changed: if_record(number, planned.changed, there),
+        ..planned
+    }
 }
 
 fn whole_move(monitor: Monitor, from: Chain, taken: Taken) -> u8
@@ -230,13 +213,9 @@ pub fn moved_whole(work: ChainWork, monitor: Monitor) -> u8
     ensures { result ≡ moved_whole work monitor }
 {
     match work {
-        ChainWork::Stay => 0,
-        ChainWork::Join(_) => 0,
-        ChainWork::JoinAndHand(_) => 0,
-        ChainWork::Hand => 0,
         ChainWork::Move(from, taken) => whole_move(monitor, from, taken),
         ChainWork::MoveAndLetOut => whole_move(monitor, Chain::Contention, Taken::All),
-        ChainWork::SendBack(_) => 0,
+        _ => 0,
     }
 }
 
@@ -244,5 +223,5 @@ pub fn moved_whole(work: ChainWork, monitor: Monitor) -> u8
 pub fn goes_on(at: u8, left: u8) -> bool
     ensures { result ≡ goes_on at left }
 {
-    (0 < left) & ((1 <= at) & (at <= THREADS))
+    (0 < left) & (1..=THREADS).contains(&at)
 }

@@ -40,19 +40,17 @@ pub fn last_behind(parting: Parting, goes: bool) -> u8
     ensures { result ≡ last_behind parting goes }
 {
     if goes {
-        return parting.taken.last;
+        parting.taken.last
+    } else {
+        parting.left.last
     }
-    parting.left.last
 }
 
 #[tactic(auto, unfolding(crate::specs::Parting::taken_with))]
 fn taken_with(together: bool, taken: Ends, thread: u8) -> Ends
     ensures { result ≡ taken_with together taken thread }
 {
-    if together {
-        return taken.grown(thread);
-    }
-    taken
+    if together { taken.grown(thread) } else { taken }
 }
 
 // The parting with one more thread, which stays or goes.
@@ -60,19 +58,17 @@ fn taken_with(together: bool, taken: Ends, thread: u8) -> Ends
 pub fn passed(together: bool, parting: Parting, goes: bool, thread: u8) -> Parting
     ensures { result ≡ passed together parting goes thread }
 {
-    let left = parting.left;
-    let taken = parting.taken;
     if goes {
-        return Parting {
-            left: left,
-            taken: taken_with(together, taken, thread),
+        Parting {
+            taken: taken_with(together, parting.taken, thread),
             set: parting.set | thread_set(thread),
-        };
-    }
-    Parting {
-        left: left.grown(thread),
-        taken: taken,
-        set: parting.set,
+            ..parting
+        }
+    } else {
+        Parting {
+            left: parting.left.grown(thread),
+            ..parting
+        }
     }
 }
 

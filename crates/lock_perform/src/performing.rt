@@ -15,10 +15,10 @@ fn word_after(thread: u8, object: u8, word: u32, change: WordChange) -> u32
     match change {
         WordChange::Unchanged => word,
         WordChange::Freed => lock_word::free_word(),
-        WordChange::OwnFlat(count) => lock_word::flat_word(thread as u16, count),
-        WordChange::OwnReserved(count) => lock_word::reserved_word(thread as u16, count),
+        WordChange::OwnFlat(count) => lock_word::flat_word(u16::from(thread), count),
+        WordChange::OwnReserved(count) => lock_word::reserved_word(u16::from(thread), count),
         WordChange::Cancelled => lock_word::cancel(word),
-        WordChange::Inflated => lock_word::fat_word(object as u16),
+        WordChange::Inflated => lock_word::fat_word(u16::from(object)),
     }
 }
 
@@ -33,10 +33,9 @@ fn begun_monitor(monitor: Monitor, holder: u8, depth: Depth) -> Monitor
 pub fn object_after(thread: u8, number: u8, object: ObjectRecord, effect: Effect) -> ObjectRecord
     ensures { result ≡ object_after thread number object effect }
 {
-    let change = effect.word;
     let monitor = begun_monitor(object.monitor, effect.holder, effect.depth);
     object
-        .with_word(word_after(thread, number, object.word, change))
+        .with_word(word_after(thread, number, object.word, effect.word))
         .with_monitor(monitor)
         .with_flag(effect.flag)
 }
@@ -46,15 +45,7 @@ pub fn object_after(thread: u8, number: u8, object: ObjectRecord, effect: Effect
 pub fn stays(work: ChainWork) -> bool
     ensures { result ≡ stays work }
 {
-    match work {
-        ChainWork::Stay => true,
-        ChainWork::Join(_) => false,
-        ChainWork::JoinAndHand(_) => false,
-        ChainWork::Hand => false,
-        ChainWork::Move(_, _) => false,
-        ChainWork::MoveAndLetOut => false,
-        ChainWork::SendBack(_) => false,
-    }
+    matches!(work, ChainWork::Stay)
 }
 
 // What is written of the thread at its place: its record with the next index that the work on the chains gave it.
@@ -69,13 +60,11 @@ pub fn own_written(thread: u8, own: ThreadRecord, there: ThreadRecord) -> Thread
 fn if_object(number: u8, there: ObjectRecord, other: ObjectRecord) -> ObjectRecord
     ensures { result ≡ if_object number there other }
 {
-    if number == 0 {
-        return other;
+    if (1..=OBJECTS).contains(&number) {
+        there
+    } else {
+        other
     }
-    if OBJECTS < number {
-        return other;
-    }
-    there
 }
 
 // What is written of the object at its place: its record with the chains that the work gave.

@@ -21,8 +21,7 @@ pub fn joining_rank(chain: Chain, thread: ThreadRecord) -> u8
 {
     match chain {
         Chain::Entry => thread.rank,
-        Chain::Contention => 0,
-        Chain::Waiting => 0,
+        Chain::Contention | Chain::Waiting => 0,
     }
 }
 
@@ -44,12 +43,9 @@ pub fn place_for(threads: [ThreadRecord; 32], first: u8, rank: u8) -> Place
     while stays_before(here, left, threads[thread_place(here)], rank) {
         last = here;
         here = threads[thread_place(here)].next;
-        left = left - 1;
+        left -= 1;
     }
-    Place {
-        last: last,
-        here: here,
-    }
+    Place { last, here }
 }
 
 // The first of a chain that this thread has joined behind `last`, 0 for in front.
@@ -57,8 +53,5 @@ pub fn place_for(threads: [ThreadRecord; 32], first: u8, rank: u8) -> Place
 pub fn first_at(last: u8, first: u8, thread: u8) -> u8
     ensures { result ≡ first_at last first thread }
 {
-    if last == 0 {
-        return thread;
-    }
-    first
+    if last == 0 { thread } else { first }
 }

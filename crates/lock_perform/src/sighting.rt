@@ -35,12 +35,12 @@ pub fn sight_with(object: ObjectRecord, word: WordSeen, waiters: u8) -> Sight
     ensures { result ≡ sight_with object word waiters }
 {
     Sight {
-        word: word,
+        word,
         flag: object.flag,
         holder: object.monitor.holder,
         depth: object.monitor.depth,
         entryempty: object.monitor.entry == 0,
         contentionempty: object.monitor.contention == 0,
-        waiters: waiters,
+        waiters,
     }
 }

@@ -14,13 +14,8 @@ fn limit(operation: Operation, ticks: Ticks) -> Limit
     ensures { result ≡ limit_of operation ticks }
 {
     match operation {
-        Operation::Idle => Limit::Unlimited,
-        Operation::Enter => Limit::Unlimited,
-        Operation::Exit => Limit::Unlimited,
-        Operation::Wait => Limit::Unlimited,
-        Operation::Notify => Limit::Unlimited,
-        Operation::NotifyAll => Limit::Unlimited,
         Operation::TimedWait => Limit::Ticks(ticks),
+        _ => Limit::Unlimited,
     }
 }
 
@@ -32,10 +27,9 @@ fn look(operation: Operation, limit: Limit) -> ThreadState
         Operation::Idle => ThreadState::Idle,
         Operation::Enter => ThreadState::Running(Doing::EnterLook),
         Operation::Exit => ThreadState::Running(Doing::ExitLook),
-        Operation::Wait => ThreadState::Running(Doing::WaitLook(limit)),
+        Operation::Wait | Operation::TimedWait => ThreadState::Running(Doing::WaitLook(limit)),
         Operation::Notify => ThreadState::Running(Doing::NotifyLook),
         Operation::NotifyAll => ThreadState::Running(Doing::NotifyAllLook),
-        Operation::TimedWait => ThreadState::Running(Doing::WaitLook(limit)),
     }
 }
 
@@ -44,13 +38,9 @@ fn store(operation: Operation, count: u8) -> ThreadState
     ensures { result ≡ store_of operation count }
 {
     match operation {
-        Operation::Idle => ThreadState::Idle,
         Operation::Enter => ThreadState::Running(Doing::EnterStore(count)),
         Operation::Exit => ThreadState::Running(Doing::ExitStore(count)),
-        Operation::Wait => ThreadState::Idle,
-        Operation::Notify => ThreadState::Idle,
-        Operation::NotifyAll => ThreadState::Idle,
-        Operation::TimedWait => ThreadState::Idle,
+        _ => ThreadState::Idle,
     }
 }
 
@@ -59,13 +49,9 @@ fn cancel(operation: Operation, limit: Limit) -> ThreadState
     ensures { result ≡ cancel_of operation limit }
 {
     match operation {
-        Operation::Idle => ThreadState::Idle,
         Operation::Enter => ThreadState::Running(Doing::EnterCancel),
-        Operation::Exit => ThreadState::Idle,
-        Operation::Wait => ThreadState::Running(Doing::WaitCancel(limit)),
-        Operation::Notify => ThreadState::Idle,
-        Operation::NotifyAll => ThreadState::Idle,
-        Operation::TimedWait => ThreadState::Running(Doing::WaitCancel(limit)),
+        Operation::Wait | Operation::TimedWait => ThreadState::Running(Doing::WaitCancel(limit)),
+        _ => ThreadState::Idle,
     }
 }
 
@@ -74,13 +60,10 @@ fn go_in(operation: Operation, limit: Limit) -> ThreadState
     ensures { result ≡ go_in_of operation limit }
 {
     match operation {
-        Operation::Idle => ThreadState::Idle,
         Operation::Enter => ThreadState::Running(Doing::EnterGoIn),
         Operation::Exit => ThreadState::Running(Doing::ExitGoIn),
-        Operation::Wait => ThreadState::Running(Doing::WaitGoIn(limit)),
-        Operation::Notify => ThreadState::Idle,
-        Operation::NotifyAll => ThreadState::Idle,
-        Operation::TimedWait => ThreadState::Running(Doing::WaitGoIn(limit)),
+        Operation::Wait | Operation::TimedWait => ThreadState::Running(Doing::WaitGoIn(limit)),
+        _ => ThreadState::Idle,
     }
 }
 
@@ -88,11 +71,10 @@ fn go_in(operation: Operation, limit: Limit) -> ThreadState
 fn carried(onward: Onward, suspension: Suspension) -> OnwardStep
     ensures { result ≡ carried_of onward suspension }
 {
-    let limit = suspension.limit;
     match onward {
         Onward::ToCheck => OnwardStep::ToCheck,
         Onward::ToTell => OnwardStep::ToTell,
-        Onward::ToInflate => OnwardStep::ToInflate(limit),
+        Onward::ToInflate => OnwardStep::ToInflate(suspension.limit),
         Onward::ToResume => OnwardStep::ToResume(suspension),
     }
 }
@@ -126,15 +108,13 @@ fn state(phase: Phase, operation: Operation, count: u8, suspension: Suspension) 
 pub fn read_thread(thread: ThreadRecord) -> ThreadState
     ensures { result ≡ read_thread thread }
 {
-    let phase = thread.phase;
-    let operation = thread.operation;
     let suspension = Suspension {
         depth: thread.saved,
-        limit: limit(operation, thread.ticks),
+        limit: limit(thread.operation, thread.ticks),
     };
     state(
-        phase,
-        operation,
+        thread.phase,
+        thread.operation,
         lock_word::kept_count(lock_word::read_word(thread.kept)),
         suspension,
     )
@@ -151,12 +131,12 @@ pub fn activity_of(
     ensures { result ≡ activity_of operation object phase kept saved }
 {
     Activity {
-        kept: kept,
-        saved: saved,
+        kept,
+        saved,
         ticks: 0,
-        object: object,
-        operation: operation,
-        phase: phase,
+        object,
+        operation,
+        phase,
     }
 }
 
@@ -168,12 +148,8 @@ fn wait_activity(object: u8, phase: Phase, saved: Depth, limit: Limit) -> Activi
     match limit {
         Limit::Unlimited => activity_of(Operation::Wait, object, phase, 0, saved),
         Limit::Ticks(left) => Activity {
-            kept: 0,
-            saved: saved,
             ticks: left,
-            object: object,
-            operation: Operation::TimedWait,
-            phase: phase,
+            ..activity_of(Operation::TimedWait, object, phase, 0, saved)
         },
     }
 }
@@ -186,7 +162,7 @@ fn store_activity(operation: Operation, number: u8, object: u8, count: u8) -> Ac
         operation,
         object,
         Phase::Store,
-        lock_word::reserved_word(number as u16, count),
+        lock_word::reserved_word(u16::from(number), count),
         0,
     )
 }
@@ -196,8 +172,7 @@ fn store_activity(operation: Operation, number: u8, object: u8, count: u8) -> Ac
 fn suspended_activity(object: u8, phase: Phase, suspension: Suspension) -> Activity
     ensures { result ≡ wait_activity object phase suspension.depth suspension.limit }
 {
-    let limit = suspension.limit;
-    wait_activity(object, phase, suspension.depth, limit)
+    wait_activity(object, phase, suspension.depth, suspension.limit)
 }
 
 #[tactic(auto, unfolding(crate::specs::State::doing_activity))]

@@ -9,11 +9,9 @@ use lock_table::THREADS;
 pub(crate) fn thread_set(thread: u8) -> u32
     ensures { result ≡ thread_set thread }
 {
-    if thread == 0 {
-        return 0;
+    if (1..=THREADS).contains(&thread) {
+        1 << (thread - 1)
+    } else {
+        0
     }
-    if THREADS < thread {
-        return 0;
-    }
-    1u32 << ((thread as u32) - 1)
 }

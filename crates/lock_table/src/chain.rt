@@ -11,22 +11,8 @@ fn carried(phase: Phase) -> Phase
     ensures { result ≡ carried_of phase }
 {
     match phase {
-        Phase::Idle => Phase::Idle,
-        Phase::Look => Phase::Look,
-        Phase::Store => Phase::Store,
-        Phase::Cancel => Phase::Cancel,
-        Phase::GoIn => Phase::GoIn,
         Phase::Queued(onward) => onward_phase(onward),
-        Phase::Check => Phase::Check,
-        Phase::Try => Phase::Try,
-        Phase::Contending => Phase::Contending,
-        Phase::Test => Phase::Test,
-        Phase::Tell => Phase::Tell,
-        Phase::Leave => Phase::Leave,
-        Phase::Inflate => Phase::Inflate,
-        Phase::GiveUp => Phase::GiveUp,
-        Phase::Waiting => Phase::Waiting,
-        Phase::Resume => Phase::Resume,
+        other => other,
     }
 }
 
@@ -34,8 +20,7 @@ fn carried(phase: Phase) -> Phase
 pub fn handed(thread: ThreadRecord) -> ThreadRecord
     ensures { result ≡ handed_of thread }
 {
-    let phase = thread.phase;
-    thread.with_phase(carried(phase)).with_next(0)
+    thread.with_phase(carried(thread.phase)).with_next(0)
 }
 
 #[tactic(auto, unfolding(crate::specs::Chain::moved_phase))]
@@ -43,22 +28,9 @@ fn moved_phase(phase: Phase) -> Phase
     ensures { result ≡ moved_phase phase }
 {
     match phase {
-        Phase::Idle => Phase::Idle,
-        Phase::Look => Phase::Look,
-        Phase::Store => Phase::Store,
-        Phase::Cancel => Phase::Cancel,
-        Phase::GoIn => Phase::GoIn,
-        Phase::Queued(onward) => Phase::Queued(onward),
-        Phase::Check => Phase::Check,
-        Phase::Try => Phase::Try,
         Phase::Contending => Phase::Queued(Onward::ToCheck),
-        Phase::Test => Phase::Test,
-        Phase::Tell => Phase::Tell,
-        Phase::Leave => Phase::Leave,
-        Phase::Inflate => Phase::Inflate,
-        Phase::GiveUp => Phase::GiveUp,
         Phase::Waiting => Phase::Queued(Onward::ToResume),
-        Phase::Resume => Phase::Resume,
+        other => other,
     }
 }
 
@@ -66,6 +38,5 @@ fn moved_phase(phase: Phase) -> Phase
 pub fn moved(thread: ThreadRecord) -> ThreadRecord
     ensures { result ≡ moved thread }
 {
-    let phase = thread.phase;
-    thread.with_phase(moved_phase(phase))
+    thread.with_phase(moved_phase(thread.phase))
 }

@@ -66,35 +66,25 @@ impl Monitor {
         ensures { result ≡ with_first self chain first }
     {
         match chain {
-            Chain::Entry => {
-                self.entry = first;
-                self
-            }
-            Chain::Contention => {
-                self.contention = first;
-                self
-            }
-            Chain::Waiting => {
-                self.waiting = first;
-                self
-            }
+            Chain::Entry => self.entry = first,
+            Chain::Contention => self.contention = first,
+            Chain::Waiting => self.waiting = first,
         }
-    }
-
-    // Threads have joined a chain: it begins with `first` then.
-    pub fn join(mut self, chain: Chain, first: u8) -> Monitor
-        ensures { result ≡ join self chain first }
-    {
-        self = self.with_first(chain, first);
         self
     }
 
+    // Threads have joined a chain: it begins with `first` then.
+    pub fn join(self, chain: Chain, first: u8) -> Monitor
+        ensures { result ≡ join self chain first }
+    {
+        self.with_first(chain, first)
+    }
+
     // Threads of a chain have moved to the entry chain: that chain begins with `left` then, and the entry chain with `first`.
-    pub fn move_to_entry(mut self, from: Chain, left: u8, first: u8) -> Monitor
+    pub fn move_to_entry(self, from: Chain, left: u8, first: u8) -> Monitor
         ensures { result ≡ move_to_entry self from left first }
     {
-        self = self.with_first(from, left);
-        self.join(Chain::Entry, first)
+        self.with_first(from, left).join(Chain::Entry, first)
     }
 
     // Threads are let out of the entry chain, which begins with `left` then; `out` is the set of them.

@@ -7,8 +7,5 @@ ghost use Rattle.lock_table.specs.Narrow.{narrow_of};
 pub fn narrow(number: u32) -> u8
     ensures { result ≡ narrow_of number }
 {
-    if 255 < number {
-        return 255;
-    }
-    number as u8
+    u8::try_from(number).unwrap_or(u8::MAX)
 }

@@ -5,14 +5,10 @@ ghost use Rattle.lock_table.specs.Phase.{phase_number, onward_number, carried_nu
 // What a queued thread goes on with when it becomes the monitor's holder.
 #[derive(Clone, Copy)]
 pub enum Onward {
-    // 6
-    ToCheck,
-    // 10
-    ToTell,
-    // 12
-    ToInflate,
-    // 15
-    ToResume,
+    ToCheck = 6,
+    ToTell = 10,
+    ToInflate = 12,
+    ToResume = 15,
 }
 
 #[derive(Clone, Copy)]
@@ -55,12 +51,7 @@ pub enum Phase {
 pub fn onward_number(onward: Onward) -> u8
     ensures { result ≡ onward_number onward }
 {
-    match onward {
-        Onward::ToCheck => 6,
-        Onward::ToTell => 10,
-        Onward::ToInflate => 12,
-        Onward::ToResume => 15,
-    }
+    onward as u8
 }
 
 #[tactic(auto, unfolding(crate::specs::Phase::phase_number))]
@@ -93,22 +84,8 @@ pub fn carried_number(phase: Phase) -> u8
     ensures { result ≡ carried_number phase }
 {
     match phase {
-        Phase::Idle => 0,
-        Phase::Look => 0,
-        Phase::Store => 0,
-        Phase::Cancel => 0,
-        Phase::GoIn => 0,
         Phase::Queued(onward) => onward_number(onward),
-        Phase::Check => 0,
-        Phase::Try => 0,
-        Phase::Contending => 0,
-        Phase::Test => 0,
-        Phase::Tell => 0,
-        Phase::Leave => 0,
-        Phase::Inflate => 0,
-        Phase::GiveUp => 0,
-        Phase::Waiting => 0,
-        Phase::Resume => 0,
+        _ => 0,
     }
 }
 

@@ -126,15 +126,13 @@ impl ThreadRecord {
     pub fn with_activity(self, activity: Activity) -> ThreadRecord
         ensures { result ≡ with_activity self activity }
     {
-        let operation = activity.operation;
-        let phase = activity.phase;
         ThreadRecord {
             kept: activity.kept,
             saved: activity.saved,
             ticks: activity.ticks,
             object: activity.object,
-            operation: operation,
-            phase: phase,
+            operation: activity.operation,
+            phase: activity.phase,
             ..self
         }
     }
@@ -142,10 +140,7 @@ impl ThreadRecord {
     pub fn with_phase(self, phase: Phase) -> ThreadRecord
         ensures { result ≡ with_phase self phase }
     {
-        ThreadRecord {
-            phase: phase,
-            ..self
-        }
+        ThreadRecord { phase, ..self }
     }
 
     pub fn with_next(mut self, next: u8) -> ThreadRecord
