@@ -1,5 +1,5 @@
 -- A record read and written at its place is that of its number; a number that has none reads as the empty record and writes nothing.
-use Prim.Native.Nat.{ℕ, zero, suc, ◌-◌, ◌≤◌, ◌<◌}
+use Prim.Native.Nat.{ℕ, zero, suc, ◌+◌, ◌-◌, ◌≤◌, ◌<◌}
 use mathlib.Core.Path.{◌≡◌, refl, sym, ap, ◌∙◌}
 use mathlib.Core.Logic.{◌≢◌}
 use mathlib.Core.Bool.{Bool, true, false}
@@ -8,8 +8,8 @@ use native.Mathlib.Omega.{arith}
 use lib.Dec.{eqb, ltb, leb}
 use lib.ListN.{get_or, set}
 use lib.Seq.{set-get_or}
-use borrow.Author.Tests.{ltb-true, ltb-false, leb-true, leb-false}
-use Rattle.laws.specs.Choice.{pick}
+use borrow.Author.Tests.{leb-true, leb-false}
+use Rattle.laws.specs.Choice.{pick, within}
 use Rattle.laws.proofs.Choice.{split, both_first, both_second, false≢true}
 use Rattle.chains.specs.declared.named.Chain.{Chain}
 use Rattle.lock_rules.specs.declared.ChainWork.{ChainWork}
@@ -24,7 +24,7 @@ use Rattle.lock_table.proofs.Walks.{move_all_turn, move_all_end, move_all_past, 
 use Rattle.lock_perform.specs.Moving.{CarriedOut, touched, plan, carried_out, joined_by, relink}
 use Rattle.lock_perform.specs.Queueing.{queue}
 use Rattle.lock_perform.specs.declared.queueing.JoinedChain.{JoinedChain}
-use Rattle.lock_perform.specs.InPlace.{if_record, plan_at, goes_on, own_written, if_object, object_written}
+use Rattle.lock_perform.specs.InPlace.{if_record, plan_at, own_written, if_object, object_written}
 
 -- where nobody joins a chain, its first stays
 pub queue_none : (into : Chain) (fuel : ℕ) (t : Table) (first : ℕ) → queue into fuel t first 0 ≡ record { table = t; first = first }
@@ -145,37 +145,32 @@ relinked_alone t m work thread object none =
     ∙ (ap (λ (queued : JoinedChain). carried_out queued planned) (queue_none planned.into thread_limit changed first)
     ∙ λ j. record { table = changed; monitor = same_first planned.monitor planned.into j; unparked = planned.unparked }))
 
--- a walk that goes on, and one that has ended
-passing : (at left : ℕ) → goes_on at left ≡ true → (0 < left) × (at ≢ 0) × (at ≤ thread_limit)
-passing at left test =
-    let inside = both_second (ltb 0 left) _ test in
-    let some = leb-true 1 at (both_first (leb 1 at) _ inside) in
-    (ltb-true 0 left (both_first (ltb 0 left) _ test), (λ none. omega (arith, some, none)), leb-true at thread_limit (both_second (leb 1 at) _ inside))
+-- a thread's number
+pub number_some : (n : ℕ) → within 1 thread_limit n ≡ true → n ≢ 0
+number_some n inside = let some = leb-true 1 n (both_first (leb 1 n) _ inside) in λ none. omega (arith, some, none)
 
-pub passes_more : (at left : ℕ) → goes_on at left ≡ true → 0 < left
-passes_more at left test = let (more, some, high) = passing at left test in more
+pub number_high : (n : ℕ) → within 1 thread_limit n ≡ true → n ≤ thread_limit
+number_high n inside = leb-true n thread_limit (both_second (leb 1 n) _ inside)
 
-pub passes_some : (at left : ℕ) → goes_on at left ≡ true → 1 ≤ at
-passes_some at left test = let (more, some, high) = passing at left test in omega (arith, some)
+-- the walk along a chain that moves whole: one turn, and its ends: the chain ended, it went on with a number that has no record, or all were passed
+pub move_passes : (gone at : ℕ) → gone < thread_limit → within 1 thread_limit at ≡ true → (t : Table)
+    → move_all (thread_limit - gone) t at
+    ≡ move_all (thread_limit - (gone + 1)) (with_threads t (set t.threads (at - 1) (moved (get_or t.threads (at - 1) no_thread))))
+    (get_or t.threads (at - 1) no_thread).next
+move_passes gone at small inside t =
+    let one : thread_limit - gone - 1 ≡ thread_limit - (gone + 1) = omega arith in
+    rw (← one) (move_all_turn (omega arith) t at (number_some at inside) (number_high at inside))
 
-pub passes_inside : (at left : ℕ) → goes_on at left ≡ true → at ≤ thread_limit
-passes_inside at left test = let (more, some, high) = passing at left test in high
+pub move_stops : (left at : ℕ) → within 1 thread_limit at ≡ false → (t : Table) → move_all left t at ≡ t
+move_stops zero at outside t = move_all_end (omega arith) t at
+move_stops (suc left) at outside t =
+    split (leb 1 at)
+    (λ some. split (leb at thread_limit) (λ high. false≢true (sym (rw (some, high) at outside)))
+    (λ high. move_all_past (omega arith) t at (leb-false at thread_limit high)))
+    (λ low.
+    let below = leb-false 1 at low in
+    let none : at ≡ 0 = omega (arith, below) in
+    ap (move_all (suc left) t) none ∙ move_none (suc left) t)
 
--- what holds at each end of a walk: all were passed, the chain ended, or it went on with a number that has no record
-at_end : {P : Type 0} (at left : ℕ) → goes_on at left ≡ false → (left ≤ 0 → P) → (at ≡ 0 → P) → (0 < left → thread_limit < at → P) → P
-at_end at left test done none past =
-    split (ltb 0 left)
-    (λ more.
-    split (leb 1 at) (λ some. split (leb at thread_limit) (λ high. false≢true (sym (rw (more, some, high) at test))) (λ high. past (ltb-true 0 left more) (leb-false at thread_limit high)))
-    (λ low. none (let below = leb-false 1 at low in omega (arith, below))))
-    (λ all. done (ltb-false 0 left all))
-
-pub move_passes : (at left : ℕ) → goes_on at left ≡ true → (t : Table)
-    → move_all left t at
-    ≡ move_all (left - 1) (with_threads t (set t.threads (at - 1) (moved (get_or t.threads (at - 1) no_thread)))) (get_or t.threads (at - 1) no_thread).next
-move_passes at left test t = let (more, some, high) = passing at left test in move_all_turn more t at some high
-
-pub move_stops : (at left : ℕ) → goes_on at left ≡ false → (t : Table) → move_all left t at ≡ t
-move_stops at left test t =
-    at_end at left test (λ done. move_all_end done t at) (λ none. ap (move_all left t) none ∙ move_none left t)
-    (λ more past. move_all_past more t at past)
+pub move_ends : (gone at : ℕ) → thread_limit ≤ gone → (t : Table) → move_all (thread_limit - gone) t at ≡ t
+move_ends gone at all t = move_all_end (omega arith) t at

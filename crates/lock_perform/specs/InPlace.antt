@@ -1,7 +1,7 @@
 -- Parting.antt, Queueing.antt, Moving.antt and Perform.antt as the code does them, one record at a time, which it reads and writes at its place. Nothing of this is
 -- needed to say what a step does.
-use Rattle.std.specs.Prelude.{ℕ, Bool, List, eqb, ltb, leb, get_or}
-use Rattle.laws.specs.Choice.{pick, both, within}
+use Rattle.std.specs.Prelude.{ℕ, List, eqb, ltb, get_or}
+use Rattle.laws.specs.Choice.{pick}
 use Rattle.lock_rules.specs.declared.ChainWork.{ChainWork}
 use Rattle.lock_table.specs.Limits.{thread_limit, object_limit}
 use Rattle.lock_table.specs.Record.{no_thread, with_next, with_monitor}
@@ -30,17 +30,9 @@ plan_at work monitor thread object there =
       into = planned.into;
     }
 
--- a walk along a chain goes on with this thread: there is one, and no more were passed than there are
-abbrev pub goes_on : ℕ → ℕ → Bool
-goes_on at left = both (ltb 0 left) (within 1 thread_limit at)
-
 -- a record read at the place of a number, from the records alone
 abbrev pub record_in : List ThreadRecord → ℕ → ThreadRecord
 record_in threads n = get_or threads (thread_place n) no_thread
-
--- the walk to the place of one who joins goes on past the thread `there`, who stays before it
-unfoldable pub stays_before : ℕ → ℕ → ThreadRecord → ℕ → Bool
-stays_before here left there rank = both (goes_on here left) (leb rank there.rank)
 
 -- what is written at the place of the last thread of a chain, where `there` is what stood there
 abbrev pub linked_to : ℕ → ThreadRecord → ℕ → ThreadRecord

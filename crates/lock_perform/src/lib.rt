@@ -12,7 +12,7 @@ mod state;
 mod thread_set;
 
 pub use letting_out::{let_out, lets_out, none_out, queued_exit};
-pub use moving::{ChainPlan, goes_on, if_record, moved_whole, plan_at, touched};
+pub use moving::{ChainPlan, if_record, moved_whole, plan_at, touched};
 pub use parting::{PartedChain, Parting, last_behind, linked_to, no_parting, passed};
 pub use performing::{object_after, object_written, own_written, stays};
 pub use queueing::{JoinedChain, first_at, joining_rank, place_for};

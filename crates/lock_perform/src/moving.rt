@@ -1,9 +1,10 @@
 // What the work of a rule on chains does to thread records and to the monitor of the step's object. No table is looked at: the engine, which has it
 // in one local, goes along the chains and asks here what becomes of each record.
 ghost use Rattle.std.specs.Prelude.{◌≡◌};
+ghost use Rattle.laws.specs.Choice.{pick, within};
 ghost use Rattle.lock_perform.specs.Moving.{look_again, back_from, sent_back_of, touched_by_move, touched, unlinked, joining, moving};
 ghost use Rattle.lock_perform.specs.Moving.{plan_hand, plan_join_and_hand, plan_move, plan, whole_move, moved_whole};
-ghost use Rattle.lock_perform.specs.InPlace.{if_record, plan_at, goes_on};
+ghost use Rattle.lock_perform.specs.InPlace.{if_record, plan_at};
 
 use crate::thread_set::thread_set;
 use chains::Chain;
@@ -168,16 +169,23 @@ fn plan(
     }
 }
 
+// What is there for a number from 1 to `limit`, which has a record, else the other.
+pub(crate) fn if_numbered<T: Copy>(limit: u8, number: u8, there: T, other: T) -> T
+    ensures { result ≡ pick (within 1 limit number) there other }
+{
+    if (1..=limit).contains(&number) {
+        there
+    } else {
+        other
+    }
+}
+
 // The record of a number that has one, else the other.
 #[tactic(auto, unfolding(crate::specs::InPlace::if_record))]
 pub fn if_record(number: u8, there: ThreadRecord, other: ThreadRecord) -> ThreadRecord
     ensures { result ≡ if_record number there other }
 {
-    if (1..=THREADS).contains(&number) {
-        there
-    } else {
-        other
-    }
+    if_numbered(THREADS, number, there, other)
 }
 
 // The plan by the record that is at the place of the changed one. Where nobody's changes, that record stays as it is.
@@ -217,11 +225,4 @@ pub fn moved_whole(work: ChainWork, monitor: Monitor) -> u8
         ChainWork::MoveAndLetOut => whole_move(monitor, Chain::Contention, Taken::All),
         _ => 0,
     }
-}
-
-// Whether a walk along a chain goes on with this thread: there is one, and no more were passed than there are.
-pub fn goes_on(at: u8, left: u8) -> bool
-    ensures { result ≡ goes_on at left }
-{
-    (0 < left) & (1..=THREADS).contains(&at)
 }

@@ -3,7 +3,7 @@ ghost use Rattle.std.specs.Prelude.{◌≡◌};
 ghost use Rattle.lock_perform.specs.Perform.{word_after, begun_monitor, object_after, stays};
 ghost use Rattle.lock_perform.specs.InPlace.{own_written, if_object, object_written};
 
-use crate::moving::if_record;
+use crate::moving::{if_numbered, if_record};
 use lock_rules::{ChainWork, Effect, WordChange};
 use lock_table::{Monitor, OBJECTS, ObjectRecord, ThreadRecord};
 use lock_word::Depth;
@@ -60,11 +60,7 @@ pub fn own_written(thread: u8, own: ThreadRecord, there: ThreadRecord) -> Thread
 fn if_object(number: u8, there: ObjectRecord, other: ObjectRecord) -> ObjectRecord
     ensures { result ≡ if_object number there other }
 {
-    if (1..=OBJECTS).contains(&number) {
-        there
-    } else {
-        other
-    }
+    if_numbered(OBJECTS, number, there, other)
 }
 
 // What is written of the object at its place: its record with the chains that the work gave.

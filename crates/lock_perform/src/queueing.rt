@@ -1,12 +1,12 @@
 // Threads that join a chain, each at its place: the place is found by a walk along the records, and who has the table in a local writes there.
-ghost use Rattle.std.specs.Prelude.{◌≡◌};
+ghost use Rattle.std.specs.Prelude.{◌≡◌, leb};
+ghost use Rattle.laws.specs.Choice.{both, within};
 ghost use Rattle.lock_table.specs.Limits.{thread_limit};
 ghost use Rattle.lock_perform.specs.Queueing.{joining_rank, place_for, first_at};
-ghost use Rattle.lock_perform.specs.InPlace.{record_in, stays_before};
+ghost use Rattle.lock_perform.specs.InPlace.{record_in};
 
-use crate::moving::goes_on;
 use chains::{Chain, Place};
-use lock_table::{THREADS, Table, ThreadRecord, thread_place};
+use lock_table::{THREADS, Table, ThreadRecord, is_thread, thread_place};
 
 // A table, and the first of the chain that threads have joined.
 #[derive(Clone, Copy)]
@@ -26,26 +26,31 @@ pub fn joining_rank(chain: Chain, thread: ThreadRecord) -> u8
 }
 
 // Whether the walk to the place of one who joins goes on past `there`, the record of thread `here`: nobody of a lower rank stays before it.
-#[tactic(auto, unfolding(crate::specs::InPlace::stays_before))]
-fn stays_before(here: u8, left: u8, there: ThreadRecord, rank: u8) -> bool
-    ensures { result ≡ stays_before here left there rank }
+fn stays_before(here: u8, there: ThreadRecord, rank: u8) -> bool
+    ensures { result ≡ both (within 1 thread_limit here) (leb rank there.rank) }
 {
-    goes_on(here, left) & (rank <= there.rank)
+    is_thread(here) & (rank <= there.rank)
 }
 
-// The place of one who joins by this rank, in the chain that begins with `first`. The records are only read, so that passing them copies nothing.
-pub fn place_for(threads: [ThreadRecord; 32], first: u8, rank: u8) -> Place
-    ensures { result ≡ place_for thread_limit (record_in threads) rank 0 first }
+// The place of one who joins by this rank, in the chain that begins with `first`.
+pub fn place_for(threads: &[ThreadRecord; 32], first: u8, rank: u8) -> Place
+    ensures { result ≡ place_for thread_limit (record_in threads.now) rank 0 first }
 {
-    let mut last: u8 = 0;
-    let mut here = first;
-    let mut left = THREADS;
-    while stays_before(here, left, threads[thread_place(here)], rank) {
-        last = here;
-        here = threads[thread_place(here)].next;
-        left -= 1;
+    let mut place = Place {
+        last: 0,
+        here: first,
+    };
+    for _ in 0..THREADS {
+        let there = threads[thread_place(place.here)];
+        if !stays_before(place.here, there, rank) {
+            break;
+        }
+        place = Place {
+            last: place.here,
+            here: there.next,
+        };
     }
-    Place { last, here }
+    place
 }
 
 // The first of a chain that this thread has joined behind `last`, 0 for in front.

@@ -13,22 +13,16 @@ pub fn length_from(table: Table, first: u8) -> u8
     ensures { result ≡ chain_length 32 (next_of table) first }
 {
     let mut at = first;
-    let mut passed: u8 = 0;
-    let mut left = THREADS;
-    while 0 < left {
+    for passed in 0..THREADS {
         if at == 0 {
             return passed;
         }
-        passed = passed + 1;
         if THREADS < at {
-            return passed;
+            return passed + 1;
         }
-        let place = (at as usize) - 1;
-        let thread = table.threads[place];
-        at = thread.next;
-        left = left - 1;
+        at = table.threads[usize::from(at - 1)].next;
     }
-    passed
+    THREADS
 }
 
 pub fn sight_with(object: ObjectRecord, word: WordSeen, waiters: u8) -> Sight

@@ -1,10 +1,18 @@
 // The records of a table by number, from 1. Number 0 and numbers past the end read as the empty record and write nothing.
 ghost use Rattle.std.specs.Prelude.{◌≡◌, ◌-◌, get_or, set, eqb};
-ghost use Rattle.laws.specs.Choice.{pick};
+ghost use Rattle.laws.specs.Choice.{pick, within};
+ghost use Rattle.lock_table.specs.Limits.{thread_limit};
 ghost use Rattle.lock_table.specs.Access.{thread_at, set_thread, object_at, set_object};
 ghost use Rattle.lock_table.specs.Place.{place_within, thread_place, object_place};
 
 use crate::record::{OBJECTS, ObjectRecord, THREADS, Table, ThreadRecord, no_object, no_thread};
+
+// Whether a thread's record has this number.
+pub fn is_thread(number: u8) -> bool
+    ensures { result ≡ within 1 thread_limit number }
+{
+    (1..=THREADS).contains(&number)
+}
 
 // Of records numbered from 1 the one with this number, else `none`.
 fn record_at<T: Copy>(records: &[T], number: u8, none: T) -> T

@@ -11,7 +11,9 @@ mod owning;
 mod phase;
 mod record;
 
-pub use access::{object_at, object_place, set_object, set_thread, thread_at, thread_place};
+pub use access::{
+    is_thread, object_at, object_place, set_object, set_thread, thread_at, thread_place,
+};
 pub use chain::{handed, moved};
 pub use fresh_table::{
     FreshAnswer, FreshRefusal, FreshRequest, FreshTable, ObjectGiven, ThreadGiven, fresh,

@@ -1,17 +1,15 @@
 // What an event leaves to be done to the table besides its two records, done. A rule's work is on the chains of its object: the table stands in one
-// local, and functions of records say what becomes of each record; only what is rare, a whole chain that moves and exits that are let out, has a function
-// that takes the table and gives it back. A tick's is on every waiting chain.
+// local, which walks along a chain are lent, and functions of records say what becomes of each record. A tick's is on every waiting chain.
 ghost use Rattle.std.specs.Prelude.{◌≡◌};
 ghost use Rattle.lock_work.specs.Work.{work_stays, chains_done, work_done};
 
 use crate::ticking::tick;
-use crate::walking::{move_all, part_exits};
+use crate::walking::{move_all, part_exits, queue};
 use lock_perform::{
-    first_at, goes_on, joining_rank, lets_out, linked_to, moved_whole, none_out, object_written,
-    own_written, place_for, plan_at, stays, touched,
+    lets_out, moved_whole, none_out, object_written, own_written, plan_at, stays, touched,
 };
 use lock_rules::ChainWork;
-use lock_table::{ObjectRecord, THREADS, Table, ThreadRecord, object_place, thread_place};
+use lock_table::{ObjectRecord, Table, ThreadRecord, object_place, thread_place};
 
 #[derive(Clone, Copy)]
 pub enum Work {
@@ -53,34 +51,17 @@ fn chains_done(
     let mut changed = table;
     let whole = moved_whole(work, object.monitor);
     if whole != 0 {
-        changed = move_all(changed, whole);
+        move_all(&mut changed, whole);
     }
     let place = thread_place(touched(work, object.monitor));
     let planned = plan_at(work, object.monitor, thread, number, changed.threads[place]);
-    let replaced = planned.changed;
-    changed.threads[place] = replaced;
-    let into = planned.into;
-    let mut first = planned.monitor.first_in(into);
-    let mut at = planned.back;
-    let mut left = THREADS;
-    while goes_on(at, left) {
-        let spot = (at as usize) - 1;
-        let joining = changed.threads[spot];
-        let place = place_for(changed.threads, first, joining_rank(into, joining));
-        changed.threads[spot] = joining.with_next(place.here);
-        let behind = thread_place(place.last);
-        changed.threads[behind] = linked_to(place.last, changed.threads[behind], at);
-        first = first_at(place.last, first, at);
-        at = joining.next;
-        left = left - 1;
-    }
-    let mut out = none_out(planned.monitor.join(into, first), planned.unparked);
+    changed.threads[place] = planned.changed;
+    let begins = planned.monitor.first_in(planned.into);
+    let first = queue(&mut changed, planned.into, begins, planned.back);
+    let mut out = none_out(planned.monitor.join(planned.into, first), planned.unparked);
     if lets_out(work) {
-        let parted = part_exits(changed, out.monitor.entry);
-        changed = parted.table;
-        out = out
-            .monitor
-            .let_out(parted.parting.left.first, parted.parting.set);
+        let parting = part_exits(&mut changed, out.monitor.entry);
+        out = out.monitor.let_out(parting.left.first, parting.set);
     }
     let place = thread_place(thread);
     changed.threads[place] = own_written(thread, own, changed.threads[place]);

@@ -9,10 +9,7 @@ use lock_word::Ticks;
 fn ticks_after(ticks: Ticks) -> Ticks
     ensures { result ≡ ticks_after ticks }
 {
-    if ticks == 0 {
-        return 0;
-    }
-    ticks - 1
+    ticks.saturating_sub(1)
 }
 
 // Whether a waiter runs out with this tick: no wait without a limit does.
@@ -20,16 +17,7 @@ fn ticks_after(ticks: Ticks) -> Ticks
 pub(crate) fn runs_out(waiter: ThreadRecord) -> bool
     ensures { result ≡ runs_out waiter.operation (ticks_after waiter.ticks) }
 {
-    let operation = waiter.operation;
-    match operation {
-        Operation::Idle => false,
-        Operation::Enter => false,
-        Operation::Exit => false,
-        Operation::Wait => false,
-        Operation::Notify => false,
-        Operation::NotifyAll => false,
-        Operation::TimedWait => ticks_after(waiter.ticks) == 0,
-    }
+    matches!(waiter.operation, Operation::TimedWait) & (ticks_after(waiter.ticks) == 0)
 }
 
 // A waiter after the tick, in no chain yet: queued for 15 if it has run out.
@@ -42,8 +30,5 @@ pub(crate) fn waiter_after(waiter: ThreadRecord, goes: bool) -> ThreadRecord
         next: 0,
         ..waiter
     };
-    if goes {
-        return moved(after);
-    }
-    after
+    if goes { moved(after) } else { after }
 }

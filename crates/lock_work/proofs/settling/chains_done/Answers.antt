@@ -1,29 +1,14 @@
--- A thread that is passed joins at its place, and what is done before and after the walk is as defined.
-use Rattle.std.proofs.Common.{◌≡◌, ◌∙◌, refl, sym, true, false}
+-- What is done before the threads join, and after it, is as defined.
+use Rattle.std.proofs.Common.{◌≡◌, ◌∙◌, refl, sym}
 use borrow.Author.Tests.{eq-eqb, ne_eqb}
 use lib.Dec.{eqb}
 use Rattle.laws.specs.Choice.{pick}
 use Rattle.lock_table.specs.Limits.{thread_limit}
 use Rattle.lock_table.specs.Chain.{move_all}
-use Rattle.lock_perform.specs.InPlace.{goes_on}
-use Rattle.lock_perform.proofs.QueueInPlace.{queue_passes, queue_stops}
+use Rattle.lock_perform.specs.declared.queueing.JoinedChain.{JoinedChain}
 use Rattle.lock_work.proofs.Worked.{after_joining, work_in_place}
 use Rattle.lock_work.proofs.settling.chains_done.Goals as goal
 use Rattle.lock_work.proofs.settling.chains_done.Goals.{After-object_written, then-whole-ne0, else-whole-ne0, then-lets_out, else-lets_out}
-
-pub loop-spot-preserved : goal.loop-spot-preserved
-loop-spot-preserved c =
-    let loop = c.loop-spot in
-    let passing : goes_on loop.at loop.left ≡ true = sym c.goes_on.ensures ∙ c.loop-spot-test.true in
-    rw (
-      c.first_at-first.ensures,
-      c.linked_to.ensures,
-      c.thread_place-behind.ensures,
-      c.with_next.ensures,
-      c.place_for-place.ensures,
-      c.joining_rank.ensures,
-    )
-    (loop.invariant ∙ queue_passes _ loop.at loop.left passing loop.changed loop.first)
 
 -- the threads of a chain that moves whole changed, or not
 moved_is : (c : After-object_written)
@@ -31,21 +16,21 @@ moved_is : (c : After-object_written)
     c.if-whole-ne0.changed ≡ pick (eqb whole 0) c.args.table (move_all thread_limit c.args.table whole)
 moved_is c =
     elim c.if-whole-ne0.branch [
-      | then-whole-ne0 w ↦ w.changed-is ∙ (w.move_all-changed.ensures ∙ rw (ne_eqb _ 0 w.if-whole-ne0.true) refl)
+      | then-whole-ne0 w ↦ w.changed-is ∙ (w.move_all.ensures ∙ rw (ne_eqb _ 0 w.if-whole-ne0.true) refl)
       | else-whole-ne0 w ↦ w.changed-is ∙ rw (eq-eqb _ 0 w.if-whole-ne0.false) refl
     ]
 
 -- exits let out, or not
 outs : (c : After-object_written)
     → let carried = after_joining c.args.work
-    (record { table = c.loop-spot.changed; monitor = c.join.result; unparked = c.plan_at-planned.result.unparked }) in
+    (record { table = c.queue-first.new.table; monitor = c.join.result; unparked = c.plan_at-planned.result.unparked }) in
     (c.if-lets_out.changed ≡ carried.table) × (c.if-lets_out.out ≡ record { monitor = carried.monitor; threads = carried.unparked })
 outs c =
     elim c.if-lets_out.branch [
       | then-lets_out w ↦
           rw (sym c.lets_out.ensures ∙ w.if-lets_out.true) (
-            w.changed-is ∙ rw (w.part_exits-parted.ensures, c.none_out-out.ensures) refl,
-            w.out-is ∙ (w.let_out-out.ensures ∙ rw (w.part_exits-parted.ensures, c.none_out-out.ensures) refl),
+            w.changed-is ∙ (w.part_exits-parting.ensures.table ∙ rw c.none_out-out.ensures refl),
+            w.out-is ∙ (w.let_out-out.ensures ∙ rw (w.part_exits-parting.ensures.parting, c.none_out-out.ensures) refl),
           )
       | else-lets_out w ↦ rw (sym c.lets_out.ensures ∙ w.if-lets_out.false) (w.changed-is, w.out-is ∙ c.none_out-out.ensures)
     ]
@@ -53,15 +38,14 @@ outs c =
 pub returns : goal.returns
 returns c =
     let given = c.args in
-    let loop = c.loop-spot in
-    let stopping : goes_on loop.at loop.left ≡ false = sym c.goes_on.ensures ∙ c.loop-spot-test.false in
-    work_in_place given.table given.thread given.number given.own given.object given.work
+    let joined : JoinedChain = record { table = c.queue-first.new.table; first = c.queue-first.result } in
+    work_in_place given.table given.thread given.number given.own given.object given.work {joined = joined}
     c.moved_whole-whole.ensures
     (moved_is c)
     c.touched.ensures
     c.thread_place-place.ensures
     c.plan_at-planned.ensures
-    (rw (← c.first_in-first.ensures) (sym (loop.invariant ∙ queue_stops _ loop.at loop.left stopping loop.changed loop.first)))
+    (rw (← c.first_in-begins.ensures) (λ j. record { table = c.queue-first.ensures.table j; first = c.queue-first.ensures.first j }))
     c.join.ensures
     (outs c)
     c.thread_place-place-2.ensures

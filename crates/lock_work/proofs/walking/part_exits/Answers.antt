@@ -1,14 +1,16 @@
--- A thread that is passed stays or is let out, and the walk ends where it does not go on.
-use Rattle.std.proofs.Common.{◌≡◌, ◌∙◌, sym, true, false}
+-- A thread that is passed stays or leaves, and the walk ends where no thread is left.
+use Rattle.std.proofs.Common.{◌≡◌, ◌∙◌, ◌-◌, sym, ap, true, false}
+use Rattle.laws.specs.Choice.{within}
+use Rattle.lock_table.specs.Limits.{thread_limit}
 use Rattle.lock_perform.specs.Moving.{queued_exit, let_out}
-use Rattle.lock_perform.specs.InPlace.{goes_on}
-use Rattle.lock_perform.proofs.PartInPlace.{part_passes, part_stops}
+use Rattle.lock_perform.specs.declared.parting.PartedChain.{PartedChain}
+use Rattle.lock_perform.proofs.PartInPlace.{part_passes, part_stops, part_ends}
 use Rattle.lock_work.proofs.walking.part_exits.Goals as goal
 
-pub loop-spot-preserved : goal.loop-spot-preserved
-loop-spot-preserved c =
-    let loop = c.loop-spot in
-    let passing : goes_on loop.at loop.left ≡ true = sym c.goes_on.ensures ∙ c.loop-spot-test.true in
+pub loop-preserved : goal.loop-preserved
+loop-preserved c =
+    let loop = c.loop in
+    let inside : within 1 thread_limit loop.at ≡ true = sym c.is_thread.ensures ∙ c.if-not-is_thread.false in
     rw (
       c.passed-parting.ensures,
       c.linked_to.ensures,
@@ -16,11 +18,19 @@ loop-spot-preserved c =
       c.last_behind-last.ensures,
       c.let_out.ensures,
       c.queued_exit-goes.ensures,
+      c.from-spot.ensures,
     )
-    (loop.invariant ∙ part_passes queued_exit let_out false loop.at loop.left passing loop.changed loop.parting)
+    (loop.invariant ∙ part_passes queued_exit let_out false loop.counter loop.at c.loop-test.true inside loop.table loop.parting)
 
-pub returns : goal.returns
-returns c =
-    let loop = c.loop-spot in
-    let stopping : goes_on loop.at loop.left ≡ false = sym c.goes_on.ensures ∙ c.loop-spot-test.false in
-    sym (loop.invariant ∙ part_stops queued_exit let_out false loop.at loop.left stopping loop.changed loop.parting)
+pub returns-then-not-is_thread : goal.returns-then-not-is_thread
+returns-then-not-is_thread c =
+    let loop = c.loop in
+    let outside : within 1 thread_limit loop.at ≡ false = sym c.is_thread.ensures ∙ c.if-not-is_thread.true in
+    let all = loop.invariant ∙ part_stops queued_exit let_out false (thread_limit - loop.counter) loop.at outside loop.table loop.parting in
+    record { table = sym (ap (λ (parted : PartedChain). parted.table) all); parting = sym (ap (λ (parted : PartedChain). parted.parting) all) }
+
+pub returns-after-loop : goal.returns-after-loop
+returns-after-loop c =
+    let loop = c.loop in
+    let all = loop.invariant ∙ part_ends queued_exit let_out false loop.counter loop.at c.loop-test.false loop.table loop.parting in
+    record { table = sym (ap (λ (parted : PartedChain). parted.table) all); parting = sym (ap (λ (parted : PartedChain). parted.parting) all) }

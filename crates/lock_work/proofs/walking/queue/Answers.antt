@@ -1,13 +1,15 @@
--- A thread that is passed joins at its place, and the walk ends where it does not go on.
-use Rattle.std.proofs.Common.{◌≡◌, ◌∙◌, sym, true, false}
-use Rattle.lock_perform.specs.InPlace.{goes_on}
-use Rattle.lock_perform.proofs.QueueInPlace.{queue_passes, queue_stops}
+-- A thread that is passed joins at its place, and the walk ends where no thread is left.
+use Rattle.std.proofs.Common.{◌≡◌, ◌∙◌, ◌-◌, sym, ap, true, false}
+use Rattle.laws.specs.Choice.{within}
+use Rattle.lock_table.specs.Limits.{thread_limit}
+use Rattle.lock_perform.specs.declared.queueing.JoinedChain.{JoinedChain}
+use Rattle.lock_perform.proofs.QueueInPlace.{queue_passes, queue_stops, queue_ends}
 use Rattle.lock_work.proofs.walking.queue.Goals as goal
 
-pub loop-into-preserved : goal.loop-into-preserved
-loop-into-preserved c =
-    let loop = c.loop-into in
-    let passing : goes_on loop.at loop.left ≡ true = sym c.goes_on.ensures ∙ c.loop-into-test.true in
+pub loop-preserved : goal.loop-preserved
+loop-preserved c =
+    let loop = c.loop in
+    let inside : within 1 thread_limit loop.at ≡ true = sym c.is_thread.ensures ∙ c.if-not-is_thread.false in
     rw (
       c.first_at-first.ensures,
       c.linked_to.ensures,
@@ -15,11 +17,19 @@ loop-into-preserved c =
       c.with_next.ensures,
       c.place_for-place.ensures,
       c.joining_rank.ensures,
+      c.from-spot.ensures,
     )
-    (loop.invariant ∙ queue_passes _ loop.at loop.left passing loop.changed loop.first)
+    (loop.invariant ∙ queue_passes c.args.into loop.counter loop.at c.loop-test.true inside loop.table loop.first)
 
-pub returns : goal.returns
-returns c =
-    let loop = c.loop-into in
-    let stopping : goes_on loop.at loop.left ≡ false = sym c.goes_on.ensures ∙ c.loop-into-test.false in
-    sym (loop.invariant ∙ queue_stops _ loop.at loop.left stopping loop.changed loop.first)
+pub returns-then-not-is_thread : goal.returns-then-not-is_thread
+returns-then-not-is_thread c =
+    let loop = c.loop in
+    let outside : within 1 thread_limit loop.at ≡ false = sym c.is_thread.ensures ∙ c.if-not-is_thread.true in
+    let all = loop.invariant ∙ queue_stops c.args.into (thread_limit - loop.counter) loop.at outside loop.table loop.first in
+    record { table = sym (ap (λ (joined : JoinedChain). joined.table) all); first = sym (ap (λ (joined : JoinedChain). joined.first) all) }
+
+pub returns-after-loop : goal.returns-after-loop
+returns-after-loop c =
+    let loop = c.loop in
+    let all = loop.invariant ∙ queue_ends c.args.into loop.counter loop.at c.loop-test.false loop.table loop.first in
+    record { table = sym (ap (λ (joined : JoinedChain). joined.table) all); first = sym (ap (λ (joined : JoinedChain). joined.first) all) }

@@ -1,0 +1,36 @@
+-- A thread that is passed stays or leaves, and the walk ends where no thread is left.
+use Rattle.std.proofs.Common.{◌≡◌, ◌∙◌, ◌-◌, sym, ap, true, false}
+use Rattle.laws.specs.Choice.{within}
+use Rattle.lock_table.specs.Limits.{thread_limit}
+use Rattle.lock_work.specs.Waiters.{waiter_goes, waiter_ticked}
+use Rattle.lock_perform.specs.declared.parting.PartedChain.{PartedChain}
+use Rattle.lock_perform.proofs.PartInPlace.{part_passes, part_stops, part_ends}
+use Rattle.lock_work.proofs.walking.part_waiters.Goals as goal
+
+pub loop-preserved : goal.loop-preserved
+loop-preserved c =
+    let loop = c.loop in
+    let inside : within 1 thread_limit loop.at ≡ true = sym c.is_thread.ensures ∙ c.if-not-is_thread.false in
+    rw (
+      c.passed-parting.ensures,
+      c.linked_to.ensures,
+      c.thread_place-behind.ensures,
+      c.last_behind-last.ensures,
+      c.waiter_after.ensures,
+      c.runs_out-goes.ensures,
+      c.from-spot.ensures,
+    )
+    (loop.invariant ∙ part_passes waiter_goes waiter_ticked true loop.counter loop.at c.loop-test.true inside loop.table loop.parting)
+
+pub returns-then-not-is_thread : goal.returns-then-not-is_thread
+returns-then-not-is_thread c =
+    let loop = c.loop in
+    let outside : within 1 thread_limit loop.at ≡ false = sym c.is_thread.ensures ∙ c.if-not-is_thread.true in
+    let all = loop.invariant ∙ part_stops waiter_goes waiter_ticked true (thread_limit - loop.counter) loop.at outside loop.table loop.parting in
+    record { table = sym (ap (λ (parted : PartedChain). parted.table) all); parting = sym (ap (λ (parted : PartedChain). parted.parting) all) }
+
+pub returns-after-loop : goal.returns-after-loop
+returns-after-loop c =
+    let loop = c.loop in
+    let all = loop.invariant ∙ part_ends waiter_goes waiter_ticked true loop.counter loop.at c.loop-test.false loop.table loop.parting in
+    record { table = sym (ap (λ (parted : PartedChain). parted.table) all); parting = sym (ap (λ (parted : PartedChain). parted.parting) all) }
