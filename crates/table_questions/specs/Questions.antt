@@ -1,5 +1,5 @@
 -- What can be asked of a table, and the answers. A question is a name of what is asked and a clause that says its value; all share one shape.
-use Rattle.std.specs.Prelude.{ℕ, ◌+◌, ◌*◌, Bool, true, List, eqb, leb}
+use Rattle.std.specs.Prelude.{ℕ, ◌+◌, ◌*◌, Bool, true, List, Result, Ok, Err, eqb, leb}
 use Rattle.laws.specs.Choice.{pick, both, within}
 use Rattle.lock_word.specs.Read.{read_word}
 use Rattle.lock_word.specs.declared.reading.Decoded.{Decoded}
@@ -29,6 +29,10 @@ use Rattle.table_questions.specs.declared.asking.ObjectQuestion.TheVariants.{Ent
 -- the answer to a question: 0 and the value, packed as bits 0 to 7 and the rest; else a refusal's number
 abbrev pub saying : ℕ → ℕ
 saying value = value * 256
+
+abbrev pub packed_of : Result ℕ Refusal → ℕ
+packed_of (Ok value) = saying value
+packed_of (Err refusal) = refusal_number refusal
 
 unfoldable pub said_of : Bool → Bool → Refusal → ℕ → ℕ
 said_of istable inrange refusal value = pick istable (pick inrange (saying value) (refusal_number refusal)) (refusal_number NotSound)
@@ -113,16 +117,21 @@ thread_in_range table thread = both (within 1 table.threadcount thread) (leb thr
 abbrev pub object_in_range : Table → ℕ → Bool
 object_in_range table object = both (within 1 table.objectcount object) (leb object object_limit)
 
-abbrev pub thread_in : ThreadQuestion → Bool → Table → ℕ → ℕ
-thread_in question istable table number =
+-- what is asked of the record with a number
+abbrev pub thread_value_in : ThreadQuestion → Table → ℕ → ℕ
+thread_value_in question table number =
     let thread = thread_at table number in
     let home = thread.object in
-    said_of istable (thread_in_range table number) NoSuchThread
-    (thread_value question number thread (ownership_at table home).thread (object_at table home).monitor.holder)
+    thread_value question number thread (ownership_at table home).thread (object_at table home).monitor.holder
+
+abbrev pub object_value_in : ObjectQuestion → Table → ℕ → ℕ
+object_value_in question table number = object_value question (object_at table number) (ownership_at table number)
+
+abbrev pub thread_in : ThreadQuestion → Bool → Table → ℕ → ℕ
+thread_in question istable table number = said_of istable (thread_in_range table number) NoSuchThread (thread_value_in question table number)
 
 abbrev pub object_in : ObjectQuestion → Bool → Table → ℕ → ℕ
-object_in question istable table number =
-    said_of istable (object_in_range table number) NoSuchObject (object_value question (object_at table number) (ownership_at table number))
+object_in question istable table number = said_of istable (object_in_range table number) NoSuchObject (object_value_in question table number)
 
 -- the same of bytes
 abbrev pub ask_thread : ThreadQuestion → List ℕ → ℕ → ℕ

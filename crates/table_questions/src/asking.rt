@@ -1,16 +1,21 @@
-// What can be asked of a table, by name, and how each is answered. An answer has the returned number in bits 0 to 7, 0 where there is a value, and
-// the value above.
-ghost use Rattle.std.specs.Prelude.{◌≡◌};
-ghost use Rattle.table_bytes.specs.ObjectBytes.{flag_byte};
-ghost use Rattle.table_questions.specs.Questions.{said_of, holder_blocks, owner_blocks, entry_blocks, blocker_of, thread_value, object_value};
-ghost use Rattle.table_questions.specs.Questions.{thread_in, object_in, ask_thread, ask_object, thread_count, object_count};
+// What can be asked of a table, by name, and how each is answered.
+ghost use Rattle.std.specs.Prelude.{◌≡◌, ℕ, leb};
+ghost use Rattle.laws.specs.Choice.{pick, both, within};
+ghost use Rattle.lock_rules.specs.declared.event.Refusal.{Refusal};
+ghost use Rattle.lock_rules.specs.declared.event.Refusal.TheVariants.{NotSound};
+ghost use Rattle.lock_table.specs.Operation.{operation_number};
+ghost use Rattle.lock_table.specs.Phase.{phase_number};
+ghost use Rattle.lock_table.specs.declared.record.Table.{Table};
+ghost use Rattle.table_bytes.specs.Reading.{is_table, table_of};
+ghost use Rattle.table_questions.specs.Questions.{packed_of, said_of, holder_blocks, owner_blocks, entry_blocks, blocker_of, thread_value, object_value};
+ghost use Rattle.table_questions.specs.Questions.{thread_value_in, object_value_in, ask_thread, ask_object, thread_count, object_count};
 ghost use Rattle.table_questions.specs.Questions.{kind_number, named_thread};
 
 use lock_engine::refusal_number;
 use lock_rules::Refusal;
 use lock_table::{
-    OBJECTS, ObjectRecord, THREADS, Table, ThreadRecord, carried_number, narrow, object_at,
-    operation_number, ownership_at, phase_number, thread_at,
+    OBJECTS, ObjectRecord, Operation, Phase, THREADS, Table, ThreadRecord, carried_number, narrow,
+    object_at, operation_number, ownership_at, phase_number, thread_at,
 };
 use lock_word::{Decoded, LockWord, Ownership, read_word};
 use table_bytes::{is_table, read_table};
@@ -55,29 +60,6 @@ const VALUE_UNIT: u64 = 256;
 
 const HOLDER_MARK: u32 = 65536;
 
-#[tactic(auto, unfolding(crate::specs::Questions::said_of))]
-fn said(istable: bool, inrange: bool, refusal: Refusal, value: u32) -> u64
-    ensures { result ≡ said_of istable inrange refusal value }
-{
-    if istable {
-        if inrange {
-            return (value as u64) * VALUE_UNIT;
-        }
-        return refusal_number(refusal) as u64;
-    }
-    refusal_number(Refusal::NotSound) as u64
-}
-
-#[tactic(auto, unfolding(table_bytes::specs::ObjectBytes::flag_byte))]
-fn flag_number(flag: bool) -> u32
-    ensures { result ≡ flag_byte flag }
-{
-    if flag {
-        return 1;
-    }
-    0
-}
-
 // The kind of a lock word, 5 where it is none. C callers have names for these numbers.
 #[tactic(auto, unfolding(crate::specs::Questions::kind_number))]
 fn kind_number(decoded: Decoded) -> u32
@@ -117,13 +99,10 @@ fn named_thread(decoded: Decoded) -> u32
 fn holder_blocks(number: u8, holder: u8) -> u32
     ensures { result ≡ holder_blocks number holder }
 {
-    if holder == 0 {
+    if holder == 0 || holder == number {
         return 0;
     }
-    if holder == number {
-        return 0;
-    }
-    (holder as u32) + HOLDER_MARK
+    u32::from(holder) + HOLDER_MARK
 }
 
 // A thread that owns the object itself is kept by the holder alone.
@@ -131,37 +110,31 @@ fn holder_blocks(number: u8, holder: u8) -> u32
 fn owner_blocks(number: u8, owner: u16, holder: u8) -> u32
     ensures { result ≡ owner_blocks number owner holder }
 {
-    if owner == 0 {
+    if owner == 0 || owner == u16::from(number) {
         return holder_blocks(number, holder);
     }
-    if owner == (number as u16) {
-        return holder_blocks(number, holder);
-    }
-    owner as u32
+    u32::from(owner)
 }
 
 // An exit has given the object up, and goes in to tell a contender: whoever owns the object does not keep it.
-#[tactic(auto, unfolding(crate::specs::Questions::entry_blocks))]
-fn entry_blocks(operation: u8, number: u8, owner: u16, holder: u8) -> u32
-    ensures { result ≡ entry_blocks operation number owner holder }
+#[tactic(auto, unfolding(crate::specs::Questions::entry_blocks, lock_table::specs::Operation::operation_number))]
+fn entry_blocks(operation: Operation, number: u8, owner: u16, holder: u8) -> u32
+    ensures { result ≡ entry_blocks (operation_number operation) number owner holder }
 {
-    if operation == 2 {
-        return holder_blocks(number, holder);
+    match operation {
+        Operation::Exit => holder_blocks(number, holder),
+        _ => owner_blocks(number, owner, holder),
     }
-    owner_blocks(number, owner, holder)
 }
 
-#[tactic(auto, unfolding(crate::specs::Questions::blocker_of))]
-fn blocker(operation: u8, phase: u8, number: u8, owner: u16, holder: u8) -> u32
-    ensures { result ≡ blocker_of operation phase number owner holder }
+#[tactic(auto, unfolding(crate::specs::Questions::blocker_of, lock_table::specs::Phase::phase_number))]
+fn blocker(operation: Operation, phase: Phase, number: u8, owner: u16, holder: u8) -> u32
+    ensures { result ≡ blocker_of (operation_number operation) (phase_number phase) number owner holder }
 {
-    if phase == 5 {
-        return entry_blocks(operation, number, owner, holder);
+    match phase {
+        Phase::Queued(_) | Phase::Contending => entry_blocks(operation, number, owner, holder),
+        _ => 0,
     }
-    if phase == 8 {
-        return entry_blocks(operation, number, owner, holder);
-    }
-    0
 }
 
 #[tactic(auto, unfolding(crate::specs::Questions::thread_value))]
@@ -174,29 +147,23 @@ fn thread_value(
 ) -> u32
     ensures { result ≡ thread_value question number thread owner holder }
 {
-    let operation = thread.operation;
-    let phase = thread.phase;
     match question {
-        ThreadQuestion::OperationOf => operation_number(operation) as u32,
-        ThreadQuestion::ObjectOf => thread.object as u32,
-        ThreadQuestion::PhaseOf => phase_number(phase) as u32,
-        ThreadQuestion::OnwardOf => carried_number(phase) as u32,
+        ThreadQuestion::OperationOf => operation_number(thread.operation).into(),
+        ThreadQuestion::ObjectOf => thread.object.into(),
+        ThreadQuestion::PhaseOf => phase_number(thread.phase).into(),
+        ThreadQuestion::OnwardOf => carried_number(thread.phase).into(),
         ThreadQuestion::KeptOf => thread.kept,
-        ThreadQuestion::SavedOf => thread.saved as u32,
-        ThreadQuestion::TicksOf => thread.ticks as u32,
-        ThreadQuestion::NextOf => thread.next as u32,
-        ThreadQuestion::RankOf => thread.rank as u32,
-        ThreadQuestion::BlockerOf => blocker(
-            operation_number(operation),
-            phase_number(phase),
-            number,
-            owner,
-            holder,
-        ),
+        ThreadQuestion::SavedOf => thread.saved.into(),
+        ThreadQuestion::TicksOf => thread.ticks.into(),
+        ThreadQuestion::NextOf => thread.next.into(),
+        ThreadQuestion::RankOf => thread.rank.into(),
+        ThreadQuestion::BlockerOf => {
+            blocker(thread.operation, thread.phase, number, owner, holder)
+        }
     }
 }
 
-#[tactic(auto, unfolding(crate::specs::Questions::object_value))]
+#[tactic(auto, unfolding(crate::specs::Questions::object_value, table_bytes::specs::ObjectBytes::flag_byte))]
 fn object_value(question: ObjectQuestion, object: ObjectRecord, ownership: Ownership) -> u32
     ensures { result ≡ object_value question object ownership }
 {
@@ -205,85 +172,173 @@ fn object_value(question: ObjectQuestion, object: ObjectRecord, ownership: Owner
         ObjectQuestion::WordOf => object.word,
         ObjectQuestion::KindOf => kind_number(read_word(object.word)),
         ObjectQuestion::NamedOf => named_thread(read_word(object.word)),
-        ObjectQuestion::OwnerOf => ownership.thread as u32,
-        ObjectQuestion::DepthOf => ownership.depth as u32,
-        ObjectQuestion::FlagOf => flag_number(object.flag),
-        ObjectQuestion::HolderOf => monitor.holder as u32,
-        ObjectQuestion::MonitorDepthOf => monitor.depth as u32,
-        ObjectQuestion::EntryOf => monitor.entry as u32,
-        ObjectQuestion::ContentionOf => monitor.contention as u32,
-        ObjectQuestion::WaitingOf => monitor.waiting as u32,
+        ObjectQuestion::OwnerOf => ownership.thread.into(),
+        ObjectQuestion::DepthOf => ownership.depth.into(),
+        ObjectQuestion::FlagOf => object.flag.into(),
+        ObjectQuestion::HolderOf => monitor.holder.into(),
+        ObjectQuestion::MonitorDepthOf => monitor.depth.into(),
+        ObjectQuestion::EntryOf => monitor.entry.into(),
+        ObjectQuestion::ContentionOf => monitor.contention.into(),
+        ObjectQuestion::WaitingOf => monitor.waiting.into(),
     }
 }
 
-fn thread_in(question: ThreadQuestion, istable: bool, table: Table, number: u8) -> u64
-    ensures { result ≡ thread_in question istable table number }
-{
-    let thread = thread_at(table, number);
-    let object = object_at(table, thread.object);
-    let ownership = ownership_at(table, thread.object);
-    let monitor = object.monitor;
-    let inrange = ((1 <= number) & (number <= table.threadcount)) & (number <= THREADS);
-    said(
-        istable,
-        inrange,
-        Refusal::NoSuchThread,
-        thread_value(question, number, thread, ownership.thread, monitor.holder),
-    )
+// A question of a record that a table has by a number.
+trait Question: Copy {
+    ghost count: { Table → ℕ };
+
+    ghost limit: { ℕ };
+
+    ghost missing: { Refusal };
+
+    ghost value: { Self → Table → ℕ → ℕ };
+
+    // how many of the records the table says that it has, how many it has at most, and what is answered of any other
+    fn count(table: Table) -> u8
+        ensures { result ≡ count table };
+
+    fn limit() -> u8
+        ensures { result ≡ limit };
+
+    fn missing() -> Refusal
+        ensures { result ≡ missing };
+
+    fn value(self, table: Table, number: u8) -> u32
+        ensures { result ≡ value self table number };
 }
 
-fn object_in(question: ObjectQuestion, istable: bool, table: Table, number: u8) -> u64
-    ensures { result ≡ object_in question istable table number }
+impl Question for ThreadQuestion {
+    ghost use Rattle.lock_table.specs.Limits.{thread_limit};
+    ghost use Rattle.lock_rules.specs.declared.event.Refusal.TheVariants.{NoSuchThread};
+
+    ghost count = { λ table. table.threadcount };
+
+    ghost limit = { thread_limit };
+
+    ghost missing = { NoSuchThread };
+
+    ghost value = { thread_value_in };
+
+    fn count(table: Table) -> u8 {
+        table.threadcount
+    }
+
+    fn limit() -> u8 {
+        THREADS
+    }
+
+    fn missing() -> Refusal {
+        Refusal::NoSuchThread
+    }
+
+    fn value(self, table: Table, number: u8) -> u32 {
+        let thread = thread_at(table, number);
+        let owner = ownership_at(table, thread.object).thread;
+        let holder = object_at(table, thread.object).monitor.holder;
+        thread_value(self, number, thread, owner, holder)
+    }
+}
+
+impl Question for ObjectQuestion {
+    ghost use Rattle.lock_table.specs.Limits.{object_limit};
+    ghost use Rattle.lock_rules.specs.declared.event.Refusal.TheVariants.{NoSuchObject};
+
+    ghost count = { λ table. table.objectcount };
+
+    ghost limit = { object_limit };
+
+    ghost missing = { NoSuchObject };
+
+    ghost value = { object_value_in };
+
+    fn count(table: Table) -> u8 {
+        table.objectcount
+    }
+
+    fn limit() -> u8 {
+        OBJECTS
+    }
+
+    fn missing() -> Refusal {
+        Refusal::NoSuchObject
+    }
+
+    fn value(self, table: Table, number: u8) -> u32 {
+        object_value(self, object_at(table, number), ownership_at(table, number))
+    }
+}
+
+// The table that the bytes are.
+fn table_in(bytes: &[u8]) -> Result<Table, Refusal>
+    ensures { result ≡ pick (is_table bytes.now) (Ok (table_of bytes.now)) (Err NotSound) }
 {
-    let object = object_at(table, number);
-    let ownership = ownership_at(table, number);
-    let inrange = ((1 <= number) & (number <= table.objectcount)) & (number <= OBJECTS);
-    said(
-        istable,
-        inrange,
-        Refusal::NoSuchObject,
-        object_value(question, object, ownership),
-    )
+    if is_table(bytes) {
+        return Ok(read_table(bytes));
+    }
+    Err(Refusal::NotSound)
+}
+
+// One of the table's records, and of those that there are, whatever a size that is not sound says.
+fn value_in<Q: Question>(question: Q, bytes: &[u8], number: u8) -> Result<u32, Refusal>
+    ensures { result ≡ pick (is_table bytes.now) (pick (both (within 1 (Q.count (table_of bytes.now)) number) (leb number Q.limit)) (Ok (Q.value question (table_of bytes.now) number)) (Err Q.missing)) (Err NotSound) }
+{
+    let table = table_in(bytes)?;
+    if 1 <= number && number <= Q::count(table) && number <= Q::limit() {
+        return Ok(question.value(table, number));
+    }
+    Err(Q::missing())
+}
+
+// An answer: the returned number in bits 0 to 7, 0 where there is a value, and the value above.
+fn packed(answer: Result<u32, Refusal>) -> u64
+    ensures { result ≡ packed_of answer }
+{
+    match answer {
+        Ok(value) => u64::from(value) * VALUE_UNIT,
+        Err(refusal) => refusal_number(refusal).into(),
+    }
+}
+
+#[tactic(auto, using(crate::proofs::Said::said_packed))]
+fn ask<Q: Question>(question: Q, bytes: &[u8], number: u8) -> u64
+    ensures { result ≡ said_of (is_table bytes.now) (both (within 1 (Q.count (table_of bytes.now)) number) (leb number Q.limit)) Q.missing (Q.value question (table_of bytes.now) number) }
+{
+    packed(value_in(question, bytes, number))
 }
 
 // The answer of the table that the bytes say; 11 where they are none, 12 for no thread of it.
-#[tactic(auto, using(crate::proofs::Narrow::narrow_thread))]
 pub fn ask_thread(question: ThreadQuestion, bytes: &[u8], thread: u32) -> u64
     ensures { result ≡ ask_thread question bytes.now thread }
 {
-    thread_in(question, is_table(bytes), read_table(bytes), narrow(thread))
+    ask(question, bytes, narrow(thread))
 }
 
 // The same of an object, with 13.
-#[tactic(auto, using(crate::proofs::Narrow::narrow_object))]
 pub fn ask_object(question: ObjectQuestion, bytes: &[u8], object: u32) -> u64
     ensures { result ≡ ask_object question bytes.now object }
 {
-    object_in(question, is_table(bytes), read_table(bytes), narrow(object))
+    ask(question, bytes, narrow(object))
+}
+
+// How many of the records the table has.
+fn count_in<Q: Question>(bytes: &[u8]) -> Result<u32, Refusal>
+    ensures { result ≡ pick (is_table bytes.now) (Ok (Q.count (table_of bytes.now))) (Err NotSound) }
+{
+    Ok(Q::count(table_in(bytes)?).into())
 }
 
 // How many threads the table has.
+#[tactic(auto, using(crate::proofs::Said::count_packed))]
 pub fn thread_count(bytes: &[u8]) -> u64
     ensures { result ≡ thread_count bytes.now }
 {
-    let table = read_table(bytes);
-    said(
-        is_table(bytes),
-        true,
-        Refusal::NotSound,
-        table.threadcount as u32,
-    )
+    packed(count_in::<ThreadQuestion>(bytes))
 }
 
 // How many objects the table has.
+#[tactic(auto, using(crate::proofs::Said::count_packed))]
 pub fn object_count(bytes: &[u8]) -> u64
     ensures { result ≡ object_count bytes.now }
 {
-    let table = read_table(bytes);
-    said(
-        is_table(bytes),
-        true,
-        Refusal::NotSound,
-        table.objectcount as u32,
-    )
+    packed(count_in::<ObjectQuestion>(bytes))
 }
