@@ -2,7 +2,7 @@
 // document 01 is among them. The other cases are executed on the library for C, by tests in Rust (tests/tables).
 #![tactic(auto)]
 
-use lock_table::{FreshAnswer, Table};
+use lock_table::{FreshRefusal, Table};
 
 fn write_number<P: Print>(rt: &P, number: u64) {
     let _ = print!(rt; " {number}");
@@ -22,16 +22,16 @@ fn write_word<P: Print>(rt: &P, table: Table, object: u8) {
 }
 
 // The number returned; then, of a table that was made, the phases of threads 1 and 2, and the words of objects 1 and 2.
-fn write_run<P: Print>(rt: &P, answer: FreshAnswer, table: Table) {
-    write_number(rt, lock_table::fresh_returned(answer) as u64);
-    match answer {
-        FreshAnswer::Made => {
+fn write_run<P: Print>(rt: &P, made: Result<Table, FreshRefusal>) {
+    match made {
+        Ok(table) => {
+            write_number(rt, lock_table::fresh_returned(Ok(())) as u64);
             write_phase(rt, table, 1);
             write_phase(rt, table, 2);
             write_word(rt, table, 1);
             write_word(rt, table, 2);
         }
-        FreshAnswer::Refused(_) => {}
+        Err(refusal) => write_number(rt, lock_table::fresh_returned(Err(refusal)) as u64),
     }
     let _ = println!(rt; "");
 }
@@ -50,9 +50,7 @@ fn run_case<P: Print>(
         lock_table::sized_request(threads, objects, reserved),
         events,
     );
-    let answer = result.answer;
-    let table = result.table;
-    write_run(rt, answer, table);
+    write_run(rt, result);
 }
 
 // Document 01's listing, whole and cut off: its eighth event is the exit of thread 1.

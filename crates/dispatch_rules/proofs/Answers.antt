@@ -9,18 +9,19 @@ use Rattle.lock_rules.specs.Operations.{Operation}
 use Rattle.lock_rules.specs.Rules.{begun, decide, enter_look, exit_owned, wait_owned, notify_owned, notify_all_owned}
 use Rattle.lock_rules.specs.Rules.{enter_store, exit_store, cancel, go_in_again, go_in, exit_go_in, enter_check, enter_try, exit_test}
 use Rattle.lock_rules.specs.Rules.{exit_tell, exit_leave, wait_inflate, wait_give_up, wait_resume}
-use Rattle.lock_rules.specs.declared.{Limit.Limit, Doing.Doing, Sight.Sight, Action.Action}
-use Rattle.lock_rules.specs.declared.Action.TheVariants.{Unruled, Do}
+use Rattle.std.specs.Prelude.{Option, Some, None}
+use Rattle.lock_rules.specs.declared.Effect.{Effect}
+use Rattle.lock_rules.specs.declared.{Limit.Limit, Doing.Doing, Sight.Sight}
 use Rattle.lock_rules.proofs.Each.{each_doing, each_operation, Words, each_word}
 use Rattle.lock_rules.proofs.SoundEffects.{either_way}
 use Rattle.step_bounds.specs.SixSteps.{is_step}
 
 -- an action that answers with a step; `none` is what is said of 20
-abbrev pub Steps : Type 0 → Action → Type 0
-Steps none Unruled = none
-Steps none (Do effect) = is_step (returned_of effect.answer) ≡ true
+abbrev pub Steps : Type 0 → Option Effect → Type 0
+Steps none None = none
+Steps none (Some effect) = is_step (returned_of effect.answer) ≡ true
 
-either_steps : (none : Type 0) (test : Bool) (x y : Action) → Steps none x → Steps none y → Steps none (pick test x y)
+either_steps : (none : Type 0) (test : Bool) (x y : Option Effect) → Steps none x → Steps none y → Steps none (pick test x y)
 either_steps none test x y = either_way (Steps none) test
 
 module _ (thread : ℕ) (sight : Sight) where

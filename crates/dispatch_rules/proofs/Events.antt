@@ -8,21 +8,20 @@ use borrow.Author.Tests.{ne_eqb, le-leb}
 use Rattle.laws.proofs.Choice.{false≢true}
 use Rattle.laws.proofs.Update.{update_same}
 use Rattle.lock_word.specs.Read.{read_word}
-use Rattle.lock_word.specs.declared.reading.Decoded.{Decoded}
-use Rattle.lock_word.specs.declared.reading.Decoded.TheVariants.{Valid, Invalid}
+use Rattle.std.specs.Prelude.{Option, Some, None, Ok}
+use Rattle.lock_word.specs.declared.reading.LockWord.{LockWord}
 use Rattle.lock_rules.specs.Numbers.{returned_of}
 use Rattle.lock_rules.specs.Events.{returned}
 use Rattle.lock_rules.specs.Gate.{gate}
 use Rattle.lock_rules.specs.Operations.{Operation, Enter, Exit, Wait, Notify, NotifyAll, operation_limit}
 use Rattle.lock_rules.specs.Rules.{decide, begun as begun_doing}
 use Rattle.lock_rules.specs.declared.Limit.TheVariants.{Unlimited}
-use Rattle.lock_rules.specs.declared.{Doing.Doing, ThreadState.ThreadState, Action.Action}
+use Rattle.lock_rules.specs.declared.Effect.{Effect}
+use Rattle.lock_rules.specs.declared.{Doing.Doing, ThreadState.ThreadState}
 use Rattle.lock_rules.specs.declared.ThreadState.TheVariants.{Running}
-use Rattle.lock_rules.specs.declared.Action.TheVariants.{Unruled, Do}
 use Rattle.lock_rules.specs.declared.event.Event.{Event}
 use Rattle.lock_rules.specs.declared.event.Event.TheVariants.{Begin, Step}
 use Rattle.lock_rules.specs.declared.event.ThreadStatus.TheVariants.{Idle}
-use Rattle.lock_rules.specs.declared.event.Gate.TheVariants.{Open}
 use Rattle.lock_rules.proofs.Objects.{ListObject, sight_of}
 use Rattle.lock_rules.proofs.Perform.{perform}
 use Rattle.lock_rules.proofs.RunQueue.{own_step}
@@ -56,22 +55,22 @@ use Rattle.dispatch_rules.specs.Script.{script_operations}
 use Rattle.dispatch_rules.proofs.Answers.{Steps, decide_steps, look_steps}
 
 -- an action that has a rule answers with a step
-ruled_steps : (thread : ℕ) (states : ℕ → ThreadState) (o : ListObject) (action : Action) → Steps ⊥ action → is_step (returned_of (perform thread states o action).answer) ≡ true
-ruled_steps thread states o Unruled never = absurd never
-ruled_steps thread states o (Do effect) steps = steps
+ruled_steps : (thread : ℕ) (states : ℕ → ThreadState) (o : ListObject) (action : Option Effect) → Steps ⊥ action → is_step (returned_of (perform thread states o action).answer) ≡ true
+ruled_steps thread states o None never = absurd never
+ruled_steps thread states o (Some effect) steps = steps
 
 module _ (t : Table) where
   -- what is no step leaves the table
   abbrev Leaves : TurnOf Table → Type 0
   Leaves result = is_step (returned result.reply) ≡ false → result.table ≡ t
 
-  acts_leave : (n number : ℕ) (object : ObjectRecord) (action : Action) → Steps Unit action → Leaves (step_acts t n number object action)
-  acts_leave n number object Unruled steps none = refl
-  acts_leave n number object (Do effect) steps none = false≢true (sym none ∙ steps)
+  acts_leave : (n number : ℕ) (object : ObjectRecord) (action : Option Effect) → Steps Unit action → Leaves (step_acts t n number object action)
+  acts_leave n number object None steps none = refl
+  acts_leave n number object (Some effect) steps none = false≢true (sym none ∙ steps)
 
-  reads_leave : (n number : ℕ) (object : ObjectRecord) (doing : Doing) (word : Decoded) → Leaves (step_reads t n number object doing word)
-  reads_leave n number object doing Invalid = λ none. refl
-  reads_leave n number object doing (Valid word) = acts_leave n number object (decide n (sight_at t object word) doing) (decide_steps n (sight_at t object word) doing)
+  reads_leave : (n number : ℕ) (object : ObjectRecord) (doing : Doing) (word : Option LockWord) → Leaves (step_reads t n number object doing word)
+  reads_leave n number object doing None = λ none. refl
+  reads_leave n number object doing (Some word) = acts_leave n number object (decide n (sight_at t object word) doing) (decide_steps n (sight_at t object word) doing)
 
   pub no_step_leaves : sound_of t ≡ true → (event : Event) → is_step (reply_returned (handle t event).reply) ≡ false → (handle t event).table ≡ t
   no_step_leaves sound event none =
@@ -130,7 +129,7 @@ module _ (t : Table) (typed : WellTyped t) (sound : sound_of t ≡ true) (n oper
   own = begun (thread_at t n) (operation_from operation) object 0
 
   -- nothing refuses it; its limit is not looked at
-  begin_open : gate true t.threadcount t.objectcount event Idle ≡ Open
+  begin_open : gate true t.threadcount t.objectcount event Idle ≡ (Ok tt)
   begin_open =
       let (low, high) = may.operations in
       rw (

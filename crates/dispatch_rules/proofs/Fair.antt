@@ -11,7 +11,7 @@ use Rattle.lock_rules.specs.declared.event.{Event.Event, ThreadStatus.ThreadStat
 use Rattle.lock_rules.specs.declared.event.Event.TheVariants.{Step}
 use Rattle.lock_rules.specs.declared.event.ThreadStatus.TheVariants.{Idle, Ready, Parked}
 use Rattle.lock_table.specs.WellTyped.{WellTyped}
-use Rattle.lock_table.specs.Fresh.{InRange, fresh_of}
+use Rattle.lock_table.specs.Fresh.{InRange, table_of}
 use Rattle.lock_table.specs.declared.fresh_table.FreshRequest.{FreshRequest}
 use Rattle.lock_table.specs.declared.record.Table.{Table}
 use Rattle.lock_engine.specs.Outcome.{reply_returned}
@@ -58,7 +58,7 @@ Alike n w after = (status_at after.table n ≡ status_at w.table n) × (cursor_a
 module _ (scripts : List ℕ) (request : FreshRequest) (in_range : InRange request) (threads objects : ℕ) where
   -- a good world whose table a schedule makes from a fresh one
   abbrev Reached : Scripted → Type 0
-  Reached w = Good scripts threads objects w × ((events : List Event) × (w.table ≡ final_of (fresh_of request).table events))
+  Reached w = Good scripts threads objects w × ((events : List Event) × (w.table ≡ final_of (table_of request) events))
 
   reached_ending : Ending threads (attempt scripts) Reached (size threads)
   reached_ending =
@@ -69,7 +69,7 @@ module _ (scripts : List ℕ) (request : FreshRequest) (in_range : InRange reque
           (
             events ++ tried_events scripts u w,
             attempt_schedule scripts u w
-                ∙ (ap (λ (table : Table). final_of table (tried_events scripts u w)) from ∙ sym (final_append (fresh_of request).table events (tried_events scripts u w))),
+                ∙ (ap (λ (table : Table). final_of table (tried_events scripts u w)) from ∙ sym (final_append (table_of request) events (tried_events scripts u w))),
           ),
         );
         same = λ u is w (good, from). every.same u is w good;
@@ -120,7 +120,7 @@ module _ (scripts : List ℕ) (request : FreshRequest) (in_range : InRange reque
 -- a run from a table that a schedule makes from a fresh one
 module _ (request : FreshRequest) (in_range : InRange request) (before : List Event) (given : RunInput) where
   abbrev table : Table
-  table = final_of (fresh_of request).table before
+  table = final_of (table_of request) before
 
   abbrev start : Scripted
   start = given_world given table

@@ -8,7 +8,7 @@ use Rattle.laws.proofs.Choice.{split}
 use Rattle.lock_rules.specs.declared.event.Event.{Event}
 use Rattle.lock_rules.specs.declared.event.Event.TheVariants.{Step as StepOf}
 use Rattle.lock_table.specs.WellTyped.{WellTyped}
-use Rattle.lock_table.specs.Fresh.{fresh_of}
+use Rattle.lock_table.specs.Fresh.{table_of}
 use Rattle.lock_table.specs.declared.record.Table.{Table}
 use Rattle.lock_engine.specs.Handle.{handle}
 use Rattle.lock_schedule.specs.Schedule.{final_of}
@@ -70,7 +70,7 @@ runs_are_schedules given table typed accepted =
 
 pub runs_claim : RunsClaim
 runs_claim request in_range before given accepted =
-    let first = (fresh_of request).table in
+    let first = table_of request in
     let table = final_of first before in
     let events = events_of (given_run given table).steps in (
       subst (Claim first (before ++ events))

@@ -4,7 +4,7 @@ use Rattle.lock_rules.specs.declared.event.Event.{Event}
 use Rattle.lock_rules.specs.declared.event.Event.TheVariants.{Step as StepOf}
 use Rattle.lock_table.specs.Limits.{thread_limit}
 use Rattle.lock_table.specs.WellTyped.{WellTyped}
-use Rattle.lock_table.specs.Fresh.{InRange, fresh_of}
+use Rattle.lock_table.specs.Fresh.{InRange, table_of}
 use Rattle.lock_table.specs.declared.fresh_table.FreshRequest.{FreshRequest}
 use Rattle.lock_table.specs.declared.record.Table.{Table}
 use Rattle.step_bounds.specs.SixSteps.{steps_taken, step_limit}
@@ -54,14 +54,14 @@ RunsEnd =
 abbrev pub RunsFair : Type 0
 RunsFair =
     (request : FreshRequest) → InRange request → (before : List Event) (given : RunInput)
-    → let table = final_of (fresh_of request).table before in
+    → let table = final_of (table_of request) before in
     Accepted given table → Fair ready_in given.quantum request.threads (given_world given table) (given_run given table).steps
 
 -- at the end nobody unparked has work left
 abbrev pub NobodyLeft : Type 0
 NobodyLeft =
     (request : FreshRequest) → InRange request → (before : List Event) (given : RunInput)
-    → let table = final_of (fresh_of request).table before in
+    → let table = final_of (table_of request) before in
     Accepted given table → (n : ℕ) → 1 ≤ n → n ≤ request.threads → ready_in n (given_run given table).world ≡ false
 
 -- the events of a run: each step, with the begin before it where there was one
@@ -79,7 +79,7 @@ RunsAreSchedules =
 abbrev pub RunsClaim : Type 0
 RunsClaim =
     (request : FreshRequest) → InRange request → (before : List Event) (given : RunInput)
-    → let first = (fresh_of request).table in
+    → let first = table_of request in
     let table = final_of first before in
     Accepted given table
     → let events = before ++ events_of (given_run given table).steps in

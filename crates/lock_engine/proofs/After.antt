@@ -9,15 +9,15 @@ use Rattle.laws.proofs.Choice.{by_test, both_first, false≢true}
 use Rattle.laws.proofs.Update.{update_same}
 use Rattle.lock_rules.specs.Numbers.{first_refusal}
 use Rattle.lock_rules.specs.Gate.{event_thread}
-use Rattle.lock_rules.specs.declared.event.{Event.Event, Gate.Gate}
+use Rattle.lock_rules.specs.declared.event.Refusal.{Refusal}
+use Rattle.lock_rules.specs.declared.event.{Event.Event}
 use Rattle.lock_rules.specs.declared.event.Event.TheVariants.{Begin, Step, Tick}
 use Rattle.lock_rules.specs.declared.event.Refusal.TheVariants.{NotSound}
-use Rattle.lock_rules.specs.declared.event.Gate.TheVariants.{Open, Shut}
-use Rattle.lock_word.specs.declared.reading.Decoded.{Decoded}
-use Rattle.lock_word.specs.declared.reading.Decoded.TheVariants.{Valid, Invalid}
-use Rattle.lock_rules.specs.declared.{ChainWork.ChainWork, Action.Action, Doing.Doing, ThreadState.ThreadState}
+use Rattle.std.specs.Prelude.{Option, Some, None, Result, Ok, Err}
+use Rattle.lock_word.specs.declared.reading.LockWord.{LockWord}
+use Rattle.lock_rules.specs.declared.Effect.{Effect}
+use Rattle.lock_rules.specs.declared.{ChainWork.ChainWork, Doing.Doing, ThreadState.ThreadState}
 use Rattle.lock_rules.specs.declared.ChainWork.TheVariants.{Stay}
-use Rattle.lock_rules.specs.declared.Action.TheVariants.{Unruled, Do}
 use Rattle.lock_rules.specs.declared.ThreadState.TheVariants.{Idle, Running, Queued, Contending, Waiting}
 use Rattle.lock_rules.proofs.Gating.{Passed, by_gate}
 use Rattle.lock_table.specs.Limits.{thread_limit, object_limit}
@@ -65,16 +65,16 @@ is_tick Tick = true
 abbrev OnChains : Turn → Type 0
 OnChains turn = (work : ChainWork) × (turn.work ≡ Chains work)
 
-action_on_chains : (n : ℕ) (own : ThreadRecord) (object : ObjectRecord) (action : Action) → OnChains (action_turn n own object action)
+action_on_chains : (n : ℕ) (own : ThreadRecord) (object : ObjectRecord) (action : Option Effect) → OnChains (action_turn n own object action)
 unfolding action_turn
-action_on_chains n own object Unruled = (Stay, refl)
-action_on_chains n own object (Do effect) = (effect.work, refl)
+action_on_chains n own object None = (Stay, refl)
+action_on_chains n own object (Some effect) = (effect.work, refl)
 
-word_on_chains : (n : ℕ) (own : ThreadRecord) (object : ObjectRecord) (waiters : ℕ) (doing : Doing) (word : Decoded)
+word_on_chains : (n : ℕ) (own : ThreadRecord) (object : ObjectRecord) (waiters : ℕ) (doing : Doing) (word : Option LockWord)
     → OnChains (word_turn n own object waiters doing word)
 unfolding word_turn
-word_on_chains n own object waiters doing Invalid = (Stay, refl)
-word_on_chains n own object waiters doing (Valid word) = action_on_chains n own object _
+word_on_chains n own object waiters doing None = (Stay, refl)
+word_on_chains n own object waiters doing (Some word) = action_on_chains n own object _
 
 state_on_chains : (n : ℕ) (own : ThreadRecord) (object : ObjectRecord) (waiters : ℕ) (state : ThreadState)
     → OnChains (state_turn n own object waiters state)
@@ -85,14 +85,14 @@ state_on_chains n own object waiters (Queued carried) = (Stay, refl)
 state_on_chains n own object waiters Contending = (Stay, refl)
 state_on_chains n own object waiters (Waiting suspension) = (Stay, refl)
 
-on_chains : (gated : Gate) (event : Event) (own : ThreadRecord) (object : ObjectRecord) (waiters : ℕ) → is_tick event ≡ false
+on_chains : (gated : Result (Unit {0}) Refusal) (event : Event) (own : ThreadRecord) (object : ObjectRecord) (waiters : ℕ) → is_tick event ≡ false
     → OnChains (gate_turn gated event own object waiters)
 unfolding gate_turn open_turn step_turn
-on_chains Open (Begin operation thread number limit) own object waiters other = (Stay, refl)
-on_chains Open (Step thread) own object waiters other =
+on_chains (Ok _) (Begin operation thread number limit) own object waiters other = (Stay, refl)
+on_chains (Ok _) (Step thread) own object waiters other =
     by_test OnChains (within 1 object_limit own.object) (λ inside. state_on_chains thread own object waiters (read_thread own)) (λ outside. (Stay, refl))
-on_chains Open Tick own object waiters other = false≢true (sym other)
-on_chains (Shut refusal) event own object waiters other = (Stay, refl)
+on_chains (Ok _) Tick own object waiters other = false≢true (sym other)
+on_chains (Err refusal) event own object waiters other = (Stay, refl)
 
 worked_leaves : (t : Table) → Full t → (n o : ℕ) (turn : Turn) (work : ChainWork) → Has thread_limit n → Has object_limit o
     → Leaves n o turn.own turn.object (work_done (Chains work) t n o turn.own turn.object).table
@@ -133,13 +133,13 @@ module _ (t : Table) (event : Event) (issound : Bool) (known : issound ≡ sound
   unfolding reply_returned
   refused_here lacks =
       by_gate (trusted t issound) t.threadcount t.objectcount
-      (λ (gated : Gate). reply_returned (parts_of gated event (own_in_place t event issound)).reply < first_refusal → ⊥)
+      (λ (gated : Result (Unit {0}) Refusal). reply_returned (parts_of gated event (own_in_place t event issound)).reply < first_refusal → ⊥)
       (λ unsound low. omega (arith, (of_gate NotSound).high, low)) (λ refusal is high low. omega (arith, (of_gate refusal).high, low)) event
       (thread_status (own_in_place t event issound).phase) (λ is passed. at event (sym known ∙ both_first issound _ is) passed lacks)
     where
       at : (event : Event) → sound_of t ≡ true → Passed t.threadcount t.objectcount event (thread_status (own_in_place t event issound).phase)
           → Lacks object_limit (number_in_place t event issound)
-          → reply_returned (parts_of Open event (own_in_place t event issound)).reply < first_refusal → ⊥
+          → reply_returned (parts_of (Ok tt) event (own_in_place t event issound)).reply < first_refusal → ⊥
       at (Begin operation thread object limit) sound (low, high, known, real, small, idle, fits) (inl none) accepted = omega (arith, real, none)
       at (Begin operation thread object limit) sound (low, high, known, real, small, idle, fits) (inr past) accepted =
           let few = (sizes t sound).1 in omega (arith, small, few, past)

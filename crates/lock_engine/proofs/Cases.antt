@@ -8,7 +8,7 @@ use Rattle.lock_word.specs.Cases.{Case, AllHold, word_cases}
 use Rattle.lock_word.proofs.Cases.{word_cases_hold}
 use Rattle.lock_rules.specs.Rules.{decide, enter_look, exit_owned, go_in, go_in_again}
 use Rattle.lock_table.specs.Access.{thread_at, set_thread, object_at, set_object}
-use Rattle.lock_table.specs.Fresh.{thread_given, object_given, in_range, ranks_fit, fresh_answer, met_request, fresh_of, refusal_returned, fresh_returned, first_word}
+use Rattle.lock_table.specs.Fresh.{thread_given, object_given, in_range, ranks_fit, fresh_answer, made_by, fresh_of, refusal_returned, fresh_returned, first_word}
 use Rattle.lock_table.specs.Operation.{operation_number}
 use Rattle.lock_table.specs.Phase.{phase_number, carried_number}
 use Rattle.lock_table.specs.Parked.{chain_named, first_in}
@@ -30,7 +30,7 @@ both_hold (row ∷ rows) more p q = (p.0, both_hold rows more p.1 q)
 
 engine_cases_hold : AllHold engine_cases
 unfolding all_up_to members chain_test read_word read_flat read_reserved fat_of decide enter_look exit_owned go_in go_in_again thread_at set_thread object_at
-    set_object thread_given object_given in_range ranks_fit fresh_answer met_request fresh_of tabulate refusal_returned fresh_returned first_word operation_number phase_number carried_number state_by look_of go_in_of write_activity doing_activity seen_word
+    set_object thread_given object_given in_range ranks_fit fresh_answer made_by fresh_of tabulate refusal_returned fresh_returned first_word operation_number phase_number carried_number state_by look_of go_in_of write_activity doing_activity seen_word
     word_after sizes_fit word_fits uses_phase carries_phase operation_fits kept_fits saves_depth saved_fits unheld_fits ticks_fit chain_named first_in found_in
     names_chain falls_behind empty_thread empty_monitor empty_object unused_fits sound_of reply_returned thread_status action_turn word_turn state_turn step_turn open_turn gate_turn
     handle_trusting handle stays work_stays

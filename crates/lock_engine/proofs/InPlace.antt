@@ -13,10 +13,10 @@ use Rattle.laws.specs.Choice.{pick, both, within}
 use Rattle.laws.proofs.Choice.{split, both_second}
 use Rattle.chains.specs.Chain.{chain_length}
 use Rattle.lock_rules.specs.Gate.{gate, event_thread, event_object}
-use Rattle.lock_rules.specs.declared.event.{Event.Event, ThreadStatus.ThreadStatus, Refusal.Refusal, Gate.Gate}
+use Rattle.std.specs.Prelude.{Result, Ok, Err}
+use Rattle.lock_rules.specs.declared.event.{Event.Event, ThreadStatus.ThreadStatus, Refusal.Refusal}
 use Rattle.lock_rules.specs.declared.event.Event.TheVariants.{Begin, Step, Tick}
 use Rattle.lock_rules.specs.declared.event.Refusal.TheVariants.{NotSound, NoSuchThread}
-use Rattle.lock_rules.specs.declared.event.Gate.TheVariants.{Open, Shut}
 use Rattle.lock_rules.specs.declared.ChainWork.TheVariants.{Stay}
 use Rattle.lock_table.specs.Limits.{thread_limit, object_limit}
 use Rattle.lock_table.specs.Record.{no_thread, no_object}
@@ -79,26 +79,26 @@ abbrev pub kept_turn : Parts → ObjectRecord → Turn
 kept_turn parts object = record { own = parts.own; object = object; work = Chains Stay; reply = parts.reply; commits = false }
 
 -- a tick is about the first object, which has a record: its row is never met
-abbrev pub parts_of : Gate → Event → ThreadRecord → Parts
-parts_of Open (Begin operation thread number limit) own =
+abbrev pub parts_of : Result (Unit {0}) Refusal → Event → ThreadRecord → Parts
+parts_of (Ok _) (Begin operation thread number limit) own =
     record { own = begun own (operation_from operation) number limit; reply = Accepted }
-parts_of Open (Step thread) own = record { own = own; reply = Refused NotSound }
-parts_of Open Tick own = record { own = own; reply = Accepted }
-parts_of (Shut refusal) event own = record { own = own; reply = Refused refusal }
+parts_of (Ok _) (Step thread) own = record { own = own; reply = Refused NotSound }
+parts_of (Ok _) Tick own = record { own = own; reply = Accepted }
+parts_of (Err refusal) event own = record { own = own; reply = Refused refusal }
 
-pub keeps_object : (gate : Gate) (event : Event) (own : ThreadRecord) (object : ObjectRecord) (waiters : ℕ)
+pub keeps_object : (gate : Result (Unit {0}) Refusal) (event : Event) (own : ThreadRecord) (object : ObjectRecord) (waiters : ℕ)
     → Lacks object_limit (event_object event own.object) → gate_turn gate event own object waiters ≡ kept_turn (parts_of gate event own) object
 unfolding gate_turn open_turn step_turn
-keeps_object Open (Begin operation thread number limit) own object waiters lacks = refl
-keeps_object Open (Step thread) own object waiters lacks = rw (lacks_within object_limit object_limit own.object (omega arith) lacks) refl
-keeps_object Open Tick own object waiters lacks = absurd (first_there object_limit (omega arith) lacks)
-keeps_object (Shut refusal) (Begin operation thread number limit) own object waiters lacks = refl
-keeps_object (Shut refusal) (Step thread) own object waiters lacks = refl
-keeps_object (Shut refusal) Tick own object waiters lacks = refl
+keeps_object (Ok _) (Begin operation thread number limit) own object waiters lacks = refl
+keeps_object (Ok _) (Step thread) own object waiters lacks = rw (lacks_within object_limit object_limit own.object (omega arith) lacks) refl
+keeps_object (Ok _) Tick own object waiters lacks = absurd (first_there object_limit (omega arith) lacks)
+keeps_object (Err refusal) (Begin operation thread number limit) own object waiters lacks = refl
+keeps_object (Err refusal) (Step thread) own object waiters lacks = refl
+keeps_object (Err refusal) Tick own object waiters lacks = refl
 
 -- an event of a thread that has no record is refused, whatever is read in its place
 pub shut_thread : (issound : Bool) (threads objects : ℕ) (event : Event) → Lacks thread_limit (event_thread event)
-    → (refusal : Refusal) × ((status : ThreadStatus) → gate (both issound (leb threads thread_limit)) threads objects event status ≡ Shut refusal)
+    → (refusal : Refusal) × ((status : ThreadStatus) → gate (both issound (leb threads thread_limit)) threads objects event status ≡ Err refusal)
 shut_thread issound threads objects event lacks =
     split (both issound (leb threads thread_limit)) (λ is. (NoSuchThread, λ status. at event lacks (below_limit is) is status))
     (λ is. (NotSound, λ status. unsound event is status))
@@ -107,13 +107,13 @@ shut_thread issound threads objects event lacks =
     below_limit is = lacks_within thread_limit threads (event_thread event) (leb-true threads thread_limit (both_second issound _ is)) lacks
 
     at : (event : Event) → Lacks thread_limit (event_thread event) → within 1 threads (event_thread event) ≡ false → both issound (leb threads thread_limit) ≡ true → (status : ThreadStatus)
-        → gate (both issound (leb threads thread_limit)) threads objects event status ≡ Shut NoSuchThread
+        → gate (both issound (leb threads thread_limit)) threads objects event status ≡ Err NoSuchThread
     at (Begin operation thread object limit) lacks out is status = rw (is, out) refl
     at (Step thread) lacks out is status = rw (is, out) refl
     at Tick lacks out is status = absurd (first_there thread_limit (omega arith) lacks)
 
     unsound : (event : Event) → both issound (leb threads thread_limit) ≡ false → (status : ThreadStatus)
-        → gate (both issound (leb threads thread_limit)) threads objects event status ≡ Shut NotSound
+        → gate (both issound (leb threads thread_limit)) threads objects event status ≡ Err NotSound
     unsound event is status = rw is refl
 
 module _ (t : Table) (event : Event) (issound : Bool) where
@@ -146,7 +146,7 @@ module _ (t : Table) (event : Event) (issound : Bool) where
   pub object_here : Has object_limit number_in_place → object_at t number_in_place ≡ object_in_place
   object_here (real, small) = object_in t number_in_place real small ∙ rw (place_has object_limit number_in_place (real, small)) refl
 
-  abbrev pub gate_here : Gate
+  abbrev pub gate_here : Result (Unit {0}) Refusal
   gate_here = gate (trusted t issound) t.threadcount t.objectcount event (thread_status own_in_place.phase)
 
   abbrev pub turn_here : Turn

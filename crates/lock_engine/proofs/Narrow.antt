@@ -14,7 +14,7 @@ use Rattle.lock_rules.specs.Operations.{operation_limit}
 use Rattle.lock_rules.specs.declared.event.{Event.Event, ThreadStatus.ThreadStatus, Refusal.Refusal}
 use Rattle.lock_rules.specs.declared.event.Event.TheVariants.{Begin, Step}
 use Rattle.lock_rules.specs.declared.event.Refusal.TheVariants.{NotSound, NoSuchThread, NoSuchOperation, NoSuchObject}
-use Rattle.lock_rules.specs.declared.event.Gate.TheVariants.{Shut}
+use Rattle.std.specs.Prelude.{Err}
 use Rattle.lock_table.specs.Limits.{thread_limit, object_limit}
 use Rattle.lock_table.specs.Narrow.{narrow_of}
 use Rattle.lock_table.specs.declared.record.Table.{Table}
@@ -49,22 +49,22 @@ abbrev rows_from : Bool → List GateRow → List GateRow
 rows_from sound rows = refuses NotSound (not sound) ∷ rows
 
 begin_no_thread : (sound operation object limit : Bool) (status : ThreadStatus)
-    → first_refusing (rows_from sound (begin_rows false operation object limit status)) ≡ Shut (no_thread sound)
+    → first_refusing (rows_from sound (begin_rows false operation object limit status)) ≡ Err (no_thread sound)
 begin_no_thread true operation object limit status = refl
 begin_no_thread false operation object limit status = refl
 
-step_no_thread : (sound : Bool) (status : ThreadStatus) → first_refusing (rows_from sound (step_rows false status)) ≡ Shut (no_thread sound)
+step_no_thread : (sound : Bool) (status : ThreadStatus) → first_refusing (rows_from sound (step_rows false status)) ≡ Err (no_thread sound)
 step_no_thread true status = refl
 step_no_thread false status = refl
 
 begin_no_operation : (sound thread object limit : Bool) (status : ThreadStatus)
-    → first_refusing (rows_from sound (begin_rows thread false object limit status)) ≡ Shut (no_operation sound thread)
+    → first_refusing (rows_from sound (begin_rows thread false object limit status)) ≡ Err (no_operation sound thread)
 begin_no_operation true true object limit status = refl
 begin_no_operation true false object limit status = refl
 begin_no_operation false thread object limit status = refl
 
 begin_no_object : (sound thread operation limit : Bool) (status : ThreadStatus)
-    → first_refusing (rows_from sound (begin_rows thread operation false limit status)) ≡ Shut (no_object sound thread operation)
+    → first_refusing (rows_from sound (begin_rows thread operation false limit status)) ≡ Err (no_object sound thread operation)
 begin_no_object true true true limit status = refl
 begin_no_object true true false limit status = refl
 begin_no_object true false operation limit status = refl
@@ -82,8 +82,8 @@ module _ (table : Table) where
 
   -- two events that are refused alike, if the table is sound at all
   alike : (refusal : Refusal) (one other : Event)
-      → ((status : ThreadStatus) → gate sound threads objects one status ≡ Shut refusal)
-      → ((status : ThreadStatus) → gate sound threads objects other status ≡ Shut refusal) → handle table one ≡ handle table other
+      → ((status : ThreadStatus) → gate sound threads objects one status ≡ Err refusal)
+      → ((status : ThreadStatus) → gate sound threads objects other status ≡ Err refusal) → handle table one ≡ handle table other
   unfolding handle
   alike refusal one other shut_one shut_other =
       handle_shut table one (sound_of table) refusal (shut_one _) ∙ sym (handle_shut table other (sound_of table) refusal (shut_other _))
@@ -92,7 +92,7 @@ module _ (table : Table) where
   unsound : (one other : Event) → sound_of table ≡ false → handle table one ≡ handle table other
   unsound one other is = alike NotSound one other (shut one) (shut other)
     where
-      shut : (event : Event) (status : ThreadStatus) → gate sound threads objects event status ≡ Shut NotSound
+      shut : (event : Event) (status : ThreadStatus) → gate sound threads objects event status ≡ Err NotSound
       shut event status = rw is refl
 
   tested : (one other : Event) → (sound_of table ≡ true → handle table one ≡ handle table other) → handle table one ≡ handle table other

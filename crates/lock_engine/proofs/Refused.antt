@@ -4,7 +4,7 @@ use mathlib.Core.Path.{◌≡◌, refl}
 use mathlib.Core.Bool.{Bool, false}
 use Rattle.lock_rules.specs.Gate.{gate, event_thread, event_object}
 use Rattle.lock_rules.specs.declared.event.{Event.Event, Refusal.Refusal}
-use Rattle.lock_rules.specs.declared.event.Gate.TheVariants.{Shut}
+use Rattle.std.specs.Prelude.{Err}
 use Rattle.lock_table.specs.Access.{thread_at, object_at}
 use Rattle.lock_table.specs.declared.record.Table.{Table}
 use Rattle.lock_table.proofs.Records.{thread_unchanged, object_unchanged}
@@ -26,7 +26,7 @@ refused_stays t n o refusal = rw (thread_unchanged t n, object_unchanged t o) re
 
 module _ (t : Table) (event : Event) (issound : Bool) where
   pub handle_shut : (refusal : Refusal)
-      → gate (trusted t issound) t.threadcount t.objectcount event (thread_status (thread_at t (event_thread event)).phase) ≡ Shut refusal
+      → gate (trusted t issound) t.threadcount t.objectcount event (thread_status (thread_at t (event_thread event)).phase) ≡ Err refusal
       → handle_trusting t event issound ≡ refusing t refusal
   unfolding handle_trusting gate_turn
   handle_shut refusal shut =

@@ -6,7 +6,7 @@ use Rattle.lock_rules.specs.declared.Doing.{Doing}
 use Rattle.lock_rules.specs.declared.ThreadState.TheVariants.{Running}
 use Rattle.lock_table.specs.Record.{no_monitor, with_word, with_monitor}
 use Rattle.lock_table.specs.Access.{thread_at, set_thread, object_at, set_object}
-use Rattle.lock_table.specs.Fresh.{sized_request, fresh_of, fresh_returned}
+use Rattle.lock_table.specs.Fresh.{sized_request, table_of, fresh_of, fresh_returned}
 use Rattle.lock_table.specs.Phase.{phase_number}
 use Rattle.lock_table.specs.declared.record.Monitor.{Monitor}
 use Rattle.lock_table.specs.declared.record.Table.{Table}
@@ -17,7 +17,7 @@ use Rattle.lock_engine.specs.Handle.{step}
 -- three threads and one object with this word and monitor; thread 3 is at it, doing this
 abbrev pub case_table : ℕ → Monitor → Doing → Table
 case_table word monitor doing =
-    let fresh = (fresh_of (sized_request 3 1 false)).table in
+    let fresh = (table_of (sized_request 3 1 false)) in
     set_object (set_thread fresh 3 (write_thread 3 1 (Running doing) (thread_at fresh 3))) 1 (with_monitor (with_word (object_at fresh 1) word) monitor)
 
 -- the step of thread 3 returns this number and leaves the thread in this phase and the object with this word and depth
@@ -37,8 +37,8 @@ abbrev pub engine_cases : List Case
 engine_cases =
     record { number = 5; states = Steps (case_table 0x0003fc no_monitor EnterLook) 0 4 0x0003fc 0 }
     ∷ record { number = 5; states = Steps (case_table 0x0003f8 no_monitor EnterLook) 1 0 0x0003fc 0 }
-    ∷ record { number = 7; states = fresh_returned (fresh_of (sized_request 32 1 false)).answer ≡ 0 }
-    ∷ record { number = 7; states = fresh_returned (fresh_of (sized_request 33 1 false)).answer ≡ 22 }
+    ∷ record { number = 7; states = fresh_returned (fresh_of (sized_request 32 1 false)) ≡ 0 }
+    ∷ record { number = 7; states = fresh_returned (fresh_of (sized_request 33 1 false)) ≡ 22 }
     ∷ record { number = 8; states = Steps (case_table 0x000002 no_monitor ExitLook) 18 0 0x000002 0 }
     ∷ record { number = 9; states = Steps (case_table 0x000101 (held 65534) EnterGoIn) 1 0 0x000101 65535 }
     ∷ record { number = 9; states = Steps (case_table 0x000101 (held 65535) EnterGoIn) 19 0 0x000101 65535 }

@@ -1,27 +1,22 @@
 -- An event on the records that it touches: its thread's and that of the object it is about. No table is looked at.
-use Rattle.std.specs.Prelude.{ℕ, Bool, false, ltb}
+use Rattle.std.specs.Prelude.{ℕ, Bool, false, ltb, Option, Some, None, Result, Ok, Err}
 use Rattle.laws.specs.Choice.{pick, within}
 use Rattle.lock_word.specs.Ticks.{tick_limit}
 use Rattle.lock_word.specs.Read.{read_word}
 use Rattle.lock_word.specs.Meaning.{seen_word}
-use Rattle.lock_word.specs.declared.reading.Decoded.{Decoded}
-use Rattle.lock_word.specs.declared.reading.Decoded.TheVariants.{Valid, Invalid}
+use Rattle.lock_word.specs.declared.reading.LockWord.{LockWord}
 use Rattle.lock_rules.specs.Gate.{gate}
 use Rattle.lock_rules.specs.Rules.{decide}
 use Rattle.lock_rules.specs.declared.event.Event.{Event}
 use Rattle.lock_rules.specs.declared.event.Event.TheVariants.{Begin, Step, Tick as TickEvent}
 use Rattle.lock_rules.specs.declared.event.Refusal.{Refusal}
 use Rattle.lock_rules.specs.declared.event.Refusal.TheVariants.{NotSound}
-use Rattle.lock_rules.specs.declared.event.Gate.{Gate}
-use Rattle.lock_rules.specs.declared.event.Gate.TheVariants.{Open, Shut}
 use Rattle.lock_rules.specs.declared.Doing.{Doing}
 use Rattle.lock_rules.specs.declared.ThreadState.{ThreadState}
 use Rattle.lock_rules.specs.declared.ThreadState.TheVariants.{Idle, Running, Queued, Contending, Waiting}
 use Rattle.lock_rules.specs.declared.ChainWork.TheVariants.{Stay}
 use Rattle.lock_rules.specs.declared.Answer.TheVariants.{NoRule}
 use Rattle.lock_rules.specs.declared.Effect.{Effect}
-use Rattle.lock_rules.specs.declared.Action.{Action}
-use Rattle.lock_rules.specs.declared.Action.TheVariants.{Unruled, Do}
 use Rattle.lock_table.specs.Limits.{object_limit}
 use Rattle.lock_table.specs.Record.{with_activity}
 use Rattle.lock_table.specs.Operation.{operation_from}
@@ -78,14 +73,14 @@ effect_turn thread own object effect =
     }
 
 -- 20 leaves both records
-unfoldable pub action_turn : ℕ → ThreadRecord → ObjectRecord → Action → Turn
-action_turn thread own object Unruled = record { own = own; object = object; work = Chains Stay; reply = Answered NoRule; commits = false }
-action_turn thread own object (Do effect) = effect_turn thread own object effect
+unfoldable pub action_turn : ℕ → ThreadRecord → ObjectRecord → Option Effect → Turn
+action_turn thread own object None = record { own = own; object = object; work = Chains Stay; reply = Answered NoRule; commits = false }
+action_turn thread own object (Some effect) = effect_turn thread own object effect
 
 -- a sound table has no other word than a valid one
-unfoldable pub word_turn : ℕ → ThreadRecord → ObjectRecord → ℕ → Doing → Decoded → Turn
-word_turn thread own object waiters doing Invalid = refused own object NotSound
-word_turn thread own object waiters doing (Valid word) =
+unfoldable pub word_turn : ℕ → ThreadRecord → ObjectRecord → ℕ → Doing → Option LockWord → Turn
+word_turn thread own object waiters doing None = refused own object NotSound
+word_turn thread own object waiters doing (Some word) =
     action_turn thread own object (decide thread (sight_with object (seen_word word) waiters) doing)
 
 -- a thread of a sound table that is ready is at a step of its operation
@@ -106,9 +101,9 @@ open_turn (Begin operation thread number limit) own object waiters = begin_turn 
 open_turn (Step thread) own object waiters = step_turn thread own object waiters
 open_turn TickEvent own object waiters = tick_turn own object
 
-unfoldable pub gate_turn : Gate → Event → ThreadRecord → ObjectRecord → ℕ → Turn
-gate_turn Open event own object waiters = open_turn event own object waiters
-gate_turn (Shut refusal) event own object waiters = refused own object refusal
+unfoldable pub gate_turn : Result (Unit {0}) Refusal → Event → ThreadRecord → ObjectRecord → ℕ → Turn
+gate_turn (Ok _) event own object waiters = open_turn event own object waiters
+gate_turn (Err refusal) event own object waiters = refused own object refusal
 
 -- the records after an event and its reply; of the table only whether it is sound, its sizes and how many wait for the object
 abbrev pub take_turn : Bool → ℕ → ℕ → Event → ThreadRecord → ObjectRecord → ℕ → Turn

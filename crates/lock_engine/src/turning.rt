@@ -7,9 +7,9 @@ ghost use Rattle.lock_engine.specs.Turn.{refused, given_ticks, begun, begin_turn
 use crate::outcome::Reply;
 use lock_gate::{gate, thread_status};
 use lock_perform::{object_after, read_thread, sight_with, write_thread};
-use lock_rules::{Action, Answer, ChainWork, Doing, Effect, Event, Gate, Refusal, ThreadState};
+use lock_rules::{Answer, ChainWork, Doing, Effect, Event, Refusal, ThreadState};
 use lock_table::{Activity, OBJECTS, ObjectRecord, Operation, Phase, ThreadRecord, operation_from};
-use lock_word::{Decoded, TICK_LIMIT, Ticks, read_word, seen_word};
+use lock_word::{LockWord, TICK_LIMIT, Ticks, read_word, seen_word};
 use lock_work::Work;
 use rule_decide::decide;
 
@@ -51,13 +51,8 @@ fn given_ticks(operation: Operation, limit: u32) -> Ticks
     ensures { result ≡ given_ticks operation limit }
 {
     match operation {
-        Operation::Idle => 0,
-        Operation::Enter => 0,
-        Operation::Exit => 0,
-        Operation::Wait => 0,
-        Operation::Notify => 0,
-        Operation::NotifyAll => 0,
         Operation::TimedWait => narrow_limit(limit),
+        _ => 0,
     }
 }
 
@@ -123,18 +118,18 @@ fn effect_turn(thread: u8, own: ThreadRecord, object: ObjectRecord, effect: Effe
 
 // 20 leaves both records.
 #[tactic(auto, unfolding(crate::specs::Turn::action_turn))]
-fn action_turn(thread: u8, own: ThreadRecord, object: ObjectRecord, action: Action) -> Turn
+fn action_turn(thread: u8, own: ThreadRecord, object: ObjectRecord, action: Option<Effect>) -> Turn
     ensures { result ≡ action_turn thread own object action }
 {
     match action {
-        Action::Unruled => Turn {
+        None => Turn {
             own: own,
             object: object,
             work: Work::Chains(ChainWork::Stay),
             reply: Reply::Answered(Answer::NoRule),
             commits: false,
         },
-        Action::Do(effect) => effect_turn(thread, own, object, effect),
+        Some(effect) => effect_turn(thread, own, object, effect),
     }
 }
 
@@ -146,11 +141,11 @@ fn word_turn(
     object: ObjectRecord,
     waiters: u8,
     doing: Doing,
-    decoded: Decoded,
+    decoded: Option<LockWord>,
 ) -> Turn
     ensures { result ≡ word_turn thread own object waiters doing decoded }
 {
-    let Decoded::Valid(word) = decoded else {
+    let Some(word) = decoded else {
         return refused(own, object, Refusal::NotSound);
     };
     action_turn(
@@ -172,7 +167,6 @@ fn state_turn(
     ensures { result ≡ state_turn thread own object waiters state }
 {
     match state {
-        ThreadState::Idle => refused(own, object, Refusal::NotSound),
         ThreadState::Running(doing) => word_turn(
             thread,
             own,
@@ -181,9 +175,7 @@ fn state_turn(
             doing,
             read_word(object.word),
         ),
-        ThreadState::Queued(_) => refused(own, object, Refusal::NotSound),
-        ThreadState::Contending => refused(own, object, Refusal::NotSound),
-        ThreadState::Waiting(_) => refused(own, object, Refusal::NotSound),
+        _ => refused(own, object, Refusal::NotSound),
     }
 }
 
@@ -214,12 +206,18 @@ fn open_turn(event: Event, own: ThreadRecord, object: ObjectRecord, waiters: u8)
 }
 
 #[tactic(auto, unfolding(crate::specs::Turn::gate_turn))]
-fn gate_turn(gate: Gate, event: Event, own: ThreadRecord, object: ObjectRecord, waiters: u8) -> Turn
+fn gate_turn(
+    gate: Result<(), Refusal>,
+    event: Event,
+    own: ThreadRecord,
+    object: ObjectRecord,
+    waiters: u8,
+) -> Turn
     ensures { result ≡ gate_turn gate event own object waiters }
 {
     match gate {
-        Gate::Open => open_turn(event, own, object, waiters),
-        Gate::Shut(refusal) => refused(own, object, refusal),
+        Ok(()) => open_turn(event, own, object, waiters),
+        Err(refusal) => refused(own, object, refusal),
     }
 }
 

@@ -1,5 +1,5 @@
 -- What each exported call that changes a table answers and makes of the bytes: the engine's begin, step, tick and fresh table on the table that the bytes say.
-use Rattle.std.specs.Prelude.{ℕ, ◌≤◌, ◌<◌, ◌≡◌, Bool, true, false, not, List, eqb, length}
+use Rattle.std.specs.Prelude.{ℕ, ◌≤◌, ◌<◌, ◌≡◌, Bool, true, false, not, List, eqb, length, Result, Ok, Err}
 use Rattle.laws.specs.Choice.{pick, either}
 use Rattle.lock_rules.specs.Numbers.{first_refusal, refusal_number, returned_of}
 use Rattle.lock_rules.specs.Gate.{event_thread, event_object}
@@ -9,9 +9,7 @@ use Rattle.lock_rules.specs.declared.Answer.{Answer}
 use Rattle.lock_rules.specs.declared.Answer.TheVariants.{GoneOn, Finished, Parked, NotOwner, TooDeep, NoRule}
 use Rattle.lock_table.specs.Access.{thread_at, object_at}
 use Rattle.lock_table.specs.Fresh.{sized_request, fresh_of, fresh_returned}
-use Rattle.lock_table.specs.declared.fresh_table.FreshAnswer.{FreshAnswer}
-use Rattle.lock_table.specs.declared.fresh_table.FreshAnswer.TheVariants.{Made, Refused}
-use Rattle.lock_table.specs.declared.fresh_table.FreshTable.{FreshTable}
+use Rattle.lock_table.specs.declared.fresh_table.FreshRefusal.{FreshRefusal}
 use Rattle.lock_table.specs.declared.record.Table.{Table}
 use Rattle.lock_soundness.specs.Sound.{sound_of}
 use Rattle.event_bytes.specs.Answer.{set_unit, packed_of, returned_in}
@@ -105,26 +103,26 @@ abbrev pub ticked_on : List ℕ → Outcome
 ticked_on bytes = tick_event (table_of bytes)
 
 -- a fresh table: 11 where the bytes are not as many as a table has, then 22; both leave the bytes
-abbrev pub fresh_on : ℕ → ℕ → ℕ → FreshTable
+abbrev pub fresh_on : ℕ → ℕ → ℕ → Result Table FreshRefusal
 fresh_on threads objects reserved = fresh_of (sized_request threads objects (not (eqb reserved 0)))
 
 abbrev pub has_size : List ℕ → Bool
 has_size bytes = eqb (length bytes) table_size
 
-unfoldable pub made_bytes : List ℕ → FreshAnswer → Table → List ℕ
-made_bytes bytes Made table = bytes_of table
-made_bytes bytes (Refused refusal) table = bytes
+unfoldable pub made_bytes : List ℕ → Result Table FreshRefusal → List ℕ
+made_bytes bytes (Ok table) = bytes_of table
+made_bytes bytes (Err refusal) = bytes
 
-abbrev pub fresh_answer : Bool → FreshTable → ℕ
-fresh_answer fits made = pick fits (fresh_returned made.answer) not_sound
+abbrev pub fresh_answer : Bool → Result Table FreshRefusal → ℕ
+fresh_answer fits made = pick fits (fresh_returned made) not_sound
 
-abbrev pub fresh_bytes : Bool → List ℕ → FreshTable → List ℕ
-fresh_bytes fits bytes made = pick fits (made_bytes bytes made.answer made.table) bytes
+abbrev pub fresh_bytes : Bool → List ℕ → Result Table FreshRefusal → List ℕ
+fresh_bytes fits bytes made = pick fits (made_bytes bytes made) bytes
 
 -- the same as the code does it
-unfoldable pub keep_made : List ℕ → FreshAnswer → Table → List ℕ
-keep_made bytes Made table = kept_over bytes table
-keep_made bytes (Refused refusal) table = bytes
+unfoldable pub keep_made : List ℕ → Result Table FreshRefusal → List ℕ
+keep_made bytes (Ok table) = kept_over bytes table
+keep_made bytes (Err refusal) = bytes
 
-abbrev pub fresh_if_sized : Bool → List ℕ → FreshTable → List ℕ
-fresh_if_sized fits bytes made = pick fits (keep_made bytes made.answer made.table) bytes
+abbrev pub fresh_if_sized : Bool → List ℕ → Result Table FreshRefusal → List ℕ
+fresh_if_sized fits bytes made = pick fits (keep_made bytes made) bytes

@@ -14,7 +14,7 @@ use lock_engine::{Reply, refusal_number, returned, turn_with, woken};
 use lock_gate::{TIMED_WAIT, event_object, event_thread};
 use lock_rules::{Answer, Event, Refusal};
 use lock_soundness::sound;
-use lock_table::{FreshAnswer, FreshRequest, Table, fresh, fresh_returned, narrow, sized_request};
+use lock_table::{FreshRequest, Table, fresh, fresh_returned, narrow, sized_request};
 use lock_work::{work_done, work_stays};
 use table_bytes::{
     TABLE_SIZE, is_table, read_object, read_table, read_thread, write_object, write_table,
@@ -94,19 +94,19 @@ fn handle_if_table(bytes: &mut [u8], event: Event, istable: bool) -> u64
 }
 
 // With the right number of bytes, a fresh table as asked.
-#[tactic(auto, using(laws::proofs::Choice::either_way), unfolding(crate::specs::Calls::keep_made))]
+#[tactic(auto, using(laws::proofs::Choice::either_way), unfolding(crate::specs::Calls::keep_made, lock_table::specs::Fresh::fresh_returned))]
 pub(crate) fn fresh_if_sized(bytes: &mut [u8], request: FreshRequest, fits: bool) -> u32
     ensures value { result ≡ fresh_answer fits (fresh_of request) }
     ensures bytes_after { bytes.new ≡ fresh_if_sized fits bytes.old (fresh_of request) }
 {
     if fits {
-        let made = fresh(request);
-        let answer = made.answer;
-        match answer {
-            FreshAnswer::Made => write_table(bytes, made.table),
-            FreshAnswer::Refused(_) => {}
-        }
-        return fresh_returned(answer) as u32;
+        return match fresh(request) {
+            Ok(table) => {
+                write_table(bytes, table);
+                fresh_returned(Ok(())) as u32
+            }
+            Err(refusal) => fresh_returned(Err(refusal)) as u32,
+        };
     }
     refusal_number(Refusal::NotSound) as u32
 }

@@ -5,7 +5,7 @@ ghost use Rattle.std.specs.Prelude.{◌≡◌};
 ghost use Rattle.lock_rules.specs.Gate.{first_refusing, idle_rows, ready_rows, begin_rows, step_rows, limit_fits, event_rows, gate, event_thread, event_object};
 ghost use Rattle.lock_gate.specs.Status.{thread_status};
 
-use lock_rules::{Event, Gate, Refusal, ThreadStatus};
+use lock_rules::{Event, Refusal, ThreadStatus};
 use lock_table::Phase;
 use lock_word::TICK_LIMIT;
 
@@ -20,48 +20,34 @@ pub fn thread_status(phase: Phase) -> ThreadStatus
 {
     match phase {
         Phase::Idle => ThreadStatus::Idle,
-        Phase::Look => ThreadStatus::Ready,
-        Phase::Store => ThreadStatus::Ready,
-        Phase::Cancel => ThreadStatus::Ready,
-        Phase::GoIn => ThreadStatus::Ready,
-        Phase::Queued(_) => ThreadStatus::Parked,
-        Phase::Check => ThreadStatus::Ready,
-        Phase::Try => ThreadStatus::Ready,
-        Phase::Contending => ThreadStatus::Parked,
-        Phase::Test => ThreadStatus::Ready,
-        Phase::Tell => ThreadStatus::Ready,
-        Phase::Leave => ThreadStatus::Ready,
-        Phase::Inflate => ThreadStatus::Ready,
-        Phase::GiveUp => ThreadStatus::Ready,
-        Phase::Waiting => ThreadStatus::Parked,
-        Phase::Resume => ThreadStatus::Ready,
+        Phase::Queued(_) | Phase::Contending | Phase::Waiting => ThreadStatus::Parked,
+        _ => ThreadStatus::Ready,
     }
 }
 
 // 14, 23.
-fn begin_status(status: ThreadStatus, islimit: bool) -> Gate
+fn begin_status(status: ThreadStatus, islimit: bool) -> Result<(), Refusal>
     ensures { result ≡ first_refusing (idle_rows status islimit) }
 {
     match status {
         ThreadStatus::Idle => {
             if !islimit {
-                return Gate::Shut(Refusal::LimitOutOfRange);
+                return Err(Refusal::LimitOutOfRange);
             }
-            Gate::Open
+            Ok(())
         }
-        ThreadStatus::Ready => Gate::Shut(Refusal::NotIdle),
-        ThreadStatus::Parked => Gate::Shut(Refusal::NotIdle),
+        ThreadStatus::Ready | ThreadStatus::Parked => Err(Refusal::NotIdle),
     }
 }
 
 // 15, 16.
-fn step_status(status: ThreadStatus) -> Gate
+fn step_status(status: ThreadStatus) -> Result<(), Refusal>
     ensures { result ≡ first_refusing (ready_rows status) }
 {
     match status {
-        ThreadStatus::Idle => Gate::Shut(Refusal::ThreadIdle),
-        ThreadStatus::Ready => Gate::Open,
-        ThreadStatus::Parked => Gate::Shut(Refusal::ThreadParked),
+        ThreadStatus::Idle => Err(Refusal::ThreadIdle),
+        ThreadStatus::Ready => Ok(()),
+        ThreadStatus::Parked => Err(Refusal::ThreadParked),
     }
 }
 
@@ -72,27 +58,27 @@ fn begin_gate(
     isobject: bool,
     islimit: bool,
     status: ThreadStatus,
-) -> Gate
+) -> Result<(), Refusal>
     ensures { result ≡ first_refusing (begin_rows isthread isoperation isobject islimit status) }
 {
     if !isthread {
-        return Gate::Shut(Refusal::NoSuchThread);
+        return Err(Refusal::NoSuchThread);
     }
     if !isoperation {
-        return Gate::Shut(Refusal::NoSuchOperation);
+        return Err(Refusal::NoSuchOperation);
     }
     if !isobject {
-        return Gate::Shut(Refusal::NoSuchObject);
+        return Err(Refusal::NoSuchObject);
     }
     begin_status(status, islimit)
 }
 
 // 12, 15, 16.
-fn step_gate(isthread: bool, status: ThreadStatus) -> Gate
+fn step_gate(isthread: bool, status: ThreadStatus) -> Result<(), Refusal>
     ensures { result ≡ first_refusing (step_rows isthread status) }
 {
     if !isthread {
-        return Gate::Shut(Refusal::NoSuchThread);
+        return Err(Refusal::NoSuchThread);
     }
     step_status(status)
 }
@@ -108,7 +94,7 @@ fn limit_fits(operation: u8, limit: u32) -> bool
 }
 
 // Of an event on a sound table with so many threads and objects.
-fn event_gate(threads: u8, objects: u8, event: Event, status: ThreadStatus) -> Gate
+fn event_gate(threads: u8, objects: u8, event: Event, status: ThreadStatus) -> Result<(), Refusal>
     ensures { result ≡ first_refusing (event_rows threads objects event status) }
 {
     match event {
@@ -125,16 +111,22 @@ fn event_gate(threads: u8, objects: u8, event: Event, status: ThreadStatus) -> G
             status,
         ),
         Event::Step { thread } => step_gate((1 <= thread) & (thread <= threads), status),
-        Event::Tick => Gate::Open,
+        Event::Tick => Ok(()),
     }
 }
 
 // Of an event on a table that is sound or not: 11 comes first.
-pub fn gate(issound: bool, threads: u8, objects: u8, event: Event, status: ThreadStatus) -> Gate
+pub fn gate(
+    issound: bool,
+    threads: u8,
+    objects: u8,
+    event: Event,
+    status: ThreadStatus,
+) -> Result<(), Refusal>
     ensures { result ≡ gate issound threads objects event status }
 {
     if !issound {
-        return Gate::Shut(Refusal::NotSound);
+        return Err(Refusal::NotSound);
     }
     event_gate(threads, objects, event, status)
 }
@@ -144,13 +136,7 @@ pub fn event_thread(event: Event) -> u8
     ensures { result ≡ event_thread event }
 {
     match event {
-        Event::Begin {
-            operation: _,
-            thread,
-            object: _,
-            limit: _,
-        } => thread,
-        Event::Step { thread } => thread,
+        Event::Begin { thread, .. } | Event::Step { thread } => thread,
         Event::Tick => 1,
     }
 }
@@ -160,13 +146,8 @@ pub fn event_object(event: Event, object: u8) -> u8
     ensures { result ≡ event_object event object }
 {
     match event {
-        Event::Begin {
-            operation: _,
-            thread: _,
-            object: named,
-            limit: _,
-        } => named,
-        Event::Step { thread: _ } => object,
+        Event::Begin { object: named, .. } => named,
+        Event::Step { .. } => object,
         Event::Tick => 1,
     }
 }

@@ -9,7 +9,7 @@ use Rattle.laws.specs.Choice.{pick, both, either}
 use Rattle.laws.proofs.Choice.{by_equal, either_way, split, by_test, both_no, pick_same}
 use Rattle.chains.specs.Chain.{members}
 use Rattle.chains.proofs.Links.{Links}
-use Rattle.lock_word.specs.declared.reading.Decoded.TheVariants.{Valid}
+use Rattle.std.specs.Prelude.{Some}
 use Rattle.lock_rules.specs.Numbers.{phase_of_doing, phase_of}
 use Rattle.lock_word.specs.Meaning.{owner_of, depth_of, ownership_of}
 use Rattle.lock_word.proofs.Owning.{owned_both}
@@ -33,7 +33,7 @@ use Rattle.lock_rules.proofs.{SoundKept.sound_fresh, Simulation.simulated_run}
 use Rattle.lock_table.specs.{Limits.thread_limit, Record.no_thread}
 use Rattle.lock_table.specs.Phase.{phase_number, carried_number}
 use Rattle.lock_table.specs.Access.{thread_at, object_at, next_of, phase_number_at}
-use Rattle.lock_table.specs.Fresh.{InRange, fresh_of}
+use Rattle.lock_table.specs.Fresh.{InRange, table_of}
 use Rattle.lock_table.specs.declared.fresh_table.FreshRequest.{FreshRequest}
 use Rattle.lock_table.specs.declared.record.{ThreadRecord.ThreadRecord, ObjectRecord.ObjectRecord, Table.Table}
 use Rattle.lock_perform.specs.State.{wait_activity, write_activity}
@@ -57,7 +57,7 @@ unowned_shallow threads (Reserved thread count) holder depth fine shallow none =
 
 -- owner and depth by the lock word are those that the rules see
 ownership_seen : (threads o : ℕ) (links : Links) (seen : WordSeen) (holder depth : ℕ) → WordFine threads seen → (holder ≡ 0 → depth ≡ 0)
-    → ownership_in (Valid (lock_word o seen)) (monitor_record o links holder depth)
+    → ownership_in (Some (lock_word o seen)) (monitor_record o links holder depth)
     ≡ record { thread = owner_of seen holder depth; depth = depth_of seen depth }
 unfolding ownership_in
 ownership_seen threads o links seen holder depth fine shallow =
@@ -212,7 +212,7 @@ module _ (request : FreshRequest) (in_range : InRange request) (events : List Ev
   objects = request.objects
 
   abbrev fresh_records : Table
-  fresh_records = (fresh_of request).table
+  fresh_records = table_of request
 
   abbrev fresh_lists : ListTable
   fresh_lists = fresh request.reserved (fresh_rank request)

@@ -10,7 +10,7 @@ use Rattle.lock_word.specs.{Layout.count_limit, Depth.depth_limit, Ticks.tick_li
 use Rattle.lock_word.specs.Read.{read_word, thread_number}
 use Rattle.lock_word.specs.Write.{write_word, InRange, reserved_word}
 use Rattle.lock_word.specs.declared.reading.LockWord.TheVariants.{Reserved}
-use Rattle.lock_word.specs.declared.reading.Decoded.TheVariants.{Valid}
+use Rattle.std.specs.Prelude.{Some}
 use Rattle.lock_word.proofs.RoundTrip.{meaning_of_word}
 use Rattle.lock_rules.specs.{Numbers.phase_of, Rules.onward}
 use Rattle.lock_rules.proofs.Each.{each_doing, each_carried, each_limit, each_suspension}
@@ -31,7 +31,7 @@ use Rattle.laws.proofs.Facts.{reads_within}
 use Rattle.lock_records.proofs.Naming.{running_names_none}
 
 -- a kept word is read as it was written
-kept_read : (n count : ℕ) → 1 ≤ n → n ≤ thread_limit → count ≤ count_limit → read_word (reserved_word n count) ≡ Valid (Reserved (thread_number n) count)
+kept_read : (n count : ℕ) → 1 ≤ n → n ≤ thread_limit → count ≤ count_limit → read_word (reserved_word n count) ≡ Some (Reserved (thread_number n) count)
 unfolding write_word InRange
 kept_read n count low high small = meaning_of_word (Reserved (thread_number n) count) ((low, omega arith), omega arith)
 

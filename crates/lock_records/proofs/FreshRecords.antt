@@ -14,7 +14,7 @@ use Rattle.lock_rules.proofs.{Each.each_chain, Objects.chain_of}
 use Rattle.lock_rules.proofs.Tables.{fresh_word, fresh}
 use Rattle.lock_table.specs.Limits.{thread_limit, object_limit, rank_limit}
 use Rattle.lock_table.specs.Record.{no_object, with_word}
-use Rattle.lock_table.specs.Fresh.{no_thread_given, first_word, fresh_thread, thread_from, object_from, InRange, fresh_of}
+use Rattle.lock_table.specs.Fresh.{no_thread_given, first_word, fresh_thread, thread_from, object_from, InRange, table_of}
 use Rattle.lock_table.specs.declared.fresh_table.{ThreadGiven.ThreadGiven, FreshRequest.FreshRequest}
 use Rattle.lock_table.proofs.FreshTables.{given_to, fresh_rank, thread_past, fresh_made, fresh_thread_at, fresh_used, fresh_past}
 use Rattle.lock_perform.specs.State.{write_activity}
@@ -50,7 +50,7 @@ first_word_fits threads o true = refl
 first_word_fits threads o false = refl
 
 module _ (request : FreshRequest) (in_range : InRange request) where
-  pub fresh_represents : Represents request.threads request.objects (fresh_of request).table (fresh request.reserved (fresh_rank request))
+  pub fresh_represents : Represents request.threads request.objects (table_of request) (fresh request.reserved (fresh_rank request))
   unfolding write_activity
   fresh_represents =
       rw (fresh_made request in_range)

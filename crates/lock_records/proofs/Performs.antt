@@ -10,7 +10,7 @@ use Rattle.chains.proofs.Links.{Links, LinksRepresent}
 use Rattle.lock_rules.proofs.{Changes.seen_after, Each.each_chain, ListSound.SoundTable}
 use Rattle.lock_rules.specs.declared.{Doing.Doing, ThreadState.ThreadState, Effect.Effect}
 use Rattle.lock_rules.specs.declared.ThreadState.TheVariants.{Running}
-use Rattle.lock_rules.specs.declared.Action.TheVariants.{Unruled, Do}
+use Rattle.std.specs.Prelude.{Some, None}
 use Rattle.lock_rules.proofs.Objects.{ListObject}
 use Rattle.lock_rules.proofs.Perform.{perform, states_after, unparks, action_unparks, object_after, effected}
 use Rattle.lock_rules.proofs.Tables.{ListThread, ListTable, states_at, put_back}
@@ -90,7 +90,7 @@ module _ (threads objects : ℕ) (t : Table) (lists : ListTable) (represents : R
   -- a step at object o
   module _ (o : ℕ) (home : (lists.threads i).object ≡ o) (real : 1 ≤ o) (small : o ≤ objects) (unchained : Unchained (lists.threads i).state) where
     -- no rule fits: nothing changes
-    pub unruled_represents : Represents threads objects t (put_back lists o (perform i (states_at lists o) (lists.objects o) Unruled))
+    pub unruled_represents : Represents threads objects t (put_back lists o (perform i (states_at lists o) (lists.objects o) None))
     unruled_represents =
         subst (Represents threads objects t)
         (λ j. record { threads = placed_none o lists.threads j; objects = sym (update_id lists.objects o (lists.objects o) refl) j }) represents
@@ -149,13 +149,13 @@ module _ (threads objects : ℕ) (t : Table) (lists : ListTable) (represents : R
           λ j. with_flag (with_monitor (with_word (represents.given.object o) (word_written o (sym same_word j))) (action.monitor j)) (sym same_flag j)
 
       effect_represents : Represents threads objects (set_object own_written o object_written)
-          (put_back lists o (perform i (states_at lists o) (lists.objects o) (Do effect)))
+          (put_back lists o (perform i (states_at lists o) (lists.objects o) (Some effect)))
       effect_represents = replaced_represents threads objects t lists represents o real small new links own_written states object_written represented threads_after written_is
           (rank_kept effect.work i (states_at lists o) now)
 
       -- the effect on the records as they are: the word is changed by its bits
       pub perform_represents : Represents threads objects (perform_of t i o (object_at t o) effect)
-          (put_back lists o (perform i (states_at lists o) (lists.objects o) (Do effect)))
+          (put_back lists o (perform i (states_at lists o) (lists.objects o) (Some effect)))
       perform_represents =
           rw (
             represents.object_is o real small,
@@ -166,5 +166,5 @@ module _ (threads objects : ℕ) (t : Table) (lists : ListTable) (represents : R
 
       -- and whom it names
       pub perform_names : (n : ℕ) → has_thread (carry_out t (object_after_record i o (object_at t o) effect).monitor effect.work i o).unparked n
-          ≡ action_unparks i (states_at lists o) (lists.objects o) (Do effect) n
+          ≡ action_unparks i (states_at lists o) (lists.objects o) (Some effect) n
       perform_names n = rw (represents.object_is o real small) (action.names n)

@@ -11,8 +11,8 @@ use Rattle.laws.proofs.Choice.{either_way, false≢true, both_first, both_second
 use Rattle.lock_word.specs.Read.{read_word}
 use Rattle.lock_word.specs.Write.{write_word, reserved_word, IsNumber}
 use Rattle.lock_word.specs.declared.reading.LockWord.TheVariants.{Free, Flat, Anonymous, Reserved, Fat}
-use Rattle.lock_word.specs.declared.reading.Decoded.{Decoded}
-use Rattle.lock_word.specs.declared.reading.Decoded.TheVariants.{Valid, Invalid}
+use Rattle.std.specs.Prelude.{Option, Some, None}
+use Rattle.lock_word.specs.declared.reading.LockWord.{LockWord}
 use Rattle.lock_word.proofs.RoundTrip.{word_of_meaning}
 use Rattle.lock_rules.specs.Numbers.{phase_of}
 use Rattle.lock_rules.proofs.Status.{unfinished}
@@ -93,15 +93,15 @@ kept_is : (n : ℕ) (operation : Operation) (kept : ℕ) → ReservedFor n opera
 unfolding write_word
 kept_is n operation kept reserved = at (read_word kept) refl reserved
   where
-    at : (decoded : Decoded) → read_word kept ≡ decoded → ReservedFor n operation decoded
+    at : (decoded : Option LockWord) → read_word kept ≡ decoded → ReservedFor n operation decoded
         → (count : ℕ) × (kept ≡ reserved_word n count) × KeptCountFits operation count
-    at Invalid e no_word = absurd no_word
-    at (Valid Free) e no_word = absurd no_word
-    at (Valid (Flat thread count)) e no_word = absurd no_word
-    at (Valid Anonymous) e no_word = absurd no_word
-    at (Valid (Reserved thread count)) e (same, fits) =
+    at None e no_word = absurd no_word
+    at (Some Free) e no_word = absurd no_word
+    at (Some (Flat thread count)) e no_word = absurd no_word
+    at (Some Anonymous) e no_word = absurd no_word
+    at (Some (Reserved thread count)) e (same, fits) =
         (count, sym (ap (λ (k : ℕ). reserved_word k count) (sym same) ∙ word_of_meaning kept (Reserved thread count) e), fits)
-    at (Valid (Fat monitor)) e no_word = absurd no_word
+    at (Some (Fat monitor)) e no_word = absurd no_word
 
 module _ (objects n o kept saved ticks : ℕ) (own : ThreadRecord) (is_number : IsNumber n) where
   -- any activity

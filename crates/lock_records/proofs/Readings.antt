@@ -13,7 +13,7 @@ use Rattle.chains.specs.Chain.{members}
 use Rattle.chains.proofs.Listed.{Chain as ChainOf, head, chain_members}
 use Rattle.chains.proofs.Links.{first_head, head_real}
 use Rattle.lock_word.specs.Read.{read_word}
-use Rattle.lock_word.specs.declared.reading.Decoded.TheVariants.{Valid}
+use Rattle.std.specs.Prelude.{Some}
 use Rattle.lock_rules.proofs.{Status.unfinished, ListSound.SoundTable, ListChains.short}
 use Rattle.lock_rules.specs.declared.ThreadState.TheVariants.{Idle}
 use Rattle.lock_rules.proofs.Objects.{empty, sight_of, chain_of}
@@ -88,7 +88,7 @@ module _ (threads objects : ℕ) (t : Table) (lists : ListTable) (represents : R
 
     -- an object's word and what a rule sees
     module _ (o : ℕ) (real : 1 ≤ o) (low : o ≤ objects) where
-      pub word_is : read_word (object_at t o).word ≡ Valid (lock_word o (lists.objects o).word)
+      pub word_is : read_word (object_at t o).word ≡ Some (lock_word o (lists.objects o).word)
       word_is =
           ap (λ (object : ObjectRecord). read_word object.word) (represents.object_is o real low)
           ∙ word_read threads o represents.thread_room real (omega (arith, represents.object_room)) (lists.objects o).word (sound.sound o).word

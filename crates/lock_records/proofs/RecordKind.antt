@@ -4,17 +4,17 @@ use mathlib.Core.Path.{◌≡◌, refl, subst}
 use mathlib.Core.Bool.{false}
 use lib.Dec.{T}
 use Rattle.lock_word.specs.Read.{read_word}
-use Rattle.lock_word.specs.declared.reading.Decoded.{Decoded}
-use Rattle.lock_word.specs.declared.reading.Decoded.TheVariants.{Valid, Invalid}
+use Rattle.std.specs.Prelude.{Option, Some, None}
+use Rattle.lock_word.specs.declared.reading.LockWord.{LockWord}
 use Rattle.lock_rules.specs.Rules.{begun, decide}
 use Rattle.lock_rules.proofs.{Status.unfinished, Objects.sight_of, ListSound.SoundTable, SoundKept.sound_turn}
 use Rattle.lock_rules.specs.declared.event.Event.{Event}
 use Rattle.lock_rules.specs.Events.{Refused, Answered}
 use Rattle.lock_rules.specs.Operations.{Operation}
-use Rattle.lock_rules.specs.declared.{Limit.Limit, Doing.Doing, Action.Action}
+use Rattle.lock_rules.specs.declared.Effect.{Effect}
+use Rattle.lock_rules.specs.declared.{Limit.Limit, Doing.Doing}
 use Rattle.lock_rules.specs.declared.ThreadState.TheVariants.{Idle, Running}
 use Rattle.lock_rules.specs.declared.Answer.TheVariants.{NoRule}
-use Rattle.lock_rules.specs.declared.Action.TheVariants.{Unruled, Do}
 use Rattle.lock_rules.proofs.TableKinds.{TurnOf, Kind, turn_on}
 use Rattle.lock_rules.proofs.Tables.{ListTable, acted_at, begin_at, step_at, turn}
 use Rattle.lock_rules.proofs.Simulation.{SameTurnOf, Simulates, simulated_turn}
@@ -33,9 +33,9 @@ use Rattle.lock_records.proofs.TickRepresents.{tick_represents, tick_names}
 use Rattle.lock_work.specs.Tick.{tick}
 
 -- what a rule decided, carried out by thread n on the object of this number
-abbrev pub step_acts : Table → ℕ → ℕ → ObjectRecord → Action → TurnOf Table
-step_acts t n number object Unruled = record { table = t; reply = Answered NoRule false; unparked = λ m. false }
-step_acts t n number object (Do effect) =
+abbrev pub step_acts : Table → ℕ → ℕ → ObjectRecord → Option Effect → TurnOf Table
+step_acts t n number object None = record { table = t; reply = Answered NoRule false; unparked = λ m. false }
+step_acts t n number object (Some effect) =
     record {
       table = perform_of t n number object effect;
       reply = Answered effect.answer effect.commits;
@@ -43,9 +43,9 @@ step_acts t n number object (Do effect) =
     }
 
 -- 11 for a word that is none, which no sound table has
-abbrev pub step_reads : Table → ℕ → ℕ → ObjectRecord → Doing → Decoded → TurnOf Table
-step_reads t n number object doing Invalid = record { table = t; reply = Refused 11; unparked = λ m. false }
-step_reads t n number object doing (Valid word) = step_acts t n number object (decide n (sight_at t object word) doing)
+abbrev pub step_reads : Table → ℕ → ℕ → ObjectRecord → Doing → Option LockWord → TurnOf Table
+step_reads t n number object doing None = record { table = t; reply = Refused 11; unparked = λ m. false }
+step_reads t n number object doing (Some word) = step_acts t n number object (decide n (sight_at t object word) doing)
 
 abbrev pub step_records : Table → ℕ → Doing → TurnOf Table
 step_records t n doing =
@@ -84,11 +84,11 @@ module _ (threads objects : ℕ) (t : Table) (lists : ListTable) (represents : R
     abbrev home : ℕ
     home = (lists.threads n).object
 
-    acts_alike : 1 ≤ home → home ≤ objects → (action : Action)
+    acts_alike : 1 ≤ home → home ≤ objects → (action : Option Effect)
         → Alike (step_acts t n home (object_at t home) action) (acted_at lists home n action)
-    acts_alike real small Unruled =
+    acts_alike real small None =
         (unruled_represents threads objects t lists represents sound n low high home refl real small (rw running (running_unchained doing)), refl, λ m. refl)
-    acts_alike real small (Do effect) = (
+    acts_alike real small (Some effect) = (
       perform_represents threads objects t lists represents sound n low high home refl real small (rw running (running_unchained doing)) effect,
       refl,
       perform_names threads objects t lists represents sound n low high home refl real small (rw running (running_unchained doing)) effect,

@@ -20,7 +20,7 @@ use Rattle.lock_table.proofs.FreshTables.{fresh_rank}
 use Rattle.lock_rules.proofs.TableKinds.{TurnOf, shown_on, by_event}
 use Rattle.lock_rules.proofs.Tables.{ListTable, list_kind, turn, step_at, perform_at, shown, fresh}
 use Rattle.lock_rules.proofs.Lift.{World, world_turn, world_fresh}
-use Rattle.lock_table.specs.Fresh.{InRange, fresh_of}
+use Rattle.lock_table.specs.Fresh.{InRange, table_of}
 use Rattle.lock_table.specs.declared.fresh_table.FreshRequest.{FreshRequest}
 use Rattle.lock_records.specs.Agrees.{RuledReply, Ruled}
 use Rattle.lock_records.proofs.{RecordKind.record_kind, Claim.schedule_represents}
@@ -72,7 +72,7 @@ lists_ruled threads objects (event ∷ rest) lists plain world = (
 
 -- no event of a schedule on records returns 11 or 20
 pub schedule_ruled : (request : FreshRequest) → InRange request → (events : List Event)
-    → Ruled (shown_on record_kind request.threads request.objects (fresh_of request).table events)
+    → Ruled (shown_on record_kind request.threads request.objects (table_of request) events)
 schedule_ruled request in_range events =
     subst Ruled (sym (schedule_represents request in_range events).2)
     (lists_ruled request.threads request.objects events (fresh request.reserved (fresh_rank request)) blank (world_fresh request.reserved (fresh_rank request)))

@@ -14,7 +14,7 @@ use Rattle.lock_word.specs.Meaning.{seen_word, kept_count, cancelled, rewritten_
 use Rattle.lock_word.proofs.RoundTrip.{meaning_of_word}
 use Rattle.lock_word.specs.declared.reading.LockWord.{LockWord}
 use Rattle.lock_word.specs.declared.reading.LockWord.TheVariants.{Free, Flat, Anonymous, Reserved, Fat}
-use Rattle.lock_word.specs.declared.reading.Decoded.TheVariants.{Valid}
+use Rattle.std.specs.Prelude.{Some}
 use Rattle.lock_rules.specs.Numbers.{phase_of_doing, phase_of}
 use Rattle.lock_rules.specs.Rules.{onward}
 use Rattle.lock_rules.proofs.Changes.{seen_after, handed, moved, look_again, sent_back}
@@ -60,7 +60,7 @@ module _ (threads o : ℕ) (thread_room : threads ≤ thread_limit) (real : 1 �
   word_in_range = each_word _ (search arith)
 
   -- a written word is valid, and is read as what was written
-  pub word_read : (seen : WordSeen) → WordFine threads seen → read_word (word_written o seen) ≡ Valid (lock_word o seen)
+  pub word_read : (seen : WordSeen) → WordFine threads seen → read_word (word_written o seen) ≡ Some (lock_word o seen)
   word_read seen fine = meaning_of_word (lock_word o seen) (word_in_range seen fine)
 
   -- cancelling the bits writes the cancelled word
@@ -68,7 +68,7 @@ module _ (threads o : ℕ) (thread_room : threads ≤ thread_limit) (real : 1 �
   unfolding cancel_of cancel_read rewritten_of seen_word write_word
   cancel_written seen fine = rw (word_read seen fine) (at seen)
     where
-      at : (seen : WordSeen) → cancel_read (word_written o seen) (Valid (lock_word o seen)) ≡ word_written o (cancelled seen)
+      at : (seen : WordSeen) → cancel_read (word_written o seen) (Some (lock_word o seen)) ≡ word_written o (cancelled seen)
       at =
           each_word _ (
             search,

@@ -1,11 +1,10 @@
 -- A number that is free for another object, and an object that is as new, in terms of the records alone (ours).
-use Rattle.std.specs.Prelude.{ℕ, ◌≤◌, ◌≡◌, ◌≢◌, Bool, true, false}
+use Rattle.std.specs.Prelude.{ℕ, ◌≤◌, ◌≡◌, ◌≢◌, Bool, true, false, Option, Some, None}
 use Rattle.lock_word.specs.Read.{read_word}
 use Rattle.lock_word.specs.Meaning.{seen_word}
 use Rattle.lock_word.specs.declared.meaning.WordSeen.{WordSeen}
 use Rattle.lock_word.specs.declared.meaning.WordSeen.TheVariants.{Free, Anonymous, Fat, Flat, Reserved}
-use Rattle.lock_word.specs.declared.reading.Decoded.{Decoded}
-use Rattle.lock_word.specs.declared.reading.Decoded.TheVariants.{Valid, Invalid}
+use Rattle.lock_word.specs.declared.reading.LockWord.{LockWord}
 use Rattle.lock_table.specs.Access.{thread_at, object_at}
 use Rattle.lock_table.specs.Ownership.{ownership_at}
 use Rattle.lock_table.specs.declared.record.Table.{Table}
@@ -24,9 +23,9 @@ thin_seen Fat = false
 thin_seen (Flat owner count) = true
 thin_seen (Reserved owner count) = true
 
-abbrev pub thin_word : Decoded → Bool
-thin_word Invalid = false
-thin_word (Valid word) = thin_seen (seen_word word)
+abbrev pub thin_word : Option LockWord → Bool
+thin_word None = false
+thin_word (Some word) = thin_seen (seen_word word)
 
 -- Flag, monitor and chains are those of a fresh table. The word may still be reserved for its last owner.
 pub record AsNew (table : Table) (o : ℕ) : Type 0 where

@@ -5,14 +5,14 @@ use mathlib.Core.Logic.{◌≢◌}
 use native.Mathlib.Omega.{arith}
 use borrow.Author.Tests.{ne_eqb, le-leb}
 use Rattle.lock_word.specs.declared.reading.LockWord.{LockWord}
-use Rattle.lock_rules.specs.declared.{Answer.Answer, Effect.Effect, Action.Action}
+use Rattle.std.specs.Prelude.{Option, Some, None}
+use Rattle.lock_rules.specs.declared.{Answer.Answer, Effect.Effect}
 use Rattle.lock_rules.specs.declared.ChainWork.TheVariants.{Stay}
 use Rattle.lock_rules.specs.declared.Answer.TheVariants.{GoneOn, Finished, Parked, NotOwner, TooDeep, NoRule}
 use Rattle.lock_rules.specs.Numbers.{refusal_number}
 use Rattle.lock_rules.proofs.RefusalNumbers.{of_gate}
 use Rattle.lock_rules.specs.declared.event.{Event.Event, Refusal.Refusal}
 use Rattle.lock_rules.specs.declared.event.Event.TheVariants.{Begin, Step, Tick}
-use Rattle.lock_rules.specs.declared.Action.TheVariants.{Unruled, Do}
 use Rattle.lock_table.specs.Access.{thread_at, object_at}
 use Rattle.lock_table.specs.declared.record.{ThreadRecord.ThreadRecord, Table.Table}
 use Rattle.laws.specs.Choice.{pick}
@@ -98,12 +98,12 @@ module _ (table : Table) (thread : ℕ) where
   performed_ended word effect NoRule number unparked unworked never = absurd never
 
   -- what a rule decided, carried out
-  pub action_ended : (word : LockWord) (action : Action) (number : ℕ) → Ends (sight_at table (object_at table o) word) action number
+  pub action_ended : (word : LockWord) (action : Option Effect) (number : ℕ) → Ends (sight_at table (object_at table o) word) action number
       → Ended table (Step thread) (outcome_of table thread o (action_turn thread own (object_at table o) action)) number
   unfolding action_turn reply_returned work_stays work_done stays
-  action_ended word Unruled number ends =
+  action_ended word None number ends =
       record { refused = sym ends; left = λ high. rw (thread_unchanged table thread, object_unchanged table o) refl; nobody = λ high. refl }
-  action_ended word (Do effect) number ends =
+  action_ended word (Some effect) number ends =
       let unparked = pick (stays effect.work) 0 (carry_out table (object_after thread o (object_at table o) effect).monitor effect.work thread o).unparked in
       subst (λ (after : Table). Ended table (Step thread) (record { table = after; reply = Answered effect.answer; commits = effect.commits; unparked = unparked }) number)
       (sym (settled_performs table thread o (object_at table o) effect))

@@ -8,10 +8,11 @@ use native.Mathlib.Omega.{arith}
 use Rattle.laws.specs.Choice.{pick, both, either, within}
 use Rattle.lock_rules.specs.Numbers.{first_refusal, refusal_number}
 use Rattle.lock_table.specs.Limits.{thread_limit, object_limit}
-use Rattle.lock_table.specs.Fresh.{table_of, refused_of, in_range, ranks_fit, fresh_answer, met_request, fresh_of, refusal_returned, fresh_returned}
-use Rattle.lock_table.specs.declared.fresh_table.{FreshRequest.FreshRequest, FreshRefusal.FreshRefusal, FreshAnswer.FreshAnswer, FreshTable.FreshTable}
+use Rattle.lock_table.specs.Fresh.{in_range, ranks_fit, fresh_answer, made_by, fresh_of, refusal_returned, fresh_returned}
+use Rattle.lock_table.specs.declared.fresh_table.{FreshRequest.FreshRequest, FreshRefusal.FreshRefusal}
 use Rattle.lock_table.specs.declared.fresh_table.FreshRefusal.TheVariants.{SizeOutOfRange, RankOutOfRange}
-use Rattle.lock_table.specs.declared.fresh_table.FreshAnswer.TheVariants.{Made, Refused}
+use Rattle.lock_table.specs.declared.record.Table.{Table}
+use Rattle.std.specs.Prelude.{Result, Ok, Err}
 use Rattle.lock_soundness.specs.Sound.{sound_of}
 use Rattle.round_robin.specs.Dispatch.{still}
 use Rattle.dispatch_rules.specs.Dispatch.{quantum_limit, scripts_known, first_answer, dispatch_returned, run_answered}
@@ -22,11 +23,12 @@ use Rattle.lock_refusals.proofs.Rows.{refused_by_first}
 
 -- what a request comes to, by whether T and N are in range and the ranks fit
 fresh_by : (request : FreshRequest) (threads objects ranks : Bool)
-    → let answer : FreshAnswer = pick (not (both threads objects)) (Refused SizeOutOfRange) (pick (not ranks) (Refused RankOutOfRange) Made) in
-    let number = fresh_returned answer in
+    → let answer : Result (Unit {0}) FreshRefusal = pick (not (both threads objects)) (Err SizeOutOfRange) (pick (not ranks) (Err RankOutOfRange) (Ok tt)) in
+    let made : Result Table FreshRefusal = made_by answer request in
+    let number = fresh_returned made in
     RefusedByFirst (row 22 (either (not threads) (not objects)) ∷ row 27 (not ranks) ∷ []) number
-    × (first_refusal ≤ number → (refusal : FreshRefusal) × ◌≡◌ {A = FreshTable} (record { answer = answer; table = table_of (met_request answer request) }) (refused_of refusal))
-unfolding fresh_returned refusal_returned met_request
+    × (first_refusal ≤ number → (refusal : FreshRefusal) × (made ≡ Err refusal))
+unfolding fresh_returned refusal_returned made_by
 fresh_by request true true true = (refused_by_first _ 0 (inl (omega arith)) refl refl, λ high. absurd (omega (arith, high)))
 fresh_by request true true false = (refused_by_first _ 27 (inr (omega arith)) refl refl, λ high. (RankOutOfRange, refl))
 fresh_by request true false ranks = (refused_by_first _ 22 (inr (omega arith)) refl refl, λ high. (SizeOutOfRange, refl))

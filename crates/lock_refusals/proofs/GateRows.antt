@@ -10,9 +10,10 @@ use Rattle.lock_word.specs.Ticks.{tick_limit}
 use Rattle.lock_rules.specs.Numbers.{refusal_number}
 use Rattle.lock_rules.specs.Operations.{operation_limit, timed_wait}
 use Rattle.lock_rules.specs.Gate.{GateRow, first_refusing, is_idle, is_parked, gate_rows, event_thread}
-use Rattle.lock_rules.specs.declared.event.{Event.Event, Gate.Gate}
+use Rattle.std.specs.Prelude.{Result, Ok, Err}
+use Rattle.lock_rules.specs.declared.event.Refusal.{Refusal}
+use Rattle.lock_rules.specs.declared.event.{Event.Event}
 use Rattle.lock_rules.specs.declared.event.Event.TheVariants.{Begin, Step, Tick}
-use Rattle.lock_rules.specs.declared.event.Gate.TheVariants.{Open, Shut}
 use Rattle.lock_table.specs.{Phase.phase_number, Access.thread_at}
 use Rattle.lock_table.specs.declared.phase.Phase.{Phase}
 use Rattle.lock_table.specs.declared.phase.Phase.TheVariants.{Idle, Look, Store, Cancel, GoIn, Queued, Check, Try, Contending, Test, Tell}
@@ -61,9 +62,9 @@ gate_rows_of table event =
     gate_rows (sound_of table) table.threadcount table.objectcount event (thread_status (thread_at table (event_thread event)).phase)
 
 -- the number of what the gate says, or the first of those behind it
-abbrev pub by_gate_number : Gate → ℕ → ℕ
-by_gate_number Open rest = rest
-by_gate_number (Shut refusal) rest = refusal_number refusal
+abbrev pub by_gate_number : Result (Unit {0}) Refusal → ℕ → ℕ
+by_gate_number (Ok _) rest = rest
+by_gate_number (Err refusal) rest = refusal_number refusal
 
 pub first_by_gate : (table : Table) (event : Event)
     → first_applies (refusals table event) ≡ by_gate_number (first_refusing (gate_rows_of table event)) (first_applies (behind_gate table event))

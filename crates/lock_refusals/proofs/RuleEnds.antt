@@ -16,11 +16,11 @@ use Rattle.lock_rules.specs.declared.OnwardStep.TheVariants.{ToCheck}
 use Rattle.lock_rules.specs.declared.Doing.TheVariants.{EnterCheck}
 use Rattle.lock_rules.specs.declared.ThreadState.TheVariants.{Idle, Queued}
 use Rattle.lock_rules.specs.declared.WordChange.TheVariants.{Unchanged}
-use Rattle.lock_rules.specs.declared.{Sight.Sight, Answer.Answer, Effect.Effect, Action.Action}
+use Rattle.std.specs.Prelude.{Option, Some, None}
+use Rattle.lock_rules.specs.declared.{Sight.Sight, Answer.Answer, Effect.Effect}
 use Rattle.chains.specs.declared.named.Chain.{Chain}
 use Rattle.lock_rules.specs.declared.ChainWork.TheVariants.{Stay, Join}
 use Rattle.lock_rules.specs.declared.Answer.TheVariants.{GoneOn, Finished, Parked, NotOwner, TooDeep, NoRule}
-use Rattle.lock_rules.specs.declared.Action.TheVariants.{Unruled, Do}
 use Rattle.lock_refusals.specs.Refusals.{unruled}
 
 -- the operation ends with the object as it is in sight
@@ -46,9 +46,9 @@ EndsAs sight effect NotOwner number = (number ≡ 18) × (effect ≡ idle_again 
 EndsAs sight effect TooDeep number = (number ≡ 19) × (effect ≡ idle_again sight TooDeep)
 EndsAs sight effect NoRule number = ⊥
 
-abbrev pub Ends : Sight → Action → ℕ → Type 0
-Ends sight Unruled number = number ≡ 20
-Ends sight (Do effect) number = EndsAs sight effect effect.answer number
+abbrev pub Ends : Sight → Option Effect → ℕ → Type 0
+Ends sight None number = number ≡ 20
+Ends sight (Some effect) number = EndsAs sight effect effect.answer number
 
 -- A rule that is accepted or has no case: 20 is all that it can be refused with.
 abbrev pub Accepts : Answer → Type 0
@@ -59,13 +59,13 @@ Accepts NotOwner = ⊥
 Accepts TooDeep = ⊥
 Accepts NoRule = ⊥
 
-abbrev pub Ordinary : Action → Type 0
-Ordinary Unruled = Unit {0}
-Ordinary (Do effect) = Accepts effect.answer
+abbrev pub Ordinary : Option Effect → Type 0
+Ordinary None = Unit {0}
+Ordinary (Some effect) = Accepts effect.answer
 
-pub ordinary_ends : (sight : Sight) (action : Action) → Ordinary action → Ends sight action (pick (unruled action) 20 0)
-ordinary_ends sight Unruled ordinary = refl
-ordinary_ends sight (Do effect) ordinary = at effect.answer ordinary
+pub ordinary_ends : (sight : Sight) (action : Option Effect) → Ordinary action → Ends sight action (pick (unruled action) 20 0)
+ordinary_ends sight None ordinary = refl
+ordinary_ends sight (Some effect) ordinary = at effect.answer ordinary
   where
     at : (answer : Answer) → Accepts answer → EndsAs sight effect answer 0
     at GoneOn accepts = refl
@@ -76,19 +76,19 @@ ordinary_ends sight (Do effect) ordinary = at effect.answer ordinary
     at NoRule never = absurd never
 
 -- either side of a test
-pub either_ordinary : (test : Bool) (x y : Action) → Ordinary x → Ordinary y → Ordinary (pick test x y)
+pub either_ordinary : (test : Bool) (x y : Option Effect) → Ordinary x → Ordinary y → Ordinary (pick test x y)
 either_ordinary true x y first second = first
 either_ordinary false x y first second = second
 
 module _ (thread : ℕ) (sight : Sight) where
   -- 18, for the rules of the owner, before 20
-  pub owner_ends : (owner : ℕ) (action : Action) → (owner ≡ thread → Ordinary action)
+  pub owner_ends : (owner : ℕ) (action : Option Effect) → (owner ≡ thread → Ordinary action)
       → let decided = owner_only thread sight owner action in
       Ends sight decided (pick (not (eqb owner thread)) 18 (pick (unruled decided) 20 0))
   owner_ends owner action ordinary = at (eqb owner thread) (equal owner thread)
     where
       at : (owns : Bool) → Equal owns owner thread
-          → let decided = pick owns action (Do (idle_again sight NotOwner)) in
+          → let decided = pick owns action (Some (idle_again sight NotOwner)) in
           Ends sight decided (pick (not owns) 18 (pick (unruled decided) 20 0))
       at true same = ordinary_ends sight action (ordinary same)
       at false other = (refl, refl)
@@ -101,7 +101,7 @@ module _ (thread : ℕ) (sight : Sight) where
   go_in_ends some small = at (eqb sight.holder 0) (equal sight.holder 0) (eqb sight.holder thread) (equal sight.holder thread)
     where
       again : (none below? : Bool) → Equal none sight.depth 0 → Below below? sight.depth depth_limit
-          → let decided = pick none Unruled (pick below? (finish_depth sight (sight.depth + 1) 0) (Do (idle_again sight TooDeep))) in
+          → let decided = pick none None (pick below? (finish_depth sight (sight.depth + 1) 0) (Some (idle_again sight TooDeep))) in
           Ends sight decided (pick (eqb sight.depth depth_limit) 19 (pick (unruled decided) 20 0))
       again true below? none low = rw (ne_eqb sight.depth depth_limit (λ full. omega (arith, full, none))) refl
       again false true some low = rw (ne_eqb sight.depth depth_limit (λ full. omega (arith, full, low))) refl

@@ -9,16 +9,16 @@ use Rattle.laws.specs.Choice.{pick}
 use Rattle.lock_word.specs.Meaning.{seen_word, owner_of, depth_of}
 use Rattle.lock_word.proofs.Owning.{owner_owned}
 use Rattle.lock_word.specs.declared.reading.LockWord.{LockWord}
-use Rattle.lock_word.specs.declared.reading.Decoded.TheVariants.{Valid}
+use Rattle.std.specs.Prelude.{Some, Option, None}
 use Rattle.lock_word.specs.Depth.{depth_limit}
 use Rattle.lock_rules.specs.Rules.{owner_seen, owner_only, holder_only, decide, enter_look, enter_store, cancel, enter_check, enter_try}
 use Rattle.lock_rules.specs.Rules.{go_in_again, go_in, exit_go_in}
 use Rattle.lock_rules.specs.Rules.{exit_owned, exit_store, exit_test, exit_tell, exit_leave, wait_owned, wait_inflate, wait_give_up, wait_resume}
 use Rattle.lock_rules.specs.Rules.{notify_owned, notify_all_owned}
 use Rattle.lock_rules.proofs.Each.{Words, each_word}
-use Rattle.lock_rules.specs.declared.{Limit.Limit, Action.Action, Doing.Doing, Sight.Sight}
+use Rattle.lock_rules.specs.declared.Effect.{Effect}
+use Rattle.lock_rules.specs.declared.{Limit.Limit, Doing.Doing, Sight.Sight}
 use Rattle.lock_rules.specs.declared.Limit.TheVariants.{Unlimited, Ticks}
-use Rattle.lock_rules.specs.declared.Action.TheVariants.{Unruled}
 use Rattle.lock_word.specs.declared.meaning.WordSeen.{WordSeen}
 use Rattle.lock_rules.specs.declared.Doing.TheVariants.{EnterLook, EnterStore, EnterCancel, EnterGoIn, EnterCheck, EnterTry, ExitLook}
 use Rattle.lock_rules.specs.declared.Doing.TheVariants.{ExitStore, ExitGoIn, ExitTest, ExitTell, ExitLeave, WaitLook, WaitCancel, WaitGoIn}
@@ -43,7 +43,7 @@ rule_refusals thread operation phase owner monitor none =
     ∷ []
 
 -- the owner by an object's word is the one that the rules see
-owner_is : (word : LockWord) (monitor : Monitor) → (ownership_in (Valid word) monitor).thread ≡ owner_of (seen_word word) monitor.holder monitor.depth
+owner_is : (word : LockWord) (monitor : Monitor) → (ownership_in (Some word) monitor).thread ≡ owner_of (seen_word word) monitor.holder monitor.depth
 unfolding ownership_in
 owner_is word monitor = owner_owned (owner_of (seen_word word) monitor.holder monitor.depth) (depth_of (seen_word word) monitor.depth)
 
@@ -53,7 +53,7 @@ module _ (table : Table) (object : ObjectRecord) (word : LockWord) (thread : ℕ
   sight = sight_at table object word
 
   -- the first of the rows that applies, for a thread with this operation and phase that decides on this, at its object with the owner in sight
-  abbrev rows_first : ℕ → Phase → Action → ℕ
+  abbrev rows_first : ℕ → Phase → Option Effect → ℕ
   rows_first operation phase action = first_applies (rule_refusals thread operation (phase_number phase) (owner_seen sight) object.monitor (unruled action))
 
   -- the record of such a thread, at an object with this owner, ends as its list says
@@ -66,10 +66,10 @@ module _ (table : Table) (object : ObjectRecord) (word : LockWord) (thread : ℕ
       (rule_refusals thread (operation_number own.operation) (phase_number own.phase) owner object.monitor (unruled action)))
 
   -- a rule that goes by the word is accepted or has no case, whatever the word is; the owner's, whatever word has an owner, so that it never says 18
-  by_word : (rule : WordSeen → Action) → Words (λ word. Ordinary (rule word)) → Ordinary (rule sight.word)
+  by_word : (rule : WordSeen → Option Effect) → Words (λ word. Ordinary (rule word)) → Ordinary (rule sight.word)
   by_word rule all = each_word (λ word. Ordinary (rule word)) all sight.word
 
-  by_owned : (rule : WordSeen → Action) → Words (λ word. owner_of word sight.holder sight.depth ≢ 0 → Ordinary (rule word))
+  by_owned : (rule : WordSeen → Option Effect) → Words (λ word. owner_of word sight.holder sight.depth ≢ 0 → Ordinary (rule word))
       → let decided = owner_only thread sight (owner_seen sight) (rule sight.word) in
       Ends sight decided (pick (not (eqb (owner_seen sight) thread)) 18 (pick (unruled decided) 20 0))
   by_owned rule all =
@@ -79,8 +79,8 @@ module _ (table : Table) (object : ObjectRecord) (word : LockWord) (thread : ℕ
   plain : (doing : Doing) → let action = decide thread sight doing in Ordinary action → Ends sight action (pick (unruled action) 20 0)
   plain doing = ordinary_ends sight (decide thread sight doing)
 
-  held : (action : Action) → Ordinary action → Ordinary (holder_only thread sight action)
-  held action ordinary = either_ordinary (eqb sight.holder thread) action Unruled ordinary tt
+  held : (action : Option Effect) → Ordinary action → Ordinary (holder_only thread sight action)
+  held action ordinary = either_ordinary (eqb sight.holder thread) action None ordinary tt
 
   -- the rows of a timed wait are those of a wait
   as_wait : (o : ℕ) (phase : Phase) (saved : ℕ) (limit : Limit) (doing : Doing)
@@ -119,5 +119,5 @@ module _ (table : Table) (object : ObjectRecord) (word : LockWord) (thread : ℕ
   seen_ends o NotifyLook = by_owned (notify_owned sight) (search either_ordinary)
   seen_ends o NotifyAllLook = by_owned (notify_all_owned sight) (search)
 
-  pub decide_ends : (o : ℕ) (doing : Doing) → Decided o (ownership_in (Valid word) object.monitor).thread doing
+  pub decide_ends : (o : ℕ) (doing : Doing) → Decided o (ownership_in (Some word) object.monitor).thread doing
   decide_ends o doing = rw (owner_is word object.monitor) (seen_ends o doing)

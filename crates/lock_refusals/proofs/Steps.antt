@@ -8,11 +8,12 @@ use borrow.Author.Tests.{le-leb}
 use Rattle.laws.specs.Choice.{pick, within}
 use Rattle.laws.proofs.Choice.{split, false≢true}
 use Rattle.lock_word.specs.Read.{read_word}
-use Rattle.lock_word.specs.declared.reading.Decoded.{Decoded}
-use Rattle.lock_word.specs.declared.reading.Decoded.TheVariants.{Valid, Invalid}
+use Rattle.std.specs.Prelude.{Option, Some, None, Result}
+use Rattle.lock_word.specs.declared.reading.LockWord.{LockWord}
 use Rattle.lock_rules.specs.{Numbers.refusal_number, Rules.decide}
 use Rattle.lock_rules.specs.Gate.{is_idle, is_parked, gate, event_thread, event_object}
-use Rattle.lock_rules.specs.declared.event.{Event.Event, Gate.Gate}
+use Rattle.lock_rules.specs.declared.event.Refusal.{Refusal}
+use Rattle.lock_rules.specs.declared.event.{Event.Event}
 use Rattle.lock_rules.specs.declared.event.Event.TheVariants.{Begin, Step, Tick}
 use Rattle.lock_rules.specs.declared.event.ThreadStatus.TheVariants.{Ready}
 use Rattle.lock_rules.specs.declared.event.Refusal.TheVariants.{NotSound}
@@ -61,7 +62,7 @@ module _ (table : Table) (typed : WellTyped table) (sound : sound_of table ≡ t
       (object_at table home).monitor (no_rule table thread (object_at table home) state))
 
   -- a thread that can take a step, by its object's word
-  word_ended : (doing : Doing) (decoded : Decoded) → WordFits table.threadcount home decoded
+  word_ended : (doing : Doing) (decoded : Option LockWord) → WordFits table.threadcount home decoded
       → let written = doing_activity thread home doing in
       let object = object_at table home in
       Ended table (Step thread) (outcome_of table thread home (word_turn thread own object (waiters_of table object) doing decoded))
@@ -69,8 +70,8 @@ module _ (table : Table) (typed : WellTyped table) (sound : sound_of table ≡ t
       (rule_refusals thread (operation_number written.operation) (phase_number written.phase) (ownership_in decoded object.monitor).thread
       object.monitor (no_rule_seeing table thread object doing decoded)))
   unfolding word_turn
-  word_ended doing Invalid never = absurd never
-  word_ended doing (Valid word) fits =
+  word_ended doing None never = absurd never
+  word_ended doing (Some word) fits =
       action_ended table thread word (decide thread (sight_at table (object_at table home) word) doing) _
       (decide_ends table (object_at table home) word thread some (typed.depths home) home doing)
 
@@ -130,7 +131,7 @@ module _ (table : Table) (typed : WellTyped table) where
       let object = object_at table number in
       rw (le-leb table.threadcount thread_limit (sizes table sound).0)
       (by_gate true table.threadcount table.objectcount
-      (λ (gated : Gate). Ended table event (outcome_of table (event_thread event) number (gate_turn gated event own object (waiters_of table object)))
+      (λ (gated : Result (Unit {0}) Refusal). Ended table event (outcome_of table (event_thread event) number (gate_turn gated event own object (waiters_of table object)))
       (by_gate_number gated (first_applies (behind_gate table event))))
       (λ unsound. false≢true (sym unsound))
       (λ refusal is high. subst (λ (outcome : Outcome). Ended table event outcome (refusal_number refusal))

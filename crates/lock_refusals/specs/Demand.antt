@@ -1,12 +1,12 @@
 -- Demand 1 as types: which refusal an event gets, and the table that a refused event gives back; and the same of a fresh table and of the dispatcher.
-use Rattle.std.specs.Prelude.{ℕ, ◌≤◌, ◌≡◌, eqb}
+use Rattle.std.specs.Prelude.{ℕ, ◌≤◌, ◌≡◌, eqb, Err}
 use Rattle.laws.specs.Choice.{pick, either}
 use Rattle.lock_rules.specs.declared.event.Event.{Event}
 use Rattle.lock_rules.specs.declared.event.Event.TheVariants.{Begin, Step, Tick}
 use Rattle.lock_rules.specs.Numbers.{first_refusal}
 use Rattle.lock_table.specs.Record.{idle}
 use Rattle.lock_table.specs.Access.{thread_at, set_thread}
-use Rattle.lock_table.specs.Fresh.{fresh_of, fresh_returned, refused_of}
+use Rattle.lock_table.specs.Fresh.{fresh_of, fresh_returned}
 use Rattle.lock_table.specs.declared.fresh_table.{FreshRequest.FreshRequest, FreshRefusal.FreshRefusal}
 use Rattle.lock_table.specs.declared.record.Table.{Table}
 use Rattle.lock_engine.specs.Outcome.{reply_returned}
@@ -42,8 +42,8 @@ abbrev pub FreshDemand : Type 0
 FreshDemand =
     (request : FreshRequest)
     → let made = fresh_of request in
-    let number = fresh_returned made.answer in
-    RefusedByFirst (fresh_refusals request) number × (first_refusal ≤ number → (refusal : FreshRefusal) × (made ≡ refused_of refusal))
+    let number = fresh_returned made in
+    RefusedByFirst (fresh_refusals request) number × (first_refusal ≤ number → (refusal : FreshRefusal) × (made ≡ Err refusal))
 
 -- every run of the dispatcher: refused, "with table and slice unchanged", and no step taken
 abbrev pub DispatchDemand : Type 0

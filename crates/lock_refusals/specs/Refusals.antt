@@ -1,12 +1,11 @@
 -- The refusals of document 01 ("Returned first") and document 02, as ordered lists of a number and when it applies. They speak of a table's records and
 -- of the rules, and not of the code's gate: that this gives the same is proved.
-use Rattle.std.specs.Prelude.{ℕ, Bool, true, false, not, List, [], ◌∷◌, eqb}
+use Rattle.std.specs.Prelude.{ℕ, Bool, true, false, not, List, [], ◌∷◌, eqb, Option, Some, None}
 use Rattle.laws.specs.Choice.{both, either, within}
 use Rattle.lock_word.specs.Read.{read_word}
 use Rattle.lock_word.specs.Depth.{depth_limit}
 use Rattle.lock_word.specs.Ticks.{tick_limit}
-use Rattle.lock_word.specs.declared.reading.Decoded.{Decoded}
-use Rattle.lock_word.specs.declared.reading.Decoded.TheVariants.{Valid, Invalid}
+use Rattle.lock_word.specs.declared.reading.LockWord.{LockWord}
 use Rattle.lock_rules.specs.Operations.{operation_limit, timed_wait}
 use Rattle.lock_rules.specs.Rules.{decide}
 use Rattle.lock_rules.specs.declared.event.Event.{Event}
@@ -14,8 +13,7 @@ use Rattle.lock_rules.specs.declared.event.Event.TheVariants.{Begin, Step, Tick}
 use Rattle.lock_rules.specs.declared.Doing.{Doing}
 use Rattle.lock_rules.specs.declared.ThreadState.{ThreadState}
 use Rattle.lock_rules.specs.declared.ThreadState.TheVariants.{Idle, Running, Queued, Contending, Waiting}
-use Rattle.lock_rules.specs.declared.Action.{Action}
-use Rattle.lock_rules.specs.declared.Action.TheVariants.{Unruled, Do}
+use Rattle.lock_rules.specs.declared.Effect.{Effect}
 use Rattle.lock_table.specs.Limits.{thread_limit, object_limit}
 use Rattle.lock_table.specs.Operation.{operation_number}
 use Rattle.lock_table.specs.Access.{thread_at, object_at, phase_number_at}
@@ -50,13 +48,13 @@ too_deep thread operation phase monitor =
     both (eqb operation 1) (both (eqb phase 4) (both (eqb monitor.holder thread) (eqb monitor.depth depth_limit)))
 
 -- 20: "the step has no rule", by the rules, for what the thread is doing and what it sees of its object
-abbrev pub unruled : Action → Bool
-unruled Unruled = true
-unruled (Do effect) = false
+abbrev pub unruled : Option Effect → Bool
+unruled None = true
+unruled (Some effect) = false
 
-abbrev pub no_rule_seeing : Table → ℕ → ObjectRecord → Doing → Decoded → Bool
-no_rule_seeing table thread object doing Invalid = false
-no_rule_seeing table thread object doing (Valid word) = unruled (decide thread (sight_at table object word) doing)
+abbrev pub no_rule_seeing : Table → ℕ → ObjectRecord → Doing → Option LockWord → Bool
+no_rule_seeing table thread object doing None = false
+no_rule_seeing table thread object doing (Some word) = unruled (decide thread (sight_at table object word) doing)
 
 abbrev pub no_rule : Table → ℕ → ObjectRecord → ThreadState → Bool
 no_rule table thread object Idle = false

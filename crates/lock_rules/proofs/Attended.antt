@@ -20,7 +20,8 @@ use Rattle.lock_rules.specs.Rules.{onward, owner_seen, owner_only, holder_only, 
 use Rattle.lock_rules.specs.Rules.{go_in_again, go_in, exit_go_in, deflation, exit_owned, exit_store, exit_test, exit_tell, exit_leave, wait_owned}
 use Rattle.lock_rules.specs.Rules.{wait_inflate, wait_give_up, wait_resume, notify_owned, notify_all_owned}
 use Rattle.lock_rules.specs.declared.{OnwardStep.OnwardStep, Doing.Doing, ThreadState.ThreadState, WordChange.WordChange, Sight.Sight}
-use Rattle.lock_rules.specs.declared.{ChainWork.ChainWork, Answer.Answer, Effect.Effect, Action.Action}
+use Rattle.std.specs.Prelude.{Option, Some, None}
+use Rattle.lock_rules.specs.declared.{ChainWork.ChainWork, Answer.Answer, Effect.Effect}
 use Rattle.lock_rules.specs.declared.OnwardStep.TheVariants.{ToCheck, ToTell, ToInflate}
 use Rattle.lock_rules.specs.declared.Doing.TheVariants.{EnterLook, EnterStore, EnterCancel, EnterGoIn, EnterCheck, EnterTry, ExitLook}
 use Rattle.lock_rules.specs.declared.Doing.TheVariants.{ExitStore, ExitGoIn, ExitTest, ExitTell, ExitLeave, WaitLook, WaitCancel, WaitGoIn}
@@ -28,7 +29,6 @@ use Rattle.lock_rules.specs.declared.Doing.TheVariants.{WaitInflate, WaitGiveUp,
 use Rattle.lock_rules.specs.declared.ThreadState.TheVariants.{Idle, Running, Queued, Contending, Waiting}
 use Rattle.lock_rules.specs.declared.Taken.TheVariants.{First, All}
 use Rattle.lock_rules.specs.declared.ChainWork.TheVariants.{Stay, Join, JoinAndHand, Hand, Move, MoveAndLetOut, SendBack}
-use Rattle.lock_rules.specs.declared.Action.TheVariants.{Unruled, Do}
 use Rattle.lock_word.specs.declared.meaning.WordSeen.{WordSeen}
 use Rattle.lock_word.specs.declared.meaning.WordSeen.TheVariants.{Free, Fat, Flat}
 use Rattle.lock_rules.proofs.Each.{each_doing, each_state, each_carried, Words, each_word}
@@ -135,9 +135,9 @@ module _ (thread : ℕ) (states : ℕ → ThreadState) (o : ListObject) where
     pub flag : effect.flag ≡ true → Left flagging doing effect.state
     pub fat : IsFat (seen_after thread effect.word word) → depth_left effect.work effect.depth ≡ 0 → Left entering doing effect.state
 
-  abbrev Attends : WordSeen → Doing → Action → Type 0
-  Attends word doing Unruled = Unit {0}
-  Attends word doing (Do effect) = EffectAttends word doing effect
+  abbrev Attends : WordSeen → Doing → Option Effect → Type 0
+  Attends word doing None = Unit {0}
+  Attends word doing (Some effect) = EffectAttends word doing effect
 
   pub record Known (word : WordSeen) : Type 0 where
     pub flag : o.flag ≡ true → Somebody flagging states
@@ -156,7 +156,7 @@ module _ (thread : ℕ) (states : ℕ → ThreadState) (o : ListObject) where
   module _ (doing : Doing) (neither : Neither doing) (word : WordSeen) (known : Known word) where
     -- a step that leaves the flag, and makes no word fat and no depth 0
     leaves : (effect : Effect) → effect.flag ≡ o.flag
-        → (IsFat (seen_after thread effect.word word) → depth_left effect.work effect.depth ≡ 0 → IsFat word × (o.depth ≡ 0)) → Attends word doing (Do effect)
+        → (IsFat (seen_after thread effect.word word) → depth_left effect.work effect.depth ≡ 0 → IsFat word × (o.depth ≡ 0)) → Attends word doing (Some effect)
     leaves effect same before =
         record {
           flag = λ up. inr (known.flag (sym same ∙ up), neither.0);
@@ -187,21 +187,21 @@ module _ (thread : ℕ) (states : ℕ → ThreadState) (o : ListObject) where
             λ suspension. tt,
           )
 
-  either_attends : (word : WordSeen) (doing : Doing) (test : Bool) (x y : Action) → Attends word doing x → Attends word doing y → Attends word doing (pick test x y)
+  either_attends : (word : WordSeen) (doing : Doing) (test : Bool) (x y : Option Effect) → Attends word doing x → Attends word doing y → Attends word doing (pick test x y)
   either_attends word doing test x y first second = by_test (Attends word doing) test (λ yes. first) (λ no. second)
 
   -- a rule that goes by the word, the owner's, the holder's
-  by_word : (doing : Doing) (rule : WordSeen → Action) → Words (λ word. Known word → Attends word doing (rule word)) → Known o.word
+  by_word : (doing : Doing) (rule : WordSeen → Option Effect) → Words (λ word. Known word → Attends word doing (rule word)) → Known o.word
       → Attends o.word doing (rule o.word)
   by_word doing rule all = each_word (λ word. Known word → Attends word doing (rule word)) all o.word
 
-  by_owned : (doing : Doing) → Neither doing → (rule : WordSeen → Action) → Words (λ word. Known word → Attends word doing (rule word)) → Known o.word
+  by_owned : (doing : Doing) → Neither doing → (rule : WordSeen → Option Effect) → Words (λ word. Known word → Attends word doing (rule word)) → Known o.word
       → Attends o.word doing (owner_only thread sight (owner_seen sight) (rule o.word))
   by_owned doing neither rule all known =
       either_attends o.word doing (eqb (owner_seen sight) thread) _ _ (by_word doing rule all known) (keeps doing neither o.word known _ _ _ _ (λ none. none))
 
-  by_held : (word : WordSeen) (doing : Doing) (action : Action) → Attends word doing action → Attends word doing (holder_only thread sight action)
-  by_held word doing action attends = either_attends word doing (eqb o.holder thread) action Unruled attends tt
+  by_held : (word : WordSeen) (doing : Doing) (action : Option Effect) → Attends word doing action → Attends word doing (holder_only thread sight action)
+  by_held word doing action attends = either_attends word doing (eqb o.holder thread) action None attends tt
 
   -- a step that takes the flag down and leaves a depth above 0
   inflates : (word : WordSeen) (doing : Doing) (depth : ℕ) (state : ThreadState) (answer : Answer) (commits : Bool) → 0 < depth
@@ -330,10 +330,10 @@ module _ (thread : ℕ) (states : ℕ → ThreadState) (o : ListObject) (attende
         rw (update_other (states_after effect.work states now) thread effect.state u other) (lasts _ _ (work_lasts effect.work states now u) is),
       )
 
-  pub performed_attended : (action : Action) → Attends thread states o o.word doing action
+  pub performed_attended : (action : Option Effect) → Attends thread states o o.word doing action
       → Attended (perform thread states o action).states (perform thread states o action).object
-  performed_attended Unruled attends = attended
-  performed_attended (Do effect) attends =
+  performed_attended None attends = attended
+  performed_attended (Some effect) attends =
       let (flag, word, depth) = work_keeps effect.work thread states (effected thread effect o) in
       record {
         flag = λ up. somebody_left flagging (λ before after last. last.flags) effect (attends.flag (sym flag ∙ up));

@@ -3,7 +3,9 @@ use mathlib.Core.Path.{◌≡◌, refl}
 use Rattle.laws.proofs.Choice.{by_equal}
 use Rattle.lock_rules.specs.Rules.{holder_only, enter_check, enter_try, exit_tell, exit_leave, wait_inflate, wait_give_up, wait_resume, decide}
 use Rattle.lock_rules.specs.Operations.{Operation, Enter, Exit, Wait}
-use Rattle.lock_rules.specs.declared.{Doing.Doing, Action.Action}
+use Rattle.std.specs.Prelude.{Option}
+use Rattle.lock_rules.specs.declared.Effect.{Effect}
+use Rattle.lock_rules.specs.declared.{Doing.Doing}
 use Rattle.lock_rules.specs.declared.Doing.TheVariants.{EnterLook, EnterStore, EnterCancel, EnterGoIn, EnterCheck, EnterTry, ExitLook}
 use Rattle.lock_rules.specs.declared.Doing.TheVariants.{ExitStore}
 use Rattle.lock_rules.specs.declared.Doing.TheVariants.{ExitGoIn, ExitTest, ExitTell, ExitLeave, WaitLook, WaitCancel, WaitGoIn, WaitInflate}
@@ -20,7 +22,7 @@ use Rattle.lock_rules.proofs.WaitRules.{wait_inflate_refines, wait_give_up_refin
 
 module _ (actor : Actor) where
   -- a phase that needs the thread as holder has it
-  holder_refines : (operation : Operation) (o : ListObject) (action : Action) → o.holder ≡ actor.thread → Right actor operation o action
+  holder_refines : (operation : Operation) (o : ListObject) (action : Option Effect) → o.holder ≡ actor.thread → Right actor operation o action
       → Right actor operation o (holder_only actor.thread (sight_of o) action)
   holder_refines operation o action q right =
       by_equal (Right actor operation o) o.holder actor.thread

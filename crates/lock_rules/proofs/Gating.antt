@@ -9,12 +9,12 @@ use Rattle.laws.proofs.Choice.{AtMost, at_most, split, by_test, false≢true, pa
 use Rattle.lock_rules.specs.Operations.{operation_limit}
 use Rattle.lock_rules.specs.Numbers.{first_refusal, refusal_number}
 use Rattle.lock_rules.specs.Gate.{first_refusing, is_idle, is_parked, limit_fits, event_rows, gate, event_thread}
-use Rattle.lock_rules.specs.declared.event.{Event.Event, ThreadStatus.ThreadStatus, Refusal.Refusal, Gate.Gate}
+use Rattle.std.specs.Prelude.{Result, Ok, Err}
+use Rattle.lock_rules.specs.declared.event.{Event.Event, ThreadStatus.ThreadStatus, Refusal.Refusal}
 use Rattle.lock_rules.specs.declared.event.Event.TheVariants.{Begin, Step, Tick}
 use Rattle.lock_rules.specs.declared.event.ThreadStatus.TheVariants.{Idle, Ready, Parked}
 use Rattle.lock_rules.specs.declared.event.Refusal.TheVariants.{NotSound, NoSuchThread, NoSuchObject, NotIdle, ThreadIdle, ThreadParked}
 use Rattle.lock_rules.specs.declared.event.Refusal.TheVariants.{NoSuchOperation, LimitOutOfRange}
-use Rattle.lock_rules.specs.declared.event.Gate.TheVariants.{Open, Shut}
 
 -- what the value of `within low high n` says where it is true
 pub within_says : {low high n : ℕ} → within low high n ≡ true → (low ≤ n) × (n ≤ high)
@@ -43,15 +43,15 @@ Passed threads objects (Begin operation thread object limit) status =
 Passed threads objects (Step thread) status = (1 ≤ thread) × (thread ≤ threads) × (status ≡ Ready)
 Passed threads objects Tick status = Unit {0}
 
-module _ (issound : Bool) (threads objects : ℕ) (P : Gate → Type 0) (unsound : issound ≡ false → P (Shut NotSound))
-    (shut : (refusal : Refusal) → issound ≡ true → first_refusal < refusal_number refusal → P (Shut refusal)) where
-  pub by_gate : (event : Event) (status : ThreadStatus) → (issound ≡ true → Passed threads objects event status → P Open)
+module _ (issound : Bool) (threads objects : ℕ) (P : Result (Unit {0}) Refusal → Type 0) (unsound : issound ≡ false → P (Err NotSound))
+    (shut : (refusal : Refusal) → issound ≡ true → first_refusal < refusal_number refusal → P (Err refusal)) where
+  pub by_gate : (event : Event) (status : ThreadStatus) → (issound ≡ true → Passed threads objects event status → P (Ok tt))
       → P (gate issound threads objects event status)
   unfolding refusal_number
   by_gate event status go =
       by_test P (not issound) (λ e. unsound (failed issound e)) (λ s. let sound = passed issound s in of_sound event sound (go sound))
     where
-      of_sound : (event : Event) → issound ≡ true → (Passed threads objects event status → P Open)
+      of_sound : (event : Event) → issound ≡ true → (Passed threads objects event status → P (Ok tt))
           → P (first_refusing (event_rows threads objects event status))
       of_sound (Begin operation thread object limit) sound go =
           by_test P (not (within 1 threads thread)) (λ e. shut NoSuchThread sound (omega arith))

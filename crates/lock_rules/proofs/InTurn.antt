@@ -11,12 +11,13 @@ use Rattle.laws.proofs.Count.{count_none, count_other}
 use Rattle.chains.specs.Chain.{Ahead}
 use Rattle.chains.proofs.{Falling.Falling, Ahead.Rightly, Ahead.ahead_queue, Ahead.ahead_failing}
 use Rattle.chains.specs.declared.named.Chain.{Chain}
-use Rattle.lock_rules.specs.declared.{ThreadState.ThreadState, Doing.Doing, Taken.Taken, ChainWork.ChainWork, Action.Action}
+use Rattle.std.specs.Prelude.{Option, Some, None}
+use Rattle.lock_rules.specs.declared.Effect.{Effect}
+use Rattle.lock_rules.specs.declared.{ThreadState.ThreadState, Doing.Doing, Taken.Taken, ChainWork.ChainWork}
 use Rattle.lock_rules.specs.declared.event.Event.{Event}
 use Rattle.lock_rules.specs.declared.ThreadState.TheVariants.{Running, Queued}
 use Rattle.lock_rules.specs.declared.Taken.TheVariants.{First, All}
 use Rattle.lock_rules.specs.declared.ChainWork.TheVariants.{Stay, Join, JoinAndHand, Hand, Move, MoveAndLetOut, SendBack}
-use Rattle.lock_rules.specs.declared.Action.TheVariants.{Unruled, Do}
 use Rattle.lock_rules.proofs.Changes.{is_queued_exit}
 use Rattle.lock_rules.proofs.Objects.{ListObject}
 use Rattle.lock_rules.proofs.Perform.{enter_queue_all, taken, left, first_of, count_taken, joined_object, handed_object, moved_object, object_after, effected}
@@ -104,10 +105,10 @@ module _ (a threads : ℕ) (states : ℕ → ThreadState) (o : ListObject) (soun
           (p.contention, p.waiting)
 
   -- a step of a thread
-  performed_in_turn : (thread : ℕ) (doing : Doing) → states thread ≡ Running doing → (action : Action) → ActionFine thread o.holder action
+  performed_in_turn : (thread : ℕ) (doing : Doing) → states thread ≡ Running doing → (action : Option Effect) → ActionFine thread o.holder action
       → let after = (perform thread states o action).object in 0 < count a after.entry → InTurn a o after
-  performed_in_turn thread doing running Unruled owes inside = unmoved a o
-  performed_in_turn thread doing running (Do effect) owes inside =
+  performed_in_turn thread doing running None owes inside = unmoved a o
+  performed_in_turn thread doing running (Some effect) owes inside =
       let (ahead, holder) = turned a (effected thread effect o) sound.ordered alone thread other states effect.work o.holder owes.entry inside in
       record { ahead = ahead; holder = onward owes.holder holder }
     where
@@ -117,7 +118,7 @@ module _ (a threads : ℕ) (states : ℕ → ThreadState) (o : ListObject) (soun
           omega (arith, queued, ap (λ k. count k o.entry) e, rw running at out)
 
       onward : (effect.holder ≡ o.holder) ⊎ ((effect.holder ≡ thread) × (o.holder ≡ 0))
-          → let after = (perform thread states o (Do effect)).object in
+          → let after = (perform thread states o (Some effect)).object in
           (after.holder ≡ effect.holder) ⊎ Ahead after.holder a o.entry → (after.holder ≡ o.holder) ⊎ Ahead after.holder a o.entry
       onward (inl same) (inl e) = inl (e ∙ same)
       onward (inr (e, free)) (inl is) = absurd (held free)
@@ -140,9 +141,9 @@ ranks_after (Move from which) thread states o = each_chain (λ c. (moved_object 
 ranks_after MoveAndLetOut thread states o = refl
 ranks_after (SendBack u) thread states o = refl
 
-ranks_performed : (thread : ℕ) (states : ℕ → ThreadState) (o : ListObject) (action : Action) → (perform thread states o action).object.rank ≡ o.rank
-ranks_performed thread states o Unruled = refl
-ranks_performed thread states o (Do effect) = ranks_after effect.work thread states (effected thread effect o)
+ranks_performed : (thread : ℕ) (states : ℕ → ThreadState) (o : ListObject) (action : Option Effect) → (perform thread states o action).object.rank ≡ o.rank
+ranks_performed thread states o None = refl
+ranks_performed thread states o (Some effect) = ranks_after effect.work thread states (effected thread effect o)
 
 ranks_ticked : (states : ℕ → ThreadState) (o : ListObject) → (tick_at states o).object.rank ≡ o.rank
 ranks_ticked states o = by_tick states o (λ result. result.object.rank ≡ o.rank) refl (λ free. refl) (λ held. refl)

@@ -13,12 +13,13 @@ use Rattle.laws.proofs.Update.{update_other}
 use Rattle.chains.specs.declared.named.Chain.{Chain}
 use Rattle.lock_rules.specs.Rules.{decide}
 use Rattle.lock_rules.specs.Feed.{OperationLog, Plain, feed, LetOutRight}
-use Rattle.lock_rules.specs.declared.{Doing.Doing, ThreadState.ThreadState, ChainWork.ChainWork, Action.Action}
+use Rattle.std.specs.Prelude.{Option, Some, None}
+use Rattle.lock_rules.specs.declared.Effect.{Effect}
+use Rattle.lock_rules.specs.declared.{Doing.Doing, ThreadState.ThreadState, ChainWork.ChainWork}
 use Rattle.lock_rules.specs.declared.OnwardStep.TheVariants.{ToTell}
 use Rattle.lock_rules.specs.declared.ThreadState.TheVariants.{Idle, Running, Queued, Contending, Waiting}
 use Rattle.lock_rules.specs.declared.Taken.TheVariants.{First, All}
 use Rattle.lock_rules.specs.declared.ChainWork.TheVariants.{Stay, Join, JoinAndHand, Hand, Move, MoveAndLetOut, SendBack}
-use Rattle.lock_rules.specs.declared.Action.TheVariants.{Unruled, Do}
 use Rattle.lock_rules.specs.declared.event.Event.{Event}
 use Rattle.lock_rules.specs.declared.event.Event.TheVariants.{Step}
 use Rattle.lock_rules.proofs.Each.{each_state, each_carried}
@@ -70,9 +71,9 @@ module _ (states : ℕ → ThreadState) (t : ℕ) (busy : T (unfinished (states 
       λ idle. moved_from states t o.contention (let_out_exit (moved_states Chain.Contention All states o t) (quiet_busy (changed_quiet moved moved_quiet states o.contention t) busy) idle)
   work_ends (SendBack u) o = busy≢idle _ (quiet_busy (changed_quiet sent_back sent_back_quiet states (u ∷ []) t) busy)
 
-  step_ends : (thread : ℕ) (o : ListObject) (action : Action) → t ≢ thread → (perform thread states o action).states t ≡ Idle → T (is_queued_exit (states t))
-  step_ends thread o Unruled other idle = busy≢idle (states t) busy idle
-  step_ends thread o (Do effect) other idle =
+  step_ends : (thread : ℕ) (o : ListObject) (action : Option Effect) → t ≢ thread → (perform thread states o action).states t ≡ Idle → T (is_queued_exit (states t))
+  step_ends thread o None other idle = busy≢idle (states t) busy idle
+  step_ends thread o (Some effect) other idle =
       work_ends effect.work (effected thread effect o)
       (sym (update_other (states_after effect.work states (effected thread effect o)) thread effect.state t other) ∙ idle)
 

@@ -11,11 +11,11 @@ use Rattle.chains.proofs.Queue.{queue_by, count_queue}
 use Rattle.chains.proofs.Falling.{Falling, by_rank, falling_queue}
 use Rattle.chains.specs.declared.named.Chain.{Chain}
 use Rattle.lock_rules.proofs.Changes.{seen_after, handed, moved, is_queued_exit, let_out_state, sent_back}
-use Rattle.lock_rules.specs.declared.{ThreadState.ThreadState, Taken.Taken, ChainWork.ChainWork, Answer.Answer, Effect.Effect, Action.Action}
+use Rattle.std.specs.Prelude.{Option, Some, None}
+use Rattle.lock_rules.specs.declared.{ThreadState.ThreadState, Taken.Taken, ChainWork.ChainWork, Answer.Answer, Effect.Effect}
 use Rattle.lock_rules.specs.declared.Taken.TheVariants.{First, All}
 use Rattle.lock_rules.specs.declared.ChainWork.TheVariants.{Stay, Join, JoinAndHand, Hand, Move, MoveAndLetOut, SendBack}
 use Rattle.lock_rules.specs.declared.Answer.TheVariants.{NoRule}
-use Rattle.lock_rules.specs.declared.Action.TheVariants.{Unruled, Do}
 use Rattle.lock_rules.specs.PlainMonitor.{above_zero}
 use Rattle.lock_rules.proofs.Objects.{ListObject, with_word, with_flag, with_holder, with_depth, with_entry, chain_of, with_chain}
 
@@ -165,9 +165,9 @@ pub record Performed : Type 0 where
   pub answer : Answer
   pub commits : Bool
 
-abbrev pub perform : ℕ → (ℕ → ThreadState) → ListObject → Action → Performed
-perform thread states o Unruled = record { states = states; object = o; answer = NoRule; commits = false }
-perform thread states o (Do effect) =
+abbrev pub perform : ℕ → (ℕ → ThreadState) → ListObject → Option Effect → Performed
+perform thread states o None = record { states = states; object = o; answer = NoRule; commits = false }
+perform thread states o (Some effect) =
     record {
       states = update (states_after effect.work states (effected thread effect o)) thread effect.state;
       object = object_after effect.work thread states (effected thread effect o);
@@ -175,6 +175,6 @@ perform thread states o (Do effect) =
       commits = effect.commits;
     }
 
-abbrev pub action_unparks : ℕ → (ℕ → ThreadState) → ListObject → Action → ℕ → Bool
-action_unparks thread states o Unruled t = false
-action_unparks thread states o (Do effect) t = unparks effect.work states (effected thread effect o) t
+abbrev pub action_unparks : ℕ → (ℕ → ThreadState) → ListObject → Option Effect → ℕ → Bool
+action_unparks thread states o None t = false
+action_unparks thread states o (Some effect) t = unparks effect.work states (effected thread effect o) t

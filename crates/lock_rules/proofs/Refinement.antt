@@ -8,7 +8,9 @@ use lib.Dec.{T}
 use Rattle.laws.specs.{Choice.pick, Update.update}
 use Rattle.laws.proofs.Update.{update_other}
 use Rattle.lock_rules.specs.Operations.{Operation}
-use Rattle.lock_rules.specs.declared.{Limit.Limit, Suspension.Suspension, Doing.Doing, ThreadState.ThreadState, Answer.Answer, Action.Action}
+use Rattle.std.specs.Prelude.{Option}
+use Rattle.lock_rules.specs.declared.Effect.{Effect}
+use Rattle.lock_rules.specs.declared.{Limit.Limit, Suspension.Suspension, Doing.Doing, ThreadState.ThreadState, Answer.Answer}
 use Rattle.lock_rules.specs.declared.ThreadState.TheVariants.{Idle, Running}
 use Rattle.lock_rules.specs.declared.Answer.TheVariants.{GoneOn}
 use Rattle.lock_rules.specs.PlainMonitor.{PlainMonitor, Committed, unowned, commit}
@@ -44,7 +46,7 @@ abbrev pub plain_at : Actor → ListObject → PlainMonitor
 plain_at actor o = monitor_of o actor.ghost
 
 -- what is to be shown of an action
-abbrev pub Right : Actor → Operation → ListObject → Action → Type 0
+abbrev pub Right : Actor → Operation → ListObject → Option Effect → Type 0
 Right actor operation o action = Refines actor.thread operation actor.states o actor.ghost (perform actor.thread actor.states o action)
 
 -- two phases that sit alike, and whose operation has committed and saved alike

@@ -15,7 +15,8 @@ use Rattle.lock_rules.specs.Rules.{owner_seen, owner_only}
 use Rattle.lock_rules.proofs.Changes.{seen_after, handed, moved, is_queued_exit, let_out_state}
 use Rattle.lock_rules.specs.Operations.{Operation}
 use Rattle.lock_rules.specs.declared.{Suspension.Suspension, Doing.Doing, ThreadState.ThreadState, WordChange.WordChange, Answer.Answer}
-use Rattle.lock_rules.specs.declared.{Action.Action}
+use Rattle.std.specs.Prelude.{Option}
+use Rattle.lock_rules.specs.declared.Effect.{Effect}
 use Rattle.lock_rules.specs.declared.ThreadState.TheVariants.{Idle, Running}
 use Rattle.lock_word.specs.declared.meaning.WordSeen.TheVariants.{Fat}
 use Rattle.lock_rules.specs.declared.Taken.TheVariants.{First, All}
@@ -165,7 +166,7 @@ module _ (actor : Actor) where
       })
 
   -- exit, wait or notify: 18, unless the thread is the owner
-  pub owner_only_refines : (operation : Operation) (o : ListObject) (doing : Doing) (action : Action) → T (owner_operation operation) → Stepping actor doing o
+  pub owner_only_refines : (operation : Operation) (o : ListObject) (doing : Doing) (action : Option Effect) → T (owner_operation operation) → Stepping actor doing o
       → (T (telling? (phase_row doing).seat) → ⊥) → Seated outside actor.thread o.holder o.depth → actor.ghost.woken actor.thread ≡ false
       → (actor.ghost.logs actor.thread).commits ≡ 0 → (object_owner o ≡ actor.thread → Right actor operation o action)
       → Right actor operation o (owner_only actor.thread (sight_of o) (owner_seen (sight_of o)) action)

@@ -10,7 +10,7 @@ use Rattle.lock_rules.specs.declared.{Limit.Limit, Doing.Doing, ThreadState.Thre
 use Rattle.lock_rules.specs.declared.ThreadState.TheVariants.{Idle, Running, Queued, Contending, Waiting}
 use Rattle.lock_rules.specs.declared.event.Event.{Event}
 use Rattle.lock_rules.specs.declared.event.Event.TheVariants.{Begin, Step, Tick}
-use Rattle.lock_rules.specs.declared.event.Gate.TheVariants.{Open}
+use Rattle.std.specs.Prelude.{Ok}
 use Rattle.lock_rules.proofs.Gating.{Passed, within_says, by_gate, gate_same}
 use Rattle.lock_rules.proofs.TableKinds.{TurnOf, Kind, status_of, status_idle, begin_asked, step_thread, through, turn_on, final_on, shown_on}
 use Rattle.lock_rules.proofs.Tables.{ListTable, begin_at, step_at, tick_all, tick_all_unparks, list_kind, turn, final, shown}
@@ -59,7 +59,7 @@ module _ (kind : Kind) (threads objects : ℕ) (R : kind.Table → ListTable →
         running thread (Waiting suspension) is low high = (r, refl, λ n. refl)
 
         at : (event : Event) → Passed threads objects event (status_of (table.threads (event_thread event)).state)
-            → SameTurn (through kind Open x event) (through list_kind Open table event)
+            → SameTurn (through kind (Ok tt) x event) (through list_kind (Ok tt) table event)
         at (Begin number thread object limit) (low, high, operation, real, small, idle, fits) =
             known thread object (asked_for number limit) low high real small (status_idle (table.threads thread).state idle)
         at (Step thread) (low, high, ready) =

@@ -16,7 +16,8 @@ use Rattle.lock_rules.specs.Rules.{onward, owner_seen, enter_look, exit_owned, w
 use Rattle.lock_rules.specs.Rules.{enter_store, exit_store, cancel, go_in_again, go_in, exit_go_in, holder_only, enter_check, enter_try, exit_test}
 use Rattle.lock_rules.specs.Rules.{exit_tell, exit_leave, wait_inflate, wait_give_up, wait_resume, decide}
 use Rattle.lock_rules.specs.declared.{OnwardStep.OnwardStep, Doing.Doing, ThreadState.ThreadState, WordChange.WordChange, Sight.Sight}
-use Rattle.lock_rules.specs.declared.{ChainWork.ChainWork, Answer.Answer, Effect.Effect, Action.Action}
+use Rattle.std.specs.Prelude.{Option, Some, None}
+use Rattle.lock_rules.specs.declared.{ChainWork.ChainWork, Answer.Answer, Effect.Effect}
 use Rattle.lock_rules.specs.declared.OnwardStep.TheVariants.{ToCheck, ToTell, ToInflate}
 use Rattle.lock_rules.specs.declared.Doing.TheVariants.{EnterLook, EnterStore, EnterCancel, EnterGoIn, EnterCheck, EnterTry, ExitLook}
 use Rattle.lock_rules.specs.declared.Doing.TheVariants.{ExitStore}
@@ -28,7 +29,6 @@ use Rattle.lock_word.specs.declared.meaning.WordSeen.TheVariants.{Fat, Reserved}
 use Rattle.lock_rules.specs.declared.WordChange.TheVariants.{Unchanged, Freed, OwnFlat, OwnReserved, Cancelled, Inflated}
 use Rattle.lock_rules.specs.declared.ChainWork.TheVariants.{Stay, Join, JoinAndHand, Hand, Move, MoveAndLetOut, SendBack}
 use Rattle.lock_rules.specs.declared.Answer.TheVariants.{GoneOn, Finished, Parked, NotOwner, TooDeep, NoRule}
-use Rattle.lock_rules.specs.declared.Action.TheVariants.{Unruled, Do}
 use Rattle.lock_rules.proofs.Status.{unparked, Runs}
 use Rattle.lock_rules.proofs.Invariant.{in_entry, in_contention, in_waiting}
 use Rattle.lock_rules.proofs.SharedFacts.{fat_owned, reserved_owned}
@@ -96,9 +96,9 @@ pub record EffectFine (thread was : ℕ) (effect : Effect) : Type 0 where
   pub holder : (effect.holder ≡ was) ⊎ ((effect.holder ≡ thread) × (was ≡ 0))
   pub answers : Answers effect.answer effect.state
 
-abbrev pub ActionFine : ℕ → ℕ → Action → Type 0
-ActionFine thread was Unruled = Unit {0}
-ActionFine thread was (Do effect) = EffectFine thread was effect
+abbrev pub ActionFine : ℕ → ℕ → Option Effect → Type 0
+ActionFine thread was None = Unit {0}
+ActionFine thread was (Some effect) = EffectFine thread was effect
 
 -- either way of a test whose outcome does not matter
 pub either_way : {A : Type 0} (P : A → Type 0) (b : Bool) {x y : A} → P x → P y → P (pick b x y)
@@ -106,7 +106,7 @@ either_way P true p q = p
 either_way P false p q = q
 
 module _ (threads thread : ℕ) (sight : Sight) (real : thread ≢ 0) (deep : sight.depth ≤ depth_limit) (shallow : sight.holder ≡ 0 → sight.depth ≡ 0) where
-  abbrev Fine : Action → Type 0
+  abbrev Fine : Option Effect → Type 0
   Fine action = ActionFine thread sight.holder action
 
   word_fine : (change : WordChange) → ChangeFine change → Fine (finish_word sight change)
@@ -117,20 +117,20 @@ module _ (threads thread : ℕ) (sight : Sight) (real : thread ≢ 0) (deep : si
   inflate_fine depth state answer commits low held fine none answers = search (inl, arith)
 
   -- either way of a test, with what it says where that matters
-  either_fine : (test : Bool) (x y : Action) → Fine x → Fine y → Fine (pick test x y)
+  either_fine : (test : Bool) (x y : Option Effect) → Fine x → Fine y → Fine (pick test x y)
   either_fine test x y = either_way Fine test
 
-  below_fine : (a b : ℕ) (x y : Action) → (a < b → Fine x) → (b ≤ a → Fine y) → Fine (pick (ltb a b) x y)
+  below_fine : (a b : ℕ) (x y : Option Effect) → (a < b → Fine x) → (b ≤ a → Fine y) → Fine (pick (ltb a b) x y)
   below_fine a b x y = by_below Fine a b
 
-  equal_fine : (a b : ℕ) (x y : Action) → (a ≡ b → Fine x) → (a ≢ b → Fine y) → Fine (pick (eqb a b) x y)
+  equal_fine : (a b : ℕ) (x y : Option Effect) → (a ≡ b → Fine x) → (a ≢ b → Fine y) → Fine (pick (eqb a b) x y)
   equal_fine a b x y = by_equal Fine a b
 
   -- a rule that goes by the word, the owner's, the holder's
-  by_word : (rule : WordSeen → Action) → Words (λ word. WordFine threads word → Fine (rule word)) → WordFine threads sight.word → Fine (rule sight.word)
+  by_word : (rule : WordSeen → Option Effect) → Words (λ word. WordFine threads word → Fine (rule word)) → WordFine threads sight.word → Fine (rule sight.word)
   by_word rule all = each_word (λ word. WordFine threads word → Fine (rule word)) all sight.word
 
-  by_owned : (rule : WordSeen → Action)
+  by_owned : (rule : WordSeen → Option Effect)
       → Words (λ word. WordFine threads word → owner_of word sight.holder sight.depth ≡ thread → Fine (rule word))
       → WordFine threads sight.word → Fine (owner_only thread sight (owner_seen sight) (rule sight.word))
   by_owned rule all fine =
@@ -138,7 +138,7 @@ module _ (threads thread : ℕ) (sight : Sight) (real : thread ≢ 0) (deep : si
       (each_word (λ word. WordFine threads word → owner_of word sight.holder sight.depth ≡ thread → Fine (rule word)) all sight.word fine)
       (search inl)
 
-  by_held : (action : Action) → (sight.holder ≢ 0 → Fine action) → Fine (holder_only thread sight action)
+  by_held : (action : Option Effect) → (sight.holder ≢ 0 → Fine action) → Fine (holder_only thread sight action)
   by_held action fine = by_equal Fine sight.holder thread (λ e. fine (λ q. real (sym e ∙ q))) (λ e. tt)
 
   -- the owner of a fat word holds the monitor, and that of a reserved one has a count above 0

@@ -17,14 +17,14 @@ use Rattle.lock_word.specs.Depth.{depth_limit}
 use Rattle.lock_rules.proofs.Changes.{seen_after, handed, moved, is_queued_exit, let_out_state, look_again, sent_back}
 use Rattle.lock_rules.specs.declared.Limit.TheVariants.{Unlimited, Ticks}
 use Rattle.lock_rules.specs.declared.{Limit.Limit, Doing.Doing, ThreadState.ThreadState, WordChange.WordChange, Taken.Taken, ChainWork.ChainWork}
-use Rattle.lock_rules.specs.declared.{Action.Action}
+use Rattle.std.specs.Prelude.{Option, Some, None}
+use Rattle.lock_rules.specs.declared.Effect.{Effect}
 use Rattle.lock_rules.specs.declared.ThreadState.TheVariants.{Idle, Running}
 use Rattle.lock_word.specs.declared.meaning.WordSeen.{WordSeen}
 use Rattle.lock_word.specs.declared.meaning.WordSeen.TheVariants.{Free, Anonymous, Fat, Flat, Reserved}
 use Rattle.lock_rules.specs.declared.WordChange.TheVariants.{Unchanged, Freed, OwnFlat, OwnReserved, Cancelled, Inflated}
 use Rattle.lock_rules.specs.declared.Taken.TheVariants.{First, All}
 use Rattle.lock_rules.specs.declared.ChainWork.TheVariants.{Stay, Join, JoinAndHand, Hand, Move, MoveAndLetOut, SendBack}
-use Rattle.lock_rules.specs.declared.Action.TheVariants.{Unruled, Do}
 use Rattle.lock_rules.proofs.Each.{each_doing, each_state, each_chain}
 use Rattle.lock_rules.proofs.Objects.{ListObject, chain_of, empty}
 use Rattle.lock_rules.proofs.Perform.{count_join, taking, taken, left, count_taken, first_of, changed_states, changed_so, joined_object, handed_object}
@@ -226,16 +226,16 @@ ordered_after (SendBack u) thread states o falls = falls
 module _ (threads thread : ℕ) (states : ℕ → ThreadState) (o : ListObject) (sound : SoundObject threads states o) (doing : Doing)
     (running : states thread ≡ Running doing)
     (real : 0 < thread) (low : thread ≤ threads) where
-  pub performed_idle : (action : Action) (t : ℕ) → t ≢ thread → states t ≡ Idle → (perform thread states o action).states t ≡ Idle
-  performed_idle Unruled t n e = e
-  performed_idle (Do effect) t n e =
+  pub performed_idle : (action : Option Effect) (t : ℕ) → t ≢ thread → states t ≡ Idle → (perform thread states o action).states t ≡ Idle
+  performed_idle None t n e = e
+  performed_idle (Some effect) t n e =
       update_other (states_after effect.work states (effected thread effect o)) thread effect.state t n
       ∙ idle_after effect.work states (effected thread effect o) t e
 
-  pub performed_fine : (action : Action) → ActionFine thread o.holder action → ((t : ℕ) → StateFine (states t)) → (t : ℕ)
+  pub performed_fine : (action : Option Effect) → ActionFine thread o.holder action → ((t : ℕ) → StateFine (states t)) → (t : ℕ)
       → StateFine ((perform thread states o action).states t)
-  performed_fine Unruled owes fine t = fine t
-  performed_fine (Do effect) owes fine t =
+  performed_fine None owes fine t = fine t
+  performed_fine (Some effect) owes fine t =
       update_fine (states_after effect.work states (effected thread effect o)) (states_after_fine states fine effect.work
       (effected thread effect o)) thread
       effect.state owes.state t
@@ -244,16 +244,16 @@ module _ (threads thread : ℕ) (states : ℕ → ThreadState) (o : ListObject) 
   holder_low holder (inl e) = omega (arith, e, sound.holder)
   holder_low holder (inr (e, free)) = omega (arith, e, low)
 
-  pub performed_sound : (action : Action) → ActionFine thread o.holder action → ((t : ℕ) → 0 < count t o.entry → (0 < t) × (t ≤ threads))
+  pub performed_sound : (action : Option Effect) → ActionFine thread o.holder action → ((t : ℕ) → 0 < count t o.entry → (0 < t) × (t ≤ threads))
       → SoundObject threads (perform thread states o action).states (perform thread states o action).object
-  performed_sound Unruled owes members = sound
-  performed_sound (Do effect) owes members =
+  performed_sound None owes members = sound
+  performed_sound (Some effect) owes members =
       let (word, holder, deep, shallow, empty) =
       whole_after threads effect.work thread o.holder states (effected thread effect o) members sound.empty owes.entry
       (word_after_fine threads thread real low effect.word o.word owes.word sound.word) (holder_low effect.holder owes.holder) owes.deep
       owes.shallow in
       record {
-        nobody = performed_idle (Do effect) 0 (λ e. omega (arith, real, e)) sound.nobody;
+        nobody = performed_idle (Some effect) 0 (λ e. omega (arith, real, e)) sound.nobody;
         placed = λ t. at t (equal? t thread);
         word = word;
         holder = holder;

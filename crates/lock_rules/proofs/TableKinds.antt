@@ -9,11 +9,11 @@ use Rattle.lock_rules.specs.Numbers.{asked_for, first_refusal, refusal_number}
 use Rattle.lock_rules.specs.Operations.{Operation, Asked, Unknown, Known}
 use Rattle.lock_rules.specs.declared.{Limit.Limit, Doing.Doing, ThreadState.ThreadState}
 use Rattle.lock_rules.specs.declared.ThreadState.TheVariants.{Idle, Running, Queued, Contending, Waiting}
-use Rattle.lock_rules.specs.declared.event.{Event.Event, ThreadStatus.ThreadStatus, Refusal.Refusal, Gate.Gate}
+use Rattle.std.specs.Prelude.{Result, Ok, Err}
+use Rattle.lock_rules.specs.declared.event.{Event.Event, ThreadStatus.ThreadStatus, Refusal.Refusal}
 use Rattle.lock_rules.specs.declared.event.Event.TheVariants.{Begin, Step, Tick}
 use Rattle.lock_rules.specs.declared.event.ThreadStatus.TheVariants.{Idle as IdleThread, Ready, Parked}
 use Rattle.lock_rules.specs.declared.event.Refusal.TheVariants.{ThreadIdle, ThreadParked, NoSuchOperation}
-use Rattle.lock_rules.specs.declared.event.Gate.TheVariants.{Open, Shut}
 use Rattle.lock_rules.specs.Gate.{is_idle, limit_fits, gate, event_thread}
 use Rattle.lock_rules.specs.Events.{Reply, Accepted, Refused, Shown}
 use Rattle.lock_rules.proofs.Each.{each_state}
@@ -56,11 +56,11 @@ module _ (kind : Kind) where
   step_thread table thread Contending = refuse table (refusal_number ThreadParked)
   step_thread table thread (Waiting suspension) = refuse table (refusal_number ThreadParked)
 
-  abbrev pub through : Gate → kind.Table → Event → TurnOf kind.Table
-  through Open table (Begin number thread object limit) = begin_asked table (asked_for number limit) thread object
-  through Open table (Step thread) = step_thread table thread (kind.state table thread)
-  through Open table Tick = record { table = kind.ticks table; reply = Accepted; unparked = kind.unparks table }
-  through (Shut refusal) table event = refuse table (refusal_number refusal)
+  abbrev pub through : Result (Unit {0}) Refusal → kind.Table → Event → TurnOf kind.Table
+  through (Ok _) table (Begin number thread object limit) = begin_asked table (asked_for number limit) thread object
+  through (Ok _) table (Step thread) = step_thread table thread (kind.state table thread)
+  through (Ok _) table Tick = record { table = kind.ticks table; reply = Accepted; unparked = kind.unparks table }
+  through (Err refusal) table event = refuse table (refusal_number refusal)
 
   -- `threads` and `objects` are the sizes of a sound table
   abbrev pub turn_on : ℕ → ℕ → kind.Table → Event → TurnOf kind.Table
@@ -114,7 +114,7 @@ module _ (kind : Kind) (threads objects : ℕ) (table : kind.Table) (P : Event �
       running thread Contending is low high = refused (Step thread) ThreadParked (omega arith)
       running thread (Waiting suspension) is low high = refused (Step thread) ThreadParked (omega arith)
 
-      through_open : (event : Event) → Passed threads objects event (status_of (kind.state table (event_thread event))) → P event (through kind Open table event)
+      through_open : (event : Event) → Passed threads objects event (status_of (kind.state table (event_thread event))) → P event (through kind (Ok tt) table event)
       through_open (Begin number thread object limit) (low, high, operation, real, small, idle, fits) =
           known number limit thread object (asked_for number limit) refl fits low high real small (status_idle (kind.state table thread) idle)
       through_open (Step thread) (low, high, ready) = running thread (kind.state table thread) refl low high

@@ -9,7 +9,9 @@ use borrow.Author.Tests.{eq-eqb, ne_eqb}
 use Rattle.laws.specs.{Choice.pick, Update.update}
 use Rattle.lock_rules.specs.Rules.{decide, begun}
 use Rattle.lock_rules.specs.Operations.{Operation}
-use Rattle.lock_rules.specs.declared.{Limit.Limit, Doing.Doing, ThreadState.ThreadState, Action.Action}
+use Rattle.std.specs.Prelude.{Option}
+use Rattle.lock_rules.specs.declared.Effect.{Effect}
+use Rattle.lock_rules.specs.declared.{Limit.Limit, Doing.Doing, ThreadState.ThreadState}
 use Rattle.lock_rules.specs.declared.ThreadState.TheVariants.{Idle, Running}
 use Rattle.lock_word.specs.declared.meaning.WordSeen.{WordSeen}
 use Rattle.lock_word.specs.declared.meaning.WordSeen.TheVariants.{Free, Anonymous}
@@ -44,13 +46,13 @@ put_back table o performed =
       objects = update table.objects o performed.object;
     }
 
-abbrev pub decide_at : ListTable → ℕ → ℕ → Doing → Action
+abbrev pub decide_at : ListTable → ℕ → ℕ → Doing → Option Effect
 decide_at table o thread doing = decide thread (sight_of (table.objects o)) doing
 
 abbrev pub perform_at : ListTable → ℕ → ℕ → Doing → Performed
 perform_at table o thread doing = perform thread (states_at table o) (table.objects o) (decide_at table o thread doing)
 
-abbrev pub acted_at : ListTable → ℕ → ℕ → Action → TurnOf ListTable
+abbrev pub acted_at : ListTable → ℕ → ℕ → Option Effect → TurnOf ListTable
 acted_at table o thread action =
     let performed = perform thread (states_at table o) (table.objects o) action in
     record {

@@ -19,11 +19,12 @@ use Rattle.lock_rules.specs.Operations.{Operation}
 use Rattle.lock_rules.specs.Events.{Reply, Accepted, Refused, Answered, returned}
 use Rattle.lock_rules.specs.declared.event.{Event.Event, Refusal.Refusal}
 use Rattle.lock_rules.specs.declared.event.Event.TheVariants.{Begin, Step, Tick}
-use Rattle.lock_rules.specs.declared.{Limit.Limit, Doing.Doing, ThreadState.ThreadState, ChainWork.ChainWork, Action.Action}
+use Rattle.std.specs.Prelude.{Option, Some, None}
+use Rattle.lock_rules.specs.declared.Effect.{Effect}
+use Rattle.lock_rules.specs.declared.{Limit.Limit, Doing.Doing, ThreadState.ThreadState, ChainWork.ChainWork}
 use Rattle.lock_rules.specs.declared.ThreadState.TheVariants.{Idle, Running}
 use Rattle.lock_rules.specs.declared.Taken.TheVariants.{First, All}
 use Rattle.lock_rules.specs.declared.ChainWork.TheVariants.{Stay, Join, JoinAndHand, Hand, Move, MoveAndLetOut, SendBack}
-use Rattle.lock_rules.specs.declared.Action.TheVariants.{Unruled, Do}
 use Rattle.lock_rules.proofs.Each.{each_state, each_carried}
 use Rattle.lock_rules.proofs.Changes.{moved, is_queued_exit, let_out_state, sent_back}
 use Rattle.lock_rules.proofs.Status.{unparked, unfinished, Runs}
@@ -90,18 +91,18 @@ work_passed states o t placed MoveAndLetOut =
 work_passed states o t placed (SendBack u) = quiet_passed (changed_quiet sent_back sent_back_quiet states (u ∷ []) t)
 
 -- a rule, at its object, for every thread but the one that steps
-acted_passed : (thread : ℕ) (states : ℕ → ThreadState) (o : ListObject) (t : ℕ) → PlacedAt t (states t) o → t ≢ thread → (action : Action)
+acted_passed : (thread : ℕ) (states : ℕ → ThreadState) (o : ListObject) (t : ℕ) → PlacedAt t (states t) o → t ≢ thread → (action : Option Effect)
     → Passed (action_unparks thread states o action t) (states t) ((perform thread states o action).states t)
-acted_passed thread states o t placed other Unruled = quiet_passed (same_quiet (states t))
-acted_passed thread states o t placed other (Do effect) =
+acted_passed thread states o t placed other None = quiet_passed (same_quiet (states t))
+acted_passed thread states o t placed other (Some effect) =
     let now = effected thread effect o in
     rw (update_other (states_after effect.work states now) thread effect.state t other) (work_passed states now t placed effect.work)
 
 -- that one was not parked, so it is not in the set
-own_unnamed : (thread : ℕ) (states : ℕ → ThreadState) (o : ListObject) → PlacedAt thread (states thread) o → T (unparked (states thread)) → (action : Action)
+own_unnamed : (thread : ℕ) (states : ℕ → ThreadState) (o : ListObject) → PlacedAt thread (states thread) o → T (unparked (states thread)) → (action : Option Effect)
     → action_unparks thread states o action thread ≡ false
-own_unnamed thread states o placed free Unruled = refl
-own_unnamed thread states o placed free (Do effect) =
+own_unnamed thread states o placed free None = refl
+own_unnamed thread states o placed free (Some effect) =
     let now = effected thread effect o in
     (work_passed states now thread placed effect.work).names ∙ unnamed (unparked (states thread)) _ free
   where
@@ -186,13 +187,13 @@ module _ (threads objects : ℕ) (table : ListTable) (sound : SoundTable threads
     here : states t ≡ Running doing
     here = seen_here home (table.threads t) refl ∙ running
 
-    own_answers : (action : Action) → ActionFine t object.holder action
+    own_answers : (action : Option Effect) → ActionFine t object.holder action
         → OwnTurned (Step t) (acted_at table home t action).reply ((perform t states object action).states t)
-    own_answers Unruled fine = rw here (tt, tt)
-    own_answers (Do effect) fine =
+    own_answers None fine = rw here (tt, tt)
+    own_answers (Some effect) fine =
         rw (update_same (states_after effect.work states (effected t effect object)) t effect.state) fine.answers
 
-    own_turned : n ≡ t → (action : Action) → ActionFine t object.holder action → TurnedBy (Step t) (acted_at table home t action)
+    own_turned : n ≡ t → (action : Option Effect) → ActionFine t object.holder action → TurnedBy (Step t) (acted_at table home t action)
     unfolding own_event
     own_turned e action fine =
         rw (e, eq-eqb home home refl, running)
@@ -208,7 +209,7 @@ module _ (threads objects : ℕ) (table : ListTable) (sound : SoundTable threads
         let unnamed = there.names ∙ ap (λ (state : ThreadState). both (not (unparked state)) (unparked after)) idle in
         record { names = unnamed ∙ (still before).names; stays = (still before).stays }
 
-    other_turned : n ≢ t → (action : Action) → TurnedBy (Step t) (acted_at table home t action)
+    other_turned : n ≢ t → (action : Option Effect) → TurnedBy (Step t) (acted_at table home t action)
     unfolding own_event
     other_turned away action =
         let moves = acted_passed t states object n ((sound.sound home).placed n) away action in

@@ -1,5 +1,5 @@
 -- The shapes that actions have. Each says what changes; all else stays as it is in sight.
-use Rattle.std.specs.Prelude.{ℕ, Bool, true, false}
+use Rattle.std.specs.Prelude.{ℕ, Bool, true, false, Option, Some}
 use Rattle.lock_rules.specs.declared.Doing.{Doing}
 use Rattle.lock_rules.specs.declared.Doing.TheVariants.{EnterTry}
 use Rattle.lock_rules.specs.declared.ThreadState.{ThreadState}
@@ -11,13 +11,12 @@ use Rattle.lock_rules.specs.declared.ChainWork.{ChainWork}
 use Rattle.lock_rules.specs.declared.ChainWork.TheVariants.{Stay, MoveAndLetOut}
 use Rattle.lock_rules.specs.declared.Answer.{Answer}
 use Rattle.lock_rules.specs.declared.Answer.TheVariants.{GoneOn, Finished, NotOwner}
-use Rattle.lock_rules.specs.declared.Action.{Action}
-use Rattle.lock_rules.specs.declared.Action.TheVariants.{Do}
+use Rattle.lock_rules.specs.declared.Effect.{Effect}
 
 -- the work on chains, the thread's state and the answer, with word and monitor as they are
-abbrev pub keep_object : Sight → ChainWork → ThreadState → Answer → Bool → Action
+abbrev pub keep_object : Sight → ChainWork → ThreadState → Answer → Bool → Option Effect
 keep_object sight work state answer commits =
-    Do
+    Some
     (record {
       work = work;
       state = state;
@@ -30,25 +29,25 @@ keep_object sight work state answer commits =
     })
 
 -- to another phase
-abbrev pub go_on : Sight → Doing → Action
+abbrev pub go_on : Sight → Doing → Option Effect
 go_on sight doing = keep_object sight Stay (Running doing) GoneOn false
 
 -- 18 (c)
-abbrev pub not_owner : Sight → Action
+abbrev pub not_owner : Sight → Option Effect
 not_owner sight = keep_object sight Stay Idle NotOwner true
 
 -- an exit that committed at its look finishes, with nothing changed
-abbrev pub finish_committed : Sight → Action
+abbrev pub finish_committed : Sight → Option Effect
 finish_committed sight = keep_object sight Stay Idle (Finished 0) false
 
 -- finish (c), with nothing changed
-abbrev pub finish : Sight → Action
+abbrev pub finish : Sight → Option Effect
 finish sight = keep_object sight Stay Idle (Finished 0) true
 
 -- finish (c), with another word
-abbrev pub finish_word : Sight → WordChange → Action
+abbrev pub finish_word : Sight → WordChange → Option Effect
 finish_word sight word =
-    Do
+    Some
     (record {
       work = Stay;
       state = Idle;
@@ -61,9 +60,9 @@ finish_word sight word =
     })
 
 -- finish (c), with another depth of the monitor and this woken number
-abbrev pub finish_depth : Sight → ℕ → ℕ → Action
+abbrev pub finish_depth : Sight → ℕ → ℕ → Option Effect
 finish_depth sight depth woken =
-    Do
+    Some
     (record {
       work = Stay;
       state = Idle;
@@ -76,9 +75,9 @@ finish_depth sight depth woken =
     })
 
 -- an exit lets go (c), and goes on
-abbrev pub let_go : Sight → WordChange → ℕ → Doing → Action
+abbrev pub let_go : Sight → WordChange → ℕ → Doing → Option Effect
 let_go sight word depth doing =
-    Do
+    Some
     (record {
       work = Stay;
       state = Running doing;
@@ -91,9 +90,9 @@ let_go sight word depth doing =
     })
 
 -- inflate to a depth: word fat, flag 0, all contenders to the entry chain; "inflating lets every queued exit out of the entry chain" (document 02, L2)
-abbrev pub inflate : Sight → ℕ → ThreadState → Answer → Bool → Action
+abbrev pub inflate : Sight → ℕ → ThreadState → Answer → Bool → Option Effect
 inflate sight depth state answer commits =
-    Do
+    Some
     (record {
       work = MoveAndLetOut;
       state = state;
@@ -106,9 +105,9 @@ inflate sight depth state answer commits =
     })
 
 -- the reservation is cancelled
-abbrev pub cancel_word : Sight → ChainWork → Doing → Action
+abbrev pub cancel_word : Sight → ChainWork → Doing → Option Effect
 cancel_word sight work look =
-    Do
+    Some
     (record {
       work = work;
       state = Running look;
@@ -121,9 +120,9 @@ cancel_word sight work look =
     })
 
 -- the thread becomes holder, and goes on
-abbrev pub become_holder : ℕ → Sight → Doing → Action
+abbrev pub become_holder : ℕ → Sight → Doing → Option Effect
 become_holder thread sight doing =
-    Do
+    Some
     (record {
       work = Stay;
       state = Running doing;
@@ -136,9 +135,9 @@ become_holder thread sight doing =
     })
 
 -- the contention flag becomes 1, and the enter goes on to try
-abbrev pub raise_flag : Sight → Action
+abbrev pub raise_flag : Sight → Option Effect
 raise_flag sight =
-    Do
+    Some
     (record {
       work = Stay;
       state = Running EnterTry;

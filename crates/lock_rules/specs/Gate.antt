@@ -1,7 +1,7 @@
 -- The refusals before any rule, in document 01's order ("Returned first": "Order: 11, 12; begin then 17, 13, 14; step then 15, 16, then its rule"),
 -- with document 02's 23 behind 14.
 -- The engine and the tables with lists use this list; that it refuses as demand 1's own does is proved (lock_refusals).
-use Rattle.std.specs.Prelude.{ℕ, Bool, true, false, not, List, [], ◌∷◌, eqb}
+use Rattle.std.specs.Prelude.{ℕ, Bool, true, false, not, List, [], ◌∷◌, eqb, Result, Ok, Err}
 use Rattle.laws.specs.Choice.{pick, within, implies}
 use Rattle.lock_word.specs.Ticks.{tick_limit}
 use Rattle.lock_rules.specs.Operations.{operation_limit, timed_wait}
@@ -12,8 +12,6 @@ use Rattle.lock_rules.specs.declared.event.ThreadStatus.TheVariants.{Idle, Ready
 use Rattle.lock_rules.specs.declared.event.Refusal.{Refusal}
 use Rattle.lock_rules.specs.declared.event.Refusal.TheVariants.{NotSound, NoSuchThread, NoSuchObject, NotIdle, ThreadIdle, ThreadParked}
 use Rattle.lock_rules.specs.declared.event.Refusal.TheVariants.{NoSuchOperation, LimitOutOfRange}
-use Rattle.lock_rules.specs.declared.event.Gate.{Gate}
-use Rattle.lock_rules.specs.declared.event.Gate.TheVariants.{Open, Shut}
 
 -- a refusal, and whether it applies
 pub record GateRow : Type 0 where
@@ -24,9 +22,9 @@ abbrev pub refuses : Refusal → Bool → GateRow
 refuses refusal applies = record { refusal = refusal; applies = applies }
 
 -- the first that applies
-abbrev pub first_refusing : List GateRow → Gate
-first_refusing [] = Open
-first_refusing (row ∷ rest) = pick row.applies (Shut row.refusal) (first_refusing rest)
+abbrev pub first_refusing : List GateRow → Result (Unit {0}) Refusal
+first_refusing [] = (Ok tt)
+first_refusing (row ∷ rest) = pick row.applies (Err row.refusal) (first_refusing rest)
 
 abbrev pub is_idle : ThreadStatus → Bool
 is_idle Idle = true
@@ -73,7 +71,7 @@ event_rows threads objects Tick status = []
 abbrev pub gate_rows : Bool → ℕ → ℕ → Event → ThreadStatus → List GateRow
 gate_rows issound threads objects event status = refuses NotSound (not issound) ∷ event_rows threads objects event status
 
-abbrev pub gate : Bool → ℕ → ℕ → Event → ThreadStatus → Gate
+abbrev pub gate : Bool → ℕ → ℕ → Event → ThreadStatus → Result (Unit {0}) Refusal
 gate issound threads objects event status = first_refusing (gate_rows issound threads objects event status)
 
 -- The thread that an event is of, and the object that it is about: a begin names both, a step's object is the one that its thread's operation is on.

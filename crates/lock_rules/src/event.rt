@@ -35,10 +35,3 @@ pub enum Refusal {
     NoSuchOperation, // 17, of a begin
     LimitOutOfRange, // 23, of a begin
 }
-
-// Whether an event is let through to its rule.
-#[derive(Clone, Copy)]
-pub enum Gate {
-    Open,
-    Shut(Refusal),
-}

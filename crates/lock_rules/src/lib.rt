@@ -5,7 +5,7 @@
 mod event;
 
 use chains::Chain;
-pub use event::{Event, Gate, Refusal, ThreadStatus};
+pub use event::{Event, Refusal, ThreadStatus};
 use lock_word::{Depth, WordSeen};
 
 // How long a wait goes on: until it is notified, or for so many ticks of the clock at most.
@@ -131,11 +131,4 @@ pub struct Effect {
     pub depth: Depth,
     pub answer: Answer,
     pub commits: bool,
-}
-
-// What a step decides: no rule fits, or one is carried out.
-#[derive(Clone, Copy)]
-pub enum Action {
-    Unruled, // 20, and nothing changes
-    Do(Effect),
 }

@@ -9,22 +9,21 @@ use Rattle.laws.specs.Choice.{pick, within}
 use Rattle.laws.proofs.Choice.{false≢true}
 use Rattle.lock_word.specs.Ticks.{tick_limit}
 use Rattle.lock_word.specs.Read.{read_word}
-use Rattle.lock_word.specs.declared.reading.Decoded.{Decoded}
-use Rattle.lock_word.specs.declared.reading.Decoded.TheVariants.{Valid, Invalid}
+use Rattle.std.specs.Prelude.{Option, Some, None, Result, Ok}
+use Rattle.lock_word.specs.declared.reading.LockWord.{LockWord}
 use Rattle.lock_rules.specs.Gate.{limit_fits, gate, event_thread, event_object}
 use Rattle.lock_rules.specs.{Operations.operation_limit, Rules.decide}
 use Rattle.lock_rules.specs.Numbers.{asked_for, refusal_number}
 use Rattle.lock_rules.proofs.Each.{each_limit, each_suspension, each_doing, each_state, each_carried}
 use Rattle.lock_rules.proofs.Status.{unfinished}
 use Rattle.lock_rules.specs.Events.{Refused}
-use Rattle.lock_rules.specs.declared.event.{Event.Event, Refusal.Refusal, Gate.Gate}
+use Rattle.lock_rules.specs.declared.event.{Event.Event, Refusal.Refusal}
 use Rattle.lock_rules.specs.declared.event.Event.TheVariants.{Begin, Step, Tick}
 use Rattle.lock_rules.specs.declared.event.ThreadStatus.TheVariants.{Ready}
 use Rattle.lock_rules.specs.declared.event.Refusal.TheVariants.{NotSound}
-use Rattle.lock_rules.specs.declared.event.Gate.TheVariants.{Open}
-use Rattle.lock_rules.specs.declared.{Doing.Doing, ThreadState.ThreadState, Action.Action}
+use Rattle.lock_rules.specs.declared.Effect.{Effect}
+use Rattle.lock_rules.specs.declared.{Doing.Doing, ThreadState.ThreadState}
 use Rattle.lock_rules.specs.declared.ThreadState.TheVariants.{Idle, Running, Queued, Contending, Waiting}
-use Rattle.lock_rules.specs.declared.Action.TheVariants.{Unruled, Do}
 use Rattle.lock_rules.proofs.Gating.{Passed, within_says, by_gate}
 use Rattle.lock_rules.proofs.TableKinds.{TurnOf, status_of, refuse, begin_asked, step_thread, through, turn_on}
 use Rattle.lock_table.specs.Limits.{thread_limit, object_limit}
@@ -113,23 +112,23 @@ module _ (t : Table) where
       false≢true (rw (le-leb 1 number (omega arith), lt-leb number operation_limit (omega arith)) at inside)
 
   -- a step's rule
-  rule_acts : (n : ℕ) (action : Action)
+  rule_acts : (n : ℕ) (action : Option Effect)
       → let own = thread_at t n in
       turn_of (outcome_of t n own.object (action_turn n own (object_at t own.object) action))
       ≡ step_acts t n own.object (object_at t own.object) action
   unfolding action_turn work_stays work_done
-  rule_acts n Unruled = unfold stays in rw (thread_unchanged t n, object_unchanged t (thread_at t n).object, nobody) refl
-  rule_acts n (Do effect) =
+  rule_acts n None = unfold stays in rw (thread_unchanged t n, object_unchanged t (thread_at t n).object, nobody) refl
+  rule_acts n (Some effect) =
       let o = (thread_at t n).object in
       rw (settled_performs t n o (object_at t o) effect, settled_names t n o (object_at t o) effect) refl
 
-  word_reads : (n : ℕ) (doing : Doing) (decoded : Decoded)
+  word_reads : (n : ℕ) (doing : Doing) (decoded : Option LockWord)
       → let own = thread_at t n in
       let object = object_at t own.object in
       turn_of (outcome_of t n own.object (word_turn n own object (waiters_of t object) doing decoded)) ≡ step_reads t n own.object object doing decoded
   unfolding word_turn refusal_number
-  word_reads n doing Invalid = ap turn_of (refused_stays t n (thread_at t n).object NotSound) ∙ refusing_turn t NotSound
-  word_reads n doing (Valid word) = rule_acts n (decide n (sight_at t (object_at t (thread_at t n).object) word) doing)
+  word_reads n doing None = ap turn_of (refused_stays t n (thread_at t n).object NotSound) ∙ refusing_turn t NotSound
+  word_reads n doing (Some word) = rule_acts n (decide n (sight_at t (object_at t (thread_at t n).object) word) doing)
 
   module _ (sound : sound_of t ≡ true) where
     -- each record is the state that it is read as, written
@@ -180,7 +179,7 @@ module _ (t : Table) where
         let number = event_object event own.object in
         let object = object_at t number in
         by_gate true t.threadcount t.objectcount
-        (λ (gated : Gate). turn_of (outcome_of t (event_thread event) number (gate_turn gated event own object (waiters_of t object))) ≡ through record_kind gated t event)
+        (λ (gated : Result (Unit {0}) Refusal). turn_of (outcome_of t (event_thread event) number (gate_turn gated event own object (waiters_of t object))) ≡ through record_kind gated t event)
         (λ unsound. false≢true (sym unsound)) (λ refusal is high. ap turn_of (refused_stays t (event_thread event) number refusal) ∙ refusing_turn t refusal) event
         (status_of (read_thread own)) (λ is. opened event)
       where
@@ -188,7 +187,7 @@ module _ (t : Table) where
             → let own = thread_at t (event_thread event) in
             let number = event_object event own.object in
             let object = object_at t number in
-            turn_of (outcome_of t (event_thread event) number (open_turn event own object (waiters_of t object))) ≡ through record_kind Open t event
+            turn_of (outcome_of t (event_thread event) number (open_turn event own object (waiters_of t object))) ≡ through record_kind (Ok tt) t event
         opened (Begin number thread object limit) (low, high, operation, real, small, idle, fits) = begins_so thread object number limit operation fits
         opened (Step thread) (low, high, ready) = steps_so thread ready
         opened Tick passed = refl

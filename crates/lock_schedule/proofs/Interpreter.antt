@@ -26,7 +26,7 @@ use Rattle.lock_rules.proofs.{ListSound.SoundTable, SoundKept.sound_fresh}
 use Rattle.lock_rules.proofs.Lift.{World, world_turn, world_fresh}
 use Rattle.lock_rules.proofs.Unparks.{unparks_says, says_unparks, turn_turned}
 use Rattle.lock_rules.proofs.RunQueue.{Kept, own_step, event_kept, outside_kept}
-use Rattle.lock_table.specs.Fresh.{InRange, fresh_of}
+use Rattle.lock_table.specs.Fresh.{InRange, table_of}
 use Rattle.lock_table.specs.declared.fresh_table.FreshRequest.{FreshRequest}
 use Rattle.lock_table.specs.declared.record.Table.{Table}
 use Rattle.lock_perform.specs.ThreadSet.{has_thread}
@@ -157,7 +157,7 @@ module _ (request : FreshRequest) (in_range : InRange request) (events : List Ev
   objects = request.objects
 
   abbrev first : Table
-  first = (fresh_of request).table
+  first = table_of request
 
   abbrev last : Table
   last = final_of first events

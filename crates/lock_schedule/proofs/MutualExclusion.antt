@@ -17,7 +17,7 @@ use Rattle.lock_rules.proofs.Tables.{fresh}
 use Rattle.lock_rules.proofs.Lift.{world_fresh}
 use Rattle.lock_rules.proofs.SoundKept.{sound_fresh}
 use Rattle.lock_rules.proofs.Presence.{owned, Matches, run_matches, blank_matches}
-use Rattle.lock_table.specs.Fresh.{InRange, fresh_of}
+use Rattle.lock_table.specs.Fresh.{InRange, table_of}
 use Rattle.lock_table.specs.declared.fresh_table.FreshRequest.{FreshRequest}
 use Rattle.lock_records.proofs.Claim.{schedule_represents}
 use Rattle.lock_schedule.specs.Schedule.{shown_of}
@@ -30,7 +30,7 @@ owned_one t monitor = by_equal (λ depth. 0 < depth → monitor.owner ≡ t) mon
 
 module _ (request : FreshRequest) (in_range : InRange request) (events : List Event) (o : ℕ) where
   abbrev shown : List Shown
-  shown = shown_of (fresh_of request).table events
+  shown = shown_of (table_of request) events
 
   abbrev plain : Plain
   plain = feed_all blank shown
@@ -55,5 +55,5 @@ pub inside_is_depth : InsideIsDepth
 inside_is_depth request in_range events o t real small low =
     let (represents, sound, same) = schedule_represents request in_range events in
     let (owner, depth) = (demand_three request in_range events).0.owners o real (rw ((from_fresh request in_range events).0, represents.objectcount) small) in
-    let was = times_of t o (shown_of (fresh_of request).table events) in
+    let was = times_of t o (shown_of (table_of request) events) in
     entered_is request in_range events o t low ∙ (λ j. was.left + pick (eqb (owner j) t) (depth j) 0)

@@ -19,7 +19,7 @@ use Rattle.lock_rules.proofs.Tables.{ListTable, perform_at, list_kind, turn, fin
 use Rattle.lock_rules.proofs.{ListSound.SoundTable, SoundKept.sound_fresh}
 use Rattle.lock_rules.proofs.Lift.{World, world_fresh, world_run}
 use Rattle.lock_table.specs.Access.{phase_number_at}
-use Rattle.lock_table.specs.Fresh.{InRange, fresh_of}
+use Rattle.lock_table.specs.Fresh.{InRange, table_of}
 use Rattle.lock_table.specs.declared.fresh_table.FreshRequest.{FreshRequest}
 use Rattle.lock_table.specs.declared.record.Table.{Table}
 use Rattle.lock_records.specs.Agrees.{RuledReply}
@@ -85,7 +85,7 @@ next_step threads objects some_threads some_objects n t lists plain represents s
 
 module _ (request : FreshRequest) (in_range : InRange request) (events : List Event) (n : ℕ) where
   abbrev first : Table
-  first = (fresh_of request).table
+  first = table_of request
 
   abbrev lists : ListTable
   lists = fresh request.reserved (fresh_rank request)
@@ -123,4 +123,4 @@ steps_by_start = steps_within
 
 pub six_steps : SixSteps
 six_steps request in_range events n =
-    let within = steps_within request in_range events n in omega (arith, within.most, most_six (start_of_steps n (fresh_of request).table events))
+    let within = steps_within request in_range events n in omega (arith, within.most, most_six (start_of_steps n (table_of request) events))

@@ -18,7 +18,7 @@ use Rattle.lock_rules.proofs.Tables.{ListTable, turn, fresh}
 use Rattle.lock_rules.proofs.{ListSound.SoundTable, SoundKept.sound_fresh, LetOut.turn_ends}
 use Rattle.lock_rules.proofs.Lift.{World, world_turn, world_fresh, world_run}
 use Rattle.lock_table.specs.WellTyped.{WellTyped}
-use Rattle.lock_table.specs.Fresh.{InRange, fresh_of}
+use Rattle.lock_table.specs.Fresh.{InRange, table_of}
 use Rattle.lock_table.specs.declared.fresh_table.FreshRequest.{FreshRequest}
 use Rattle.lock_table.specs.declared.record.Table.{Table}
 use Rattle.lock_soundness.specs.Sound.{sound_of}
@@ -93,19 +93,19 @@ module _ (threads objects : ℕ) (some_threads : 1 ≤ threads) (some_objects : 
 
 -- the same of a schedule from a fresh table
 module _ (request : FreshRequest) (in_range : InRange request) (events : List Event) where
-  pub from_fresh : let table = (fresh_of request).table in
+  pub from_fresh : let table = table_of request in
       (final_of table events ≡ final_on record_kind request.threads request.objects table events)
       × (shown_of table events ≡ shown_on record_kind request.threads request.objects table events)
   from_fresh =
-      schedule_same request.threads request.objects in_range.0 in_range.2 events (fresh_of request).table (fresh request.reserved (fresh_rank request))
+      schedule_same request.threads request.objects in_range.0 in_range.2 events (table_of request) (fresh request.reserved (fresh_rank request))
       (fresh_represents request in_range) (sound_fresh request.threads request.objects request.reserved (fresh_rank request))
 
-  pub reached_sound : sound_of (final_of (fresh_of request).table events) ≡ true
+  pub reached_sound : sound_of (final_of (table_of request) events) ≡ true
   reached_sound =
       let (represents, sound, same) = schedule_represents request in_range events in
       rw from_fresh.0 (represented_sound request.threads request.objects _ _ in_range.0 in_range.2 represents sound)
 
-  pub reached_well_typed : WellTyped (final_of (fresh_of request).table events)
+  pub reached_well_typed : WellTyped (final_of (table_of request) events)
   reached_well_typed =
       let (represents, sound, same) = schedule_represents request in_range events in
       rw from_fresh.0 (represented_well_typed request.threads request.objects _ _ represents sound)
@@ -115,7 +115,7 @@ demand_three request in_range events =
     let (last, shown) = from_fresh request in_range events in (
       subst₂ (λ (x : Table) (y : List Shown). Agrees x (feed_all blank y)) (sym last) (sym shown) (schedule_agrees request in_range events),
       subst Ruled (sym shown) (schedule_ruled request in_range events),
-      others_end request.threads request.objects in_range.0 in_range.2 events (fresh_of request).table (fresh request.reserved (fresh_rank request)) blank
+      others_end request.threads request.objects in_range.0 in_range.2 events (table_of request) (fresh request.reserved (fresh_rank request)) blank
           (fresh_represents request in_range) (sound_fresh request.threads request.objects request.reserved (fresh_rank request)) (world_fresh request.reserved (fresh_rank request)),
     )
 

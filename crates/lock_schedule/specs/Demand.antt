@@ -5,7 +5,7 @@ use Rattle.lock_rules.specs.declared.event.Event.TheVariants.{Step}
 use Rattle.lock_rules.specs.Feed.{Plain, feed, feed_all, blank, LetOutRight}
 use Rattle.lock_table.specs.Access.{phase_number_at}
 use Rattle.lock_table.specs.WellTyped.{WellTyped}
-use Rattle.lock_table.specs.Fresh.{InRange, fresh_of}
+use Rattle.lock_table.specs.Fresh.{InRange, table_of}
 use Rattle.lock_table.specs.declared.fresh_table.FreshRequest.{FreshRequest}
 use Rattle.lock_table.specs.declared.record.Table.{Table}
 use Rattle.lock_soundness.specs.Sound.{sound_of}
@@ -37,11 +37,11 @@ Claim first events last = Agrees last (feed_all blank (shown_of first events)) �
 abbrev pub DemandThree : Type 0
 DemandThree =
     (request : FreshRequest) → InRange request → (events : List Event)
-    → let table = (fresh_of request).table in Claim table events (final_of table events)
+    → let table = table_of request in Claim table events (final_of table events)
 
 -- what is claimed of every table that a schedule makes from a fresh one
 abbrev pub AfterSchedules : (Table → Type 0) → Type 0
-AfterSchedules claim = (request : FreshRequest) → InRange request → (events : List Event) → claim (final_of (fresh_of request).table events)
+AfterSchedules claim = (request : FreshRequest) → InRange request → (events : List Event) → claim (final_of (table_of request) events)
 
 -- "From now on, after every schedule from a fresh table, a thread parked inside an exit waits only for another unparked thread that holds the monitor at
 -- depth 0" (document 02, L2).

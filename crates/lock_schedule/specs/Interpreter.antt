@@ -9,7 +9,7 @@ use Rattle.lock_rules.specs.declared.event.Event.TheVariants.{Step}
 use Rattle.lock_rules.specs.declared.event.Refusal.TheVariants.{ThreadIdle}
 use Rattle.lock_table.specs.Access.{phase_number_at}
 use Rattle.lock_table.specs.WellTyped.{WellTyped}
-use Rattle.lock_table.specs.Fresh.{InRange, fresh_of}
+use Rattle.lock_table.specs.Fresh.{InRange, table_of}
 use Rattle.lock_table.specs.declared.fresh_table.FreshRequest.{FreshRequest}
 use Rattle.lock_table.specs.declared.record.Table.{Table}
 use Rattle.lock_soundness.specs.Sound.{sound_of}
@@ -58,7 +58,7 @@ pub record Unnoticed (first : Table) (events : List Event) (n : ℕ) : Type 0 wh
 abbrev pub EnoughForInterpreter : Type 0
 EnoughForInterpreter =
     (request : FreshRequest) → InRange request → (events : List Event)
-    → let first = (fresh_of request).table in
+    → let first = table_of request in
     let last = final_of first events in
     let queue = queue_of first (λ n. false) events in
     (n : ℕ) → (CanStep last n → queue n ≡ true) × (queue n ≡ true → IsThread last n × (CanStep last n ⊎ Unnoticed first events n))

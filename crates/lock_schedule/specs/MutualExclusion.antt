@@ -4,7 +4,7 @@ use Rattle.std.specs.Prelude.{ℕ, ◌+◌, ◌≤◌, ◌<◌, ◌≡◌, List,
 use Rattle.laws.specs.Choice.{pick}
 use Rattle.lock_rules.specs.Presence.{times_of, times_inside}
 use Rattle.lock_rules.specs.declared.event.Event.{Event}
-use Rattle.lock_table.specs.Fresh.{InRange, fresh_of}
+use Rattle.lock_table.specs.Fresh.{InRange, table_of}
 use Rattle.lock_table.specs.Ownership.{ownership_at}
 use Rattle.lock_table.specs.declared.fresh_table.FreshRequest.{FreshRequest}
 use Rattle.lock_schedule.specs.Schedule.{final_of, shown_of}
@@ -13,7 +13,7 @@ use Rattle.lock_schedule.specs.Schedule.{final_of, shown_of}
 abbrev pub MutualExclusion : Type 0
 MutualExclusion =
     (request : FreshRequest) → InRange request → (events : List Event) (o t u : ℕ) → 1 ≤ t → 1 ≤ u
-    → let shown = shown_of (fresh_of request).table events in
+    → let shown = shown_of (table_of request) events in
     0 < times_inside t o shown → 0 < times_inside u o shown → t ≡ u
 
 -- And it is the thread's depth, by the object's word: it has entered as often as it has left, and as much more as it owns the object deep. So no exit commits
@@ -21,7 +21,7 @@ MutualExclusion =
 abbrev pub InsideIsDepth : Type 0
 InsideIsDepth =
     (request : FreshRequest) → InRange request → (events : List Event) (o t : ℕ) → 1 ≤ o → o ≤ request.objects → 1 ≤ t
-    → let table = (fresh_of request).table in
+    → let table = table_of request in
     let was = times_of t o (shown_of table events) in
     let owned = ownership_at (final_of table events) o in
     was.entered ≡ was.left + pick (eqb owned.thread t) owned.depth 0

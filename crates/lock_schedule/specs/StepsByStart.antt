@@ -3,7 +3,7 @@
 use Rattle.std.specs.Prelude.{ℕ, ◌≤◌, ◌<◌, ◌≡◌, true, List}
 use Rattle.lock_rules.specs.declared.event.Event.{Event}
 use Rattle.lock_rules.specs.declared.event.Event.TheVariants.{Step}
-use Rattle.lock_table.specs.Fresh.{InRange, fresh_of}
+use Rattle.lock_table.specs.Fresh.{InRange, table_of}
 use Rattle.lock_table.specs.declared.fresh_table.FreshRequest.{FreshRequest}
 use Rattle.lock_table.specs.declared.record.Table.{Table}
 use Rattle.lock_records.specs.Unparked.{CanStep}
@@ -24,4 +24,4 @@ pub record StepsWithin (first : Table) (events : List Event) (last : Table) (n :
 abbrev pub StepsByStart : Type 0
 StepsByStart =
     (request : FreshRequest) → InRange request → (events : List Event) (n : ℕ)
-    → let table = (fresh_of request).table in StepsWithin table events (final_of table events) n
+    → let table = table_of request in StepsWithin table events (final_of table events) n

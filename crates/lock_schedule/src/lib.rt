@@ -4,4 +4,4 @@
 
 mod running;
 
-pub use running::{RunResult, run};
+pub use running::run;

@@ -15,11 +15,11 @@ use Rattle.lock_table.specs.Limits.{thread_limit, object_limit, rank_limit}
 use Rattle.lock_table.specs.Record.{no_thread, no_object, with_word}
 use Rattle.lock_table.specs.Access.{thread_at, object_at}
 use Rattle.lock_table.specs.Fresh.{no_thread_given, no_object_given, sized_request, first_word, given_at, asked_for, thread_given, object_given, fresh_thread, fresh_object, thread_from, object_from}
-use Rattle.lock_table.specs.Fresh.{table_of, in_range, ranks_fit, InRange, fresh_answer, met_request, refused_of, fresh_of, PastUnread}
-use Rattle.lock_table.specs.declared.fresh_table.{ThreadGiven.ThreadGiven, FreshRequest.FreshRequest, FreshRefusal.FreshRefusal, FreshTable.FreshTable}
+use Rattle.lock_table.specs.Fresh.{table_of, in_range, ranks_fit, InRange, fresh_answer, made_by, fresh_of, PastUnread}
+use Rattle.lock_table.specs.declared.fresh_table.{ThreadGiven.ThreadGiven, FreshRequest.FreshRequest, FreshRefusal.FreshRefusal}
 use Rattle.lock_table.specs.declared.fresh_table.FreshRefusal.TheVariants.{SizeOutOfRange, RankOutOfRange}
-use Rattle.lock_table.specs.declared.fresh_table.FreshAnswer.{FreshAnswer}
-use Rattle.lock_table.specs.declared.fresh_table.FreshAnswer.TheVariants.{Made, Refused}
+use Rattle.lock_table.specs.declared.record.Table.{Table}
+use Rattle.std.specs.Prelude.{Result, Ok, Err}
 use Rattle.lock_table.proofs.Records.{object_in, object_beyond}
 
 -- what is past the size is not read, and nor is what is past the records
@@ -50,29 +50,29 @@ module _ (request other : FreshRequest) (threads : request.threads ≡ other.thr
   answers_alike : fresh_answer request ≡ fresh_answer other
   unfolding fresh_answer in_range ranks_fit
   answers_alike =
-      λ j. pick (not (both (within 1 thread_limit (threads j)) (within 1 object_limit (objects j)))) (Refused SizeOutOfRange)
-      (pick (not (all_below thread_limit (λ place. leb (threads_alike j place).rank rank_limit))) (Refused RankOutOfRange)
-      Made)
+      λ j. pick (not (both (within 1 thread_limit (threads j)) (within 1 object_limit (objects j)))) (Err SizeOutOfRange)
+      (pick (not (all_below thread_limit (λ place. leb (threads_alike j place).rank rank_limit))) (Err RankOutOfRange)
+      (Ok tt))
 
-  tables_alike : (answer : FreshAnswer) → table_of (met_request answer request) ≡ table_of (met_request answer other)
-  unfolding met_request
-  tables_alike Made =
+  tables_alike : table_of request ≡ table_of other
+  tables_alike =
       λ j. record {
         threadcount = threads j;
         objectcount = objects j;
         threads = tabulate thread_limit (λ place. fresh_thread (threads_alike j place));
         objects = tabulate object_limit (λ place. fresh_object (objects_alike j place));
       }
-  tables_alike (Refused refusal) = refl
+
+  made_alike : (answer : Result (Unit {0}) FreshRefusal) → made_by answer request ≡ made_by answer other
+  unfolding made_by
+  made_alike (Ok _) = ap (λ (table : Table). Ok table) tables_alike
+  made_alike (Err refusal) = refl
 
 pub past_unread : PastUnread
 unfolding fresh_of
 past_unread request other threads objects reserved same =
-    (λ j. record {
-      answer = answers_alike request other threads objects reserved same j;
-      table = table_of (met_request (answers_alike request other threads objects reserved same j) request);
-    })
-    ∙ λ j. record { answer = fresh_answer other; table = tables_alike request other threads objects reserved same (fresh_answer other) j }
+    ap (λ (answer : Result (Unit {0}) FreshRefusal). made_by answer request) (answers_alike request other threads objects reserved same)
+    ∙ made_alike request other threads objects reserved same (fresh_answer other)
 
 -- the thread with number n in a fresh table; number 0 and those past the table's size are given nothing
 abbrev pub given_to : FreshRequest → ℕ → ThreadGiven
@@ -120,29 +120,26 @@ module _ (request : FreshRequest) where
   sizes_so one few some fewer =
       simp (le-leb 1 request.threads one, le-leb request.threads thread_limit few, le-leb 1 request.objects some, le-leb request.objects object_limit fewer)
 
-  abbrev made : FreshTable
-  made = record { answer = Made; table = table_of request }
-
-  pub fresh_made : InRange request → fresh_of request ≡ made
-  unfolding fresh_of fresh_answer met_request
+  pub fresh_made : InRange request → fresh_of request ≡ Ok (table_of request)
+  unfolding fresh_of fresh_answer made_by
   fresh_made (one, few, some, fewer, ranked) = rw (sizes_so one few some fewer, ranks_so ranked) refl
 
   -- what cannot be made is refused
-  pub fresh_either : InRange request ⊎ ((refusal : FreshRefusal) × (fresh_of request ≡ refused_of refusal))
-  unfolding fresh_of fresh_answer met_request
+  pub fresh_either : InRange request ⊎ ((refusal : FreshRefusal) × (fresh_of request ≡ Err refusal))
+  unfolding fresh_of fresh_answer made_by
   fresh_either =
       split (in_range request)
       (λ sized. let (one, few, some, fewer) = sizes_of sized in
       split (ranks_fit request) (λ ranked. inl (one, few, some, fewer, ranks_of few ranked)) (λ high. inr (RankOutOfRange, rw (sized, high) refl)))
       (λ outside. inr (SizeOutOfRange, rw outside refl))
 
-  pub met_fits : let met = met_request (fresh_answer request) request in (met.threads ≤ thread_limit) × (met.objects ≤ object_limit)
-  unfolding fresh_answer met_request
-  met_fits =
+  -- and what is not refused is in range
+  pub answered_fits : fresh_answer request ≡ Ok tt → (request.threads ≤ thread_limit) × (request.objects ≤ object_limit)
+  unfolding fresh_answer
+  answered_fits =
       split (in_range request)
-      (λ sized. let (one, few, some, fewer) = sizes_of sized in
-      split (ranks_fit request) (λ ranked. rw (sized, ranked) (few, fewer)) (λ high. rw (sized, high) (omega arith, omega arith)))
-      (λ outside. rw outside (omega arith, omega arith))
+      (λ sized made. let (one, few, some, fewer) = sizes_of sized in (few, fewer))
+      (λ outside made. let refused = rw outside at made in absurd (cc))
 
   -- every thread is idle, with what it is given
   pub fresh_thread_at : (n : ℕ) → thread_at (table_of request) n ≡ fresh_thread (given_to request n)

@@ -9,8 +9,9 @@ use borrow.Author.Tests.{ltb-true, lt-leb}
 use Rattle.laws.specs.Choice.{within}
 use Rattle.laws.proofs.Choice.{split, both_no}
 use Rattle.lock_table.specs.Limits.{thread_limit, object_limit}
-use Rattle.lock_table.specs.Fresh.{request_of, in_range, fresh_answer, met_request, fresh_of}
-use Rattle.lock_table.specs.declared.fresh_table.{ThreadGiven.ThreadGiven, FreshTable.FreshTable}
+use Rattle.lock_table.specs.Fresh.{request_of, in_range, fresh_answer, made_by, fresh_of}
+use Rattle.lock_table.specs.declared.fresh_table.{ThreadGiven.ThreadGiven, FreshRefusal.FreshRefusal}
+use Rattle.std.specs.Prelude.{Result}
 use Rattle.lock_table.specs.Narrow.{narrow_of}
 use Rattle.lock_table.specs.Access.{thread_at, object_at}
 use Rattle.lock_table.specs.declared.record.Table.{Table}
@@ -32,15 +33,15 @@ narrowed f same n =
 
 -- a fresh table
 module _ (reserved : Bool) (tothreads : List ThreadGiven) where
-  abbrev made : ℕ → ℕ → FreshTable
+  abbrev made : ℕ → ℕ → Result Table FreshRefusal
   made threads objects = fresh_of (request_of threads objects reserved tothreads)
 
   threads_past : (objects n : ℕ) → 255 < n → made 255 objects ≡ made n objects
-  unfolding fresh_of fresh_answer met_request in_range
+  unfolding fresh_of fresh_answer made_by in_range
   threads_past objects n past = rw (lt-leb n thread_limit (omega (arith, past)), both_no (leb 1 n)) refl
 
   objects_past : (threads n : ℕ) → 255 < n → made threads 255 ≡ made threads n
-  unfolding fresh_of fresh_answer met_request in_range
+  unfolding fresh_of fresh_answer made_by in_range
   objects_past threads n past = rw (lt-leb n object_limit (omega (arith, past)), both_no (leb 1 n), both_no (within 1 thread_limit threads)) refl
 
   pub narrow_fresh : (threads objects : ℕ) → made (narrow_of threads) (narrow_of objects) ≡ made threads objects

@@ -1,5 +1,5 @@
 -- Fresh tables (document 01, "The table", last sentence, and 22 of "Returned first"; document 02, L8, for ranks and 27).
-use Rattle.std.specs.Prelude.{ℕ, ◌≤◌, ◌<◌, ◌≡◌, Bool, false, not, List, ltb, leb, get_or, replicate}
+use Rattle.std.specs.Prelude.{ℕ, ◌≤◌, ◌<◌, ◌≡◌, Bool, false, not, List, ltb, leb, get_or, replicate, Result, Ok, Err}
 use Rattle.laws.specs.Choice.{pick, both, within}
 use Rattle.laws.specs.Sequence.{tabulate}
 use Rattle.laws.specs.Every.{all_below}
@@ -14,9 +14,6 @@ use Rattle.lock_table.specs.declared.fresh_table.ObjectGiven.{ObjectGiven}
 use Rattle.lock_table.specs.declared.fresh_table.FreshRequest.{FreshRequest}
 use Rattle.lock_table.specs.declared.fresh_table.FreshRefusal.{FreshRefusal}
 use Rattle.lock_table.specs.declared.fresh_table.FreshRefusal.TheVariants.{SizeOutOfRange, RankOutOfRange}
-use Rattle.lock_table.specs.declared.fresh_table.FreshAnswer.{FreshAnswer}
-use Rattle.lock_table.specs.declared.fresh_table.FreshAnswer.TheVariants.{Made, Refused}
-use Rattle.lock_table.specs.declared.fresh_table.FreshTable.{FreshTable}
 
 -- nothing given: every field is 0
 abbrev pub no_thread_given : ThreadGiven
@@ -71,6 +68,10 @@ table_of request =
       objects = tabulate object_limit (object_from request);
     }
 
+-- the table of no threads and no objects, all zero
+abbrev pub no_table : Table
+no_table = table_of (sized_request 0 0 false)
+
 -- T from 1 to 32 and N from 1 to 64
 unfoldable pub in_range : FreshRequest → Bool
 in_range request = both (within 1 thread_limit request.threads) (within 1 object_limit request.objects)
@@ -86,31 +87,28 @@ InRange request =
     × ((place : ℕ) → (thread_given request place).rank ≤ rank_limit)
 
 -- 22, and after it 27
-unfoldable pub fresh_answer : FreshRequest → FreshAnswer
+unfoldable pub fresh_answer : FreshRequest → Result (Unit {0}) FreshRefusal
 fresh_answer request =
-    pick (not (in_range request)) (Refused SizeOutOfRange)
-    (pick (not (ranks_fit request)) (Refused RankOutOfRange)
-    Made)
+    pick (not (in_range request)) (Err SizeOutOfRange)
+    (pick (not (ranks_fit request)) (Err RankOutOfRange)
+    (Ok tt))
 
 -- refused, none is made
-unfoldable pub met_request : FreshAnswer → FreshRequest → FreshRequest
-met_request Made request = request
-met_request (Refused refusal) request = sized_request 0 0 false
+unfoldable pub made_by : Result (Unit {0}) FreshRefusal → FreshRequest → Result Table FreshRefusal
+made_by (Ok _) request = Ok (table_of request)
+made_by (Err refusal) request = Err refusal
 
-unfoldable pub fresh_of : FreshRequest → FreshTable
-fresh_of request = record { answer = fresh_answer request; table = table_of (met_request (fresh_answer request) request) }
-
-abbrev pub refused_of : FreshRefusal → FreshTable
-refused_of refusal = record { answer = Refused refusal; table = table_of (sized_request 0 0 false) }
+unfoldable pub fresh_of : FreshRequest → Result Table FreshRefusal
+fresh_of request = made_by (fresh_answer request) request
 
 -- document 01's number for the answer
 unfoldable pub refusal_returned : FreshRefusal → ℕ
 refusal_returned SizeOutOfRange = 22
 refusal_returned RankOutOfRange = 27
 
-unfoldable pub fresh_returned : FreshAnswer → ℕ
-fresh_returned Made = 0
-fresh_returned (Refused refusal) = refusal_returned refusal
+unfoldable pub fresh_returned : {A : Type 0} → Result A FreshRefusal → ℕ
+fresh_returned (Ok _) = 0
+fresh_returned (Err refusal) = refusal_returned refusal
 
 -- "What a fresh table is given, here and later, .. is dropped unread past T or N" (document 02, L8): two requests of the same sizes and words that agree in
 -- what they have for the threads up to T are answered alike, and the same table is made

@@ -3,7 +3,7 @@ ghost use Rattle.std.specs.Prelude.{◌≡◌, ◌≤◌};
 ghost use Rattle.laws.specs.Sequence.{tabulate};
 ghost use Rattle.lock_table.specs.Limits.{thread_limit, object_limit};
 ghost use Rattle.lock_table.specs.Fresh.{no_thread_given, sized_request, first_word, thread_given, object_given, fresh_thread, fresh_object, thread_from, object_from};
-ghost use Rattle.lock_table.specs.Fresh.{table_of, in_range, ranks_fit, fresh_answer, met_request, fresh_of, refusal_returned, fresh_returned};
+ghost use Rattle.lock_table.specs.Fresh.{table_of, no_table, in_range, ranks_fit, fresh_answer, fresh_of, refusal_returned, fresh_returned};
 
 use crate::record::{
     OBJECTS, ObjectRecord, RANKS, THREADS, Table, ThreadRecord, no_object, no_thread,
@@ -39,19 +39,6 @@ pub enum FreshRefusal {
     SizeOutOfRange,
     // 27
     RankOutOfRange,
-}
-
-#[derive(Clone, Copy)]
-pub enum FreshAnswer {
-    Made,
-    Refused(FreshRefusal),
-}
-
-#[derive(Clone, Copy)]
-pub struct FreshTable {
-    pub answer: FreshAnswer,
-    // all zero where none was made
-    pub table: Table,
 }
 
 // Nothing: every field is 0.
@@ -133,10 +120,8 @@ fn fresh_threads(request: FreshRequest) -> [ThreadRecord; 32]
     ensures { result ≡ tabulate thread_limit (thread_from request) }
 {
     let mut threads = [no_thread(); 32];
-    let mut place: usize = 0;
-    while place < 32 {
-        threads[place] = fresh_thread(thread_given(request, place));
-        place = place + 1;
+    for (place, thread) in threads.iter_mut().enumerate() {
+        *thread = fresh_thread(thread_given(request, place));
     }
     threads
 }
@@ -145,10 +130,8 @@ fn fresh_objects(request: FreshRequest) -> [ObjectRecord; 64]
     ensures { result ≡ tabulate object_limit (object_from request) }
 {
     let mut objects = [no_object(); 64];
-    let mut place: usize = 0;
-    while place < 64 {
-        objects[place] = fresh_object(object_given(request, place));
-        place = place + 1;
+    for (place, object) in objects.iter_mut().enumerate() {
+        *object = fresh_object(object_given(request, place));
     }
     objects
 }
@@ -177,10 +160,8 @@ fn in_range(request: FreshRequest) -> bool
 fn ranks_fit(request: FreshRequest) -> bool
     ensures { result ≡ ranks_fit request }
 {
-    let mut left: usize = 32;
-    while 0 < left {
-        left = left - 1;
-        let given = thread_given(request, left);
+    for place in (0..32).rev() {
+        let given = thread_given(request, place);
         if RANKS < given.rank {
             return false;
         }
@@ -188,41 +169,34 @@ fn ranks_fit(request: FreshRequest) -> bool
     true
 }
 
-// Whether a table is made, or which refusal comes first.
+// Which refusal comes first, if any.
 #[tactic(auto, unfolding(crate::specs::Fresh::fresh_answer))]
-fn fresh_answer(request: FreshRequest) -> FreshAnswer
+fn fresh_answer(request: FreshRequest) -> Result<(), FreshRefusal>
     ensures { result ≡ fresh_answer request }
 {
     if !in_range(request) {
-        return FreshAnswer::Refused(FreshRefusal::SizeOutOfRange);
+        return Err(FreshRefusal::SizeOutOfRange);
     }
     if !ranks_fit(request) {
-        return FreshAnswer::Refused(FreshRefusal::RankOutOfRange);
+        return Err(FreshRefusal::RankOutOfRange);
     }
-    FreshAnswer::Made
+    Ok(())
 }
 
-// The request, or one of nothing where it is refused.
-#[tactic(auto, unfolding(crate::specs::Fresh::met_request))]
-fn met_request(answer: FreshAnswer, request: FreshRequest) -> FreshRequest
-    ensures { result ≡ met_request answer request }
+// The table of no threads and no objects, all zero, for callers that hold one before a table is made.
+pub fn no_table() -> Table
+    ensures { result ≡ no_table }
 {
-    match answer {
-        FreshAnswer::Made => request,
-        FreshAnswer::Refused(_) => sized_request(0, 0, false),
-    }
+    table_of(sized_request(0, 0, false))
 }
 
-// A fresh table as asked, or the first refusal. One table is made either way, so that there is room for no more than one on the stack.
-#[tactic(auto, using(crate::proofs::FreshTables::met_fits), unfolding(crate::specs::Fresh::fresh_of))]
-pub fn fresh(request: FreshRequest) -> FreshTable
+// A fresh table as asked, or the first refusal.
+#[tactic(auto, using(crate::proofs::FreshTables::answered_fits), unfolding(crate::specs::Fresh::fresh_of, crate::specs::Fresh::made_by))]
+pub fn fresh(request: FreshRequest) -> Result<Table, FreshRefusal>
     ensures { result ≡ fresh_of request }
 {
-    let answer = fresh_answer(request);
-    FreshTable {
-        answer: answer,
-        table: table_of(met_request(answer, request)),
-    }
+    fresh_answer(request)?;
+    Ok(table_of(request))
 }
 
 #[tactic(auto, unfolding(crate::specs::Fresh::refusal_returned))]
@@ -237,11 +211,11 @@ fn refusal_returned(refusal: FreshRefusal) -> u8
 
 // The number returned.
 #[tactic(auto, unfolding(crate::specs::Fresh::fresh_returned))]
-pub fn fresh_returned(answer: FreshAnswer) -> u8
+pub fn fresh_returned(answer: Result<(), FreshRefusal>) -> u8
     ensures { result ≡ fresh_returned answer }
 {
     match answer {
-        FreshAnswer::Made => 0,
-        FreshAnswer::Refused(refusal) => refusal_returned(refusal),
+        Ok(()) => 0,
+        Err(refusal) => refusal_returned(refusal),
     }
 }

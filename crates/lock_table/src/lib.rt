@@ -16,8 +16,8 @@ pub use access::{
 };
 pub use chain::{handed, moved};
 pub use fresh_table::{
-    FreshAnswer, FreshRefusal, FreshRequest, FreshTable, ObjectGiven, ThreadGiven, fresh,
-    fresh_returned, no_thread_given, sized_request,
+    FreshRefusal, FreshRequest, ObjectGiven, ThreadGiven, fresh, fresh_returned, no_table,
+    no_thread_given, sized_request,
 };
 pub use monitor::{Handed, LetOut};
 pub use narrowing::narrow;

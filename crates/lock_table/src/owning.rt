@@ -4,13 +4,13 @@ ghost use Rattle.lock_table.specs.Ownership.{ownership_in, ownership_by, ownersh
 
 use crate::access::object_at;
 use crate::record::{Monitor, ObjectRecord, Table};
-use lock_word::{Decoded, Ownership, ownership_of, read_word, seen_word};
+use lock_word::{LockWord, Ownership, ownership_of, read_word, seen_word};
 
 #[tactic(auto, unfolding(crate::specs::Ownership::ownership_in))]
-fn ownership_in(decoded: Decoded, monitor: Monitor) -> Ownership
+fn ownership_in(decoded: Option<LockWord>, monitor: Monitor) -> Ownership
     ensures { result ≡ ownership_in decoded monitor }
 {
-    let Decoded::Valid(word) = decoded else {
+    let Some(word) = decoded else {
         return Ownership {
             thread: 0,
             depth: 0,

@@ -12,7 +12,7 @@ use Rattle.laws.proofs.Sequence.{tabulate_at}
 use Rattle.lock_word.specs.Layout.{first_beyond, number_unit, count_unit, count_field}
 use Rattle.lock_word.specs.Read.{read_word}
 use Rattle.lock_word.specs.KindTable.{kind_of, kind_place, by_kind}
-use Rattle.lock_word.specs.declared.reading.Decoded.TheVariants.{Invalid}
+use Rattle.std.specs.Prelude.{None}
 
 -- the low byte that stands for this one is one of the table's eight
 pub place_inside : (low : ℕ) → kind_place low < 8
@@ -22,7 +22,7 @@ place_inside low = by_below (λ (place : ℕ). place < 8) low count_unit (λ few
 -- and has its kind: computed over all low bytes
 pub place_kind : (low : ℕ) → low < number_unit → kind_of (kind_place low) ≡ kind_of low
 unfolding tabulate kind_place kind_of
-place_kind low h = sym (tabulate_at number_unit (λ (byte : ℕ). kind_of (kind_place byte)) 0 low h) ∙ tabulate_at number_unit kind_of 0 low h
+place_kind low h = sym (tabulate_at number_unit (λ (byte : ℕ). kind_of (kind_place byte)) None low h) ∙ tabulate_at number_unit kind_of None low h
 
 low_kind : (word : ℕ) → kind_of (word % number_unit) ≡ kind_of word
 unfolding kind_of
@@ -47,7 +47,7 @@ by_bits word h =
     (λ odd. split (eqb (word / 2 % 128) 0) (λ fat. simp (rest, number, odd, fat)) (λ none. simp (rest, number, odd, none)))
 
 -- a word with a bit above 22 is no lock word
-pub beyond : (word : ℕ) → first_beyond ≤ word → read_word word ≡ Invalid
+pub beyond : (word : ℕ) → first_beyond ≤ word → read_word word ≡ None
 unfolding read_word
 beyond word h = simp (ne_eqb (word / 8388608) 0 (λ e. lt_irrefl 0 (omega (arith, e))))
 

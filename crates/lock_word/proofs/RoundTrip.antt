@@ -12,19 +12,19 @@ use Rattle.laws.proofs.Choice.{by_test, above_zero}
 use Rattle.lock_word.specs.Layout.{first_beyond, number_unit, count_unit, counts, numbers}
 use Rattle.lock_word.specs.Read.{read_word, read_flat, read_reserved, fat_of, thread_number, monitor_number}
 use Rattle.lock_word.specs.Write.{write_word, IsNumber, InRange}
-use Rattle.lock_word.specs.declared.reading.{ThreadNumber.ThreadNumber, LockWord.LockWord, Decoded.Decoded}
+use Rattle.std.specs.Prelude.{Option, Some, None}
+use Rattle.lock_word.specs.declared.reading.{ThreadNumber.ThreadNumber, LockWord.LockWord}
 use Rattle.lock_word.specs.declared.reading.LockWord.TheVariants.{Free, Flat, Anonymous, Reserved, Fat}
-use Rattle.lock_word.specs.declared.reading.Decoded.TheVariants.{Valid, Invalid}
 
 -- the meaning, if any, is in range and is written as this word
-WrittenAs : ℕ → Decoded → Type 0
-WrittenAs word decoded = (meaning : LockWord) → decoded ≡ Valid meaning → (write_word meaning ≡ word) × InRange meaning
+WrittenAs : ℕ → Option LockWord → Type 0
+WrittenAs word decoded = (meaning : LockWord) → decoded ≡ Some meaning → (write_word meaning ≡ word) × InRange meaning
 
-none : (word : ℕ) → WrittenAs word Invalid
+none : (word : ℕ) → WrittenAs word None
 unfolding WrittenAs
 none word meaning e = let z : ◌≡◌ {A = ℕ} 0 1 = cc in absurd (eqb-false 0 1 refl z)
 
-some : (word : ℕ) (meaning : LockWord) → (write_word meaning ≡ word) × InRange meaning → WrittenAs word (Valid meaning)
+some : (word : ℕ) (meaning : LockWord) → (write_word meaning ≡ word) × InRange meaning → WrittenAs word (Some meaning)
 unfolding WrittenAs
 some word meaning known other e =
     let same : meaning ≡ other = cc in
@@ -34,7 +34,7 @@ some word meaning known other e =
 of_thread : (word : ℕ) (nobody : LockWord) (owned : ThreadNumber → ℕ → LockWord) (count number : ℕ)
     → (number ≡ 0 → count ≡ 0 → (write_word nobody ≡ word) × InRange nobody)
     → (1 ≤ number → (write_word (owned (thread_number number) count) ≡ word) × InRange (owned (thread_number number) count))
-    → WrittenAs word (pick (eqb number 0) (pick (eqb count 0) (Valid nobody) Invalid) (Valid (owned (thread_number number) count)))
+    → WrittenAs word (pick (eqb number 0) (pick (eqb count 0) (Some nobody) None) (Some (owned (thread_number number) count)))
 of_thread word nobody owned count number left right =
     by_test (WrittenAs word) (eqb number 0)
     (λ n. by_test (WrittenAs word) (eqb count 0)
@@ -87,17 +87,17 @@ decoded_written word =
     (λ rest. none word)
 
 -- a valid word is what its meaning is written as
-pub word_of_meaning : (word : ℕ) (meaning : LockWord) → read_word word ≡ Valid meaning → write_word meaning ≡ word
+pub word_of_meaning : (word : ℕ) (meaning : LockWord) → read_word word ≡ Some meaning → write_word meaning ≡ word
 unfolding WrittenAs
 word_of_meaning word meaning e = (decoded_written word meaning e).0
 
 -- the numbers and counts that the reader gives out are in range
-pub meaning_in_range : (word : ℕ) (meaning : LockWord) → read_word word ≡ Valid meaning → InRange meaning
+pub meaning_in_range : (word : ℕ) (meaning : LockWord) → read_word word ≡ Some meaning → InRange meaning
 unfolding WrittenAs
 meaning_in_range word meaning e = (decoded_written word meaning e).1
 
 -- two valid words with one meaning are the same word
-pub one_word : (left right : ℕ) (meaning : LockWord) → read_word left ≡ Valid meaning → read_word right ≡ Valid meaning → left ≡ right
+pub one_word : (left right : ℕ) (meaning : LockWord) → read_word left ≡ Some meaning → read_word right ≡ Some meaning → left ≡ right
 one_word left right meaning p q = sym (word_of_meaning left meaning p) ∙ word_of_meaning right meaning q
 
 -- a word made of a reserved bit, a count and a number is read as them
@@ -132,7 +132,7 @@ some_number : {n : ℕ} → IsNumber n → eqb n 0 ≡ false
 some_number {n} h = ne_eqb n 0 (λ e. lt_irrefl 0 (omega arith))
 
 -- each meaning in range is read back from the word that it is written as
-pub meaning_of_word : (meaning : LockWord) → InRange meaning → read_word (write_word meaning) ≡ Valid meaning
+pub meaning_of_word : (meaning : LockWord) → InRange meaning → read_word (write_word meaning) ≡ Some meaning
 unfolding read_word read_flat read_reserved fat_of write_word InRange
 meaning_of_word Free h = refl
 meaning_of_word (Flat thread count) h =

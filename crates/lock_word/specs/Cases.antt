@@ -1,11 +1,10 @@
 -- The cases of document 01, "Cases K1 to K9", that are about words, as rows of one table. A row is a statement and says which case it is;
 -- a higher crate's rows, K5 and K7 to K9, join these in one list, whatever they are about.
-use Rattle.std.specs.Prelude.{ℕ, ◌≡◌, List, [], ◌∷◌}
+use Rattle.std.specs.Prelude.{ℕ, ◌≡◌, List, [], ◌∷◌, Some, None}
 use Rattle.lock_word.specs.Read.{read_word, thread_number}
 use Rattle.lock_word.specs.Meaning.{seen_word, ownership_of, cancel_of}
 use Rattle.lock_word.specs.declared.reading.LockWord.{LockWord}
 use Rattle.lock_word.specs.declared.reading.LockWord.TheVariants.{Flat, Reserved}
-use Rattle.lock_word.specs.declared.reading.Decoded.TheVariants.{Valid, Invalid}
 
 pub record Case : Type 1 where
   pub number : ℕ
@@ -23,14 +22,14 @@ case_numbers (row ∷ rows) = row.number ∷ case_numbers rows
 -- the word means this, and so its thread owns the object at this depth, whatever the monitor says
 abbrev pub Means : ℕ → LockWord → ℕ → ℕ → Type 0
 Means word meaning thread depth =
-    (read_word word ≡ Valid meaning)
+    (read_word word ≡ Some meaning)
     × ((holder deep : ℕ) → ownership_of (seen_word meaning) holder deep ≡ record { thread = thread; depth = depth })
 
 abbrev pub Cancels : ℕ → ℕ → Type 0
 Cancels word after = cancel_of word ≡ after
 
 abbrev pub NoLockWord : ℕ → Type 0
-NoLockWord word = read_word word ≡ Invalid
+NoLockWord word = read_word word ≡ None
 
 abbrev pub word_cases : List Case
 word_cases =

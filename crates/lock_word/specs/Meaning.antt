@@ -1,13 +1,11 @@
 -- What a word says to the rules, who owns an object by it, and what cancelling its reservation makes of it (document 01, "Lock words" and phase 3).
-use Rattle.std.specs.Prelude.{ℕ, ◌+◌, ◌-◌, eqb}
+use Rattle.std.specs.Prelude.{ℕ, ◌+◌, ◌-◌, eqb, Option, Some, None}
 use Rattle.laws.specs.Choice.{pick}
 use Rattle.lock_word.specs.Read.{read_word}
 use Rattle.lock_word.specs.Write.{free_word, anonymous_word, flat_word, reserved_word}
 use Rattle.lock_word.specs.declared.reading.LockWord.{LockWord}
 use Rattle.lock_word.specs.declared.reading.LockWord.TheVariants.{Free as FreeWord, Flat as FlatWord, Anonymous as AnonymousWord}
 use Rattle.lock_word.specs.declared.reading.LockWord.TheVariants.{Reserved as ReservedWord, Fat as FatWord}
-use Rattle.lock_word.specs.declared.reading.Decoded.{Decoded}
-use Rattle.lock_word.specs.declared.reading.Decoded.TheVariants.{Valid, Invalid}
 use Rattle.lock_word.specs.declared.meaning.WordSeen.{WordSeen}
 use Rattle.lock_word.specs.declared.meaning.WordSeen.TheVariants.{Free, Anonymous, Fat, Flat, Reserved}
 use Rattle.lock_word.specs.declared.meaning.Ownership.{Ownership}
@@ -21,13 +19,13 @@ seen_word (ReservedWord thread count) = Reserved thread.0 count
 seen_word (FatWord monitor) = Fat
 
 -- the count of a reserved word, which is what a store kept of it; no other word has one
-unfoldable pub kept_count : Decoded → ℕ
-kept_count Invalid = 0
-kept_count (Valid FreeWord) = 0
-kept_count (Valid (FlatWord thread count)) = 0
-kept_count (Valid AnonymousWord) = 0
-kept_count (Valid (ReservedWord thread count)) = count
-kept_count (Valid (FatWord monitor)) = 0
+unfoldable pub kept_count : Option LockWord → ℕ
+kept_count None = 0
+kept_count (Some FreeWord) = 0
+kept_count (Some (FlatWord thread count)) = 0
+kept_count (Some AnonymousWord) = 0
+kept_count (Some (ReservedWord thread count)) = count
+kept_count (Some (FatWord monitor)) = 0
 
 -- the owner by the word and by the monitor's holder and depth; 0 is nobody. Flat: "the thread owns it"; reserved: "if count is above 0"; fat: "The
 -- holder owns it if the monitor's depth is above 0."
@@ -73,9 +71,9 @@ rewritten_of word (Flat thread count) = flat_word thread count
 rewritten_of word (Reserved thread count) = reserved_word thread count
 
 -- cancelling on the bits; what is no lock word stays
-unfoldable pub cancel_read : ℕ → Decoded → ℕ
-cancel_read word Invalid = word
-cancel_read word (Valid meaning) = rewritten_of word (cancelled (seen_word meaning))
+unfoldable pub cancel_read : ℕ → Option LockWord → ℕ
+cancel_read word None = word
+cancel_read word (Some meaning) = rewritten_of word (cancelled (seen_word meaning))
 
 unfoldable pub cancel_of : ℕ → ℕ
 cancel_of word = cancel_read word (read_word word)

@@ -6,17 +6,24 @@ ghost use Rattle.lock_word.specs.KindTable.{kind_of, kind_place};
 
 use crate::layout::COUNT_UNIT;
 
-// The kinds. specs/KindTable.antt states the same numbers for the contracts.
-pub const FLAT: u8 = 0;
+#[derive(Clone, Copy)]
+pub enum Kind {
+    Flat,
+    Reserved,
+    Fat,
+}
 
-pub const RESERVED: u8 = 1;
-
-pub const FAT: u8 = 2;
-// no lock word
-const NONE: u8 = 3;
-
-// The constant table: the kinds of the low bytes 0 to 7.
-const KINDS: [u8; 8] = [FLAT, FAT, RESERVED, NONE, FLAT, NONE, RESERVED, NONE];
+// The constant table: the kinds of the low bytes 0 to 7, None where there is no lock word.
+const KINDS: [Option<Kind>; 8] = [
+    Some(Kind::Flat),
+    Some(Kind::Fat),
+    Some(Kind::Reserved),
+    None,
+    Some(Kind::Flat),
+    None,
+    Some(Kind::Reserved),
+    None,
+];
 
 // Which of those eight stands for a low byte.
 #[tactic(auto, unfolding(crate::specs::KindTable::kind_place))]
@@ -30,7 +37,7 @@ fn kind_place(low: u8) -> u8
 }
 
 #[tactic(auto, using(crate::proofs::KindTable::place_inside), unfolding(laws::specs::Sequence::tabulate, crate::specs::KindTable::kind_of))]
-pub fn kind_of(low: u8) -> u8
+pub fn kind_of(low: u8) -> Option<Kind>
     ensures { result ≡ kind_of low }
 {
     let place = kind_place(low) as usize;

@@ -20,6 +20,6 @@ mod writing;
 pub use depth::{DEPTH_LIMIT, Depth};
 pub use layout::COUNT_LIMIT;
 pub use meaning::{Ownership, WordSeen, cancel, kept_count, owner_of, ownership_of, seen_word};
-pub use reading::{Decoded, LockWord, MonitorNumber, ThreadNumber, read_word};
+pub use reading::{LockWord, MonitorNumber, ThreadNumber, read_word};
 pub use ticks::{TICK_LIMIT, Ticks};
 pub use writing::{anonymous_word, fat_word, flat_word, free_word, reserved_word, write_word};

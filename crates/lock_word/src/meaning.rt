@@ -3,7 +3,7 @@ ghost use Rattle.std.specs.Prelude.{◌≡◌};
 ghost use Rattle.lock_word.specs.Meaning.{seen_word, kept_count, owner_of, depth_of, owned_by, ownership_of, cancelled, rewritten_of, cancel_of, cancel_read};
 
 use crate::depth::Depth;
-use crate::reading::{Decoded, LockWord, read_word};
+use crate::reading::{LockWord, read_word};
 use crate::writing::{anonymous_word, flat_word, free_word, reserved_word};
 
 // A lock word as the rules see it. The numbers are a thread and a count; a fat word's number is its object.
@@ -38,10 +38,10 @@ pub fn seen_word(word: LockWord) -> WordSeen
 
 // The count of a kept word, which in a sound table is reserved.
 #[tactic(auto, unfolding(crate::specs::Meaning::kept_count))]
-pub fn kept_count(decoded: Decoded) -> u8
+pub fn kept_count(decoded: Option<LockWord>) -> u8
     ensures { result ≡ kept_count decoded }
 {
-    let Decoded::Valid(meaning) = decoded else {
+    let Some(meaning) = decoded else {
         return 0;
     };
     match meaning {
@@ -144,10 +144,10 @@ fn rewritten(word: u32, seen: WordSeen) -> u32
 }
 
 #[tactic(auto, unfolding(crate::specs::Meaning::cancel_read))]
-fn cancel_read(word: u32, decoded: Decoded) -> u32
+fn cancel_read(word: u32, decoded: Option<LockWord>) -> u32
     ensures { result ≡ cancel_read word decoded }
 {
-    let Decoded::Valid(meaning) = decoded else {
+    let Some(meaning) = decoded else {
         return word;
     };
     rewritten(word, cancel_seen(seen_word(meaning)))

@@ -3,7 +3,7 @@ ghost use Rattle.std.specs.Prelude.{◌≡◌};
 ghost use Rattle.lock_word.specs.Read.{read_word, read_flat, read_reserved, fat_of};
 ghost use Rattle.lock_word.specs.KindTable.{by_kind};
 
-use crate::kinds::{FAT, FLAT, RESERVED, count_field, kind_of};
+use crate::kinds::{Kind, count_field, kind_of};
 use crate::layout::{FIRST_BEYOND, NUMBER_UNIT};
 
 // A thread's number and a monitor's number: the same fifteen bits, and neither can be passed for the other.
@@ -26,12 +26,6 @@ pub enum LockWord {
     Fat(MonitorNumber),
 }
 
-#[derive(Clone, Copy)]
-pub enum Decoded {
-    Valid(LockWord),
-    Invalid,
-}
-
 impl ThreadNumber {
     pub fn value(self) -> u16
         ensures { result ≡ self.0 }
@@ -50,67 +44,62 @@ impl MonitorNumber {
 
 // A flat word of this count and number.
 #[tactic(auto, unfolding(crate::specs::Read::read_flat))]
-fn read_flat(count: u8, number: u16) -> Decoded
+fn read_flat(count: u8, number: u16) -> Option<LockWord>
     ensures { result ≡ read_flat count number }
 {
     if number == 0 {
         if count == 0 {
-            return Decoded::Valid(LockWord::Free);
+            return Some(LockWord::Free);
         }
-        return Decoded::Invalid;
+        return None;
     }
-    Decoded::Valid(LockWord::Flat(ThreadNumber(number), count))
+    Some(LockWord::Flat(ThreadNumber(number), count))
 }
 
 // A reserved word of this count and number.
 #[tactic(auto, unfolding(crate::specs::Read::read_reserved))]
-fn read_reserved(count: u8, number: u16) -> Decoded
+fn read_reserved(count: u8, number: u16) -> Option<LockWord>
     ensures { result ≡ read_reserved count number }
 {
     if number == 0 {
         if count == 0 {
-            return Decoded::Valid(LockWord::Anonymous);
+            return Some(LockWord::Anonymous);
         }
-        return Decoded::Invalid;
+        return None;
     }
-    Decoded::Valid(LockWord::Reserved(ThreadNumber(number), count))
+    Some(LockWord::Reserved(ThreadNumber(number), count))
 }
 
 // A fat word of this number. No object has number 0.
 #[tactic(auto, unfolding(crate::specs::Read::fat_of))]
-fn read_fat(number: u16) -> Decoded
+fn read_fat(number: u16) -> Option<LockWord>
     ensures { result ≡ fat_of number }
 {
     if number == 0 {
-        return Decoded::Invalid;
+        return None;
     }
-    Decoded::Valid(LockWord::Fat(MonitorNumber(number)))
+    Some(LockWord::Fat(MonitorNumber(number)))
 }
 
 // The kind picks the reader.
 #[tactic(auto, unfolding(crate::specs::KindTable::by_kind))]
-fn by_kind(kind: u8, count: u8, number: u16) -> Decoded
+fn by_kind(kind: Option<Kind>, count: u8, number: u16) -> Option<LockWord>
     ensures { result ≡ by_kind kind count number }
 {
-    if kind == FLAT {
-        return read_flat(count, number);
+    match kind? {
+        Kind::Flat => read_flat(count, number),
+        Kind::Reserved => read_reserved(count, number),
+        Kind::Fat => read_fat(number),
     }
-    if kind == RESERVED {
-        return read_reserved(count, number);
-    }
-    if kind == FAT {
-        return read_fat(number);
-    }
-    Decoded::Invalid
 }
 
-// What the word means, or that it is no lock word.
+// What the word means; None, it is no lock word.
 #[tactic(auto, using(crate::proofs::KindTable::beyond, crate::proofs::KindTable::read_by_kind))]
-pub fn read_word(word: u32) -> Decoded
+pub fn read_word(word: u32) -> Option<LockWord>
     ensures { result ≡ read_word word }
 {
     if FIRST_BEYOND <= word {
-        return Decoded::Invalid;
+        return None;
     }
     let low = (word % NUMBER_UNIT) as u8;
     by_kind(kind_of(low), count_field(low), (word / NUMBER_UNIT) as u16)

@@ -1,7 +1,8 @@
 -- What a program keeps between two lines: the session of the schedule that is replayed, and for the report the tally of all schedules.
 use Rattle.std.specs.Prelude.{Bool}
 use Rattle.laws.specs.Choice.{pick}
-use Rattle.replay_session.specs.Session.{no_table, fresh_session}
+use Rattle.lock_table.specs.Fresh.{no_table}
+use Rattle.replay_session.specs.Session.{fresh_session}
 use Rattle.replay_session.specs.declared.session.Stage.TheVariants.{Over}
 use Rattle.replay_session.specs.declared.session.Session.{Session}
 use Rattle.report_tally.specs.Tally.{fresh_tally}

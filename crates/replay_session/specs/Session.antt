@@ -1,12 +1,11 @@
 -- The session of a replay and what each line does to it (document 01, "The replay program"), by the engine's own begin, step and tick.
-use Rattle.std.specs.Prelude.{ℕ, Bool, true, false, leb}
+use Rattle.std.specs.Prelude.{ℕ, Bool, true, false, leb, Result, Ok, Err}
 use Rattle.laws.specs.Choice.{pick}
 use Rattle.lock_table.specs.Access.{thread_at, object_at}
 use Rattle.lock_table.specs.Phase.{phase_number}
-use Rattle.lock_table.specs.Fresh.{sized_request, fresh_of, fresh_returned}
+use Rattle.lock_table.specs.Fresh.{sized_request, no_table, fresh_of, refusal_returned}
 use Rattle.lock_table.specs.declared.record.Table.{Table}
-use Rattle.lock_table.specs.declared.fresh_table.FreshAnswer.{FreshAnswer}
-use Rattle.lock_table.specs.declared.fresh_table.FreshAnswer.TheVariants.{Made, Refused}
+use Rattle.lock_table.specs.declared.fresh_table.FreshRefusal.{FreshRefusal}
 use Rattle.lock_rules.specs.Numbers.{first_refusal}
 use Rattle.lock_engine.specs.Outcome.{reply_returned, reply_woken}
 use Rattle.lock_engine.specs.Handle.{begin, step, tick_event}
@@ -26,9 +25,6 @@ use Rattle.replay_session.specs.declared.reacting.Reaction.{Reaction}
 abbrev pub malformed : ℕ
 malformed = 21
 
-abbrev pub no_table : Table
-no_table = (fresh_of (sized_request 0 0 false)).table
-
 abbrev pub fresh_session : Session
 fresh_session = record { stage = Opening; table = no_table }
 
@@ -36,12 +32,12 @@ abbrev pub staying : Stage → Table → Answer → Reaction
 staying stage table answer = record { session = record { stage = stage; table = table }; answer = answer }
 
 -- a good header prints nothing; one with bad sizes the fresh table's number, 22, and ends the run
-unfoldable pub opened_by : FreshAnswer → Table → Reaction
-opened_by Made table = staying Running table Silent
-opened_by (Refused refusal) table = staying Over table (Alone (fresh_returned (Refused refusal)))
+unfoldable pub opened_by : Result Table FreshRefusal → Reaction
+opened_by (Ok table) = staying Running table Silent
+opened_by (Err refusal) = staying Over no_table (Alone (refusal_returned refusal))
 
 unfoldable pub open_by : Table → Line → Reaction
-open_by table (Header threads objects reserved) = let made = fresh_of (sized_request threads objects reserved) in opened_by made.answer made.table
+open_by table (Header threads objects reserved) = opened_by (fresh_of (sized_request threads objects reserved))
 open_by table (Begin operation thread object limit) = staying Over table (Alone malformed)
 open_by table (Step thread) = staying Over table (Alone malformed)
 open_by table Tick = staying Over table (Alone malformed)

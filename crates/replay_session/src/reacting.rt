@@ -9,7 +9,7 @@ use lock_engine::{Outcome, Reply, handle_trusting, refusal_number, returned, wok
 use lock_gate::{event_object, event_thread};
 use lock_rules::{Event, Refusal};
 use lock_table::{
-    FreshAnswer, FreshTable, Phase, Table, fresh, fresh_returned, narrow, object_at, phase_number,
+    FreshRefusal, Phase, Table, fresh, fresh_returned, narrow, no_table, object_at, phase_number,
     sized_request, thread_at,
 };
 use replay_lines::Line;
@@ -35,29 +35,20 @@ fn stay(stage: Stage, table: Table, answer: Answer) -> Reaction
     }
 }
 
-#[tactic(auto, unfolding(crate::specs::Session::opened_by))]
-fn opened(answer: FreshAnswer, table: Table) -> Reaction
-    ensures { result ≡ opened_by answer table }
+#[tactic(auto, unfolding(crate::specs::Session::opened_by, lock_table::specs::Fresh::fresh_returned))]
+fn opened(made: Result<Table, FreshRefusal>) -> Reaction
+    ensures { result ≡ opened_by made }
 {
-    match answer {
-        FreshAnswer::Made => stay(Stage::Running, table, Answer::Silent),
-        FreshAnswer::Refused(_) => stay(
+    match made {
+        Ok(table) => stay(Stage::Running, table, Answer::Silent),
+        Err(refusal) => stay(
             Stage::Over,
-            table,
+            no_table(),
             Answer::Alone {
-                number: fresh_returned(answer) as u16,
+                number: fresh_returned(Err(refusal)) as u16,
             },
         ),
     }
-}
-
-#[tactic(auto, unfolding(crate::specs::Session::opened_by))]
-fn open_with(made: FreshTable) -> Reaction
-    ensures { result ≡ opened_by made.answer made.table }
-{
-    let answer = made.answer;
-    let table = made.table;
-    opened(answer, table)
 }
 
 // The first line is the header, or the run is over.
@@ -70,7 +61,7 @@ fn open_by(table: Table, line: Line) -> Reaction
             threads,
             objects,
             reserved,
-        } => open_with(fresh(sized_request(threads, objects, reserved))),
+        } => opened(fresh(sized_request(threads, objects, reserved))),
         Line::Begin {
             operation: _,
             thread: _,

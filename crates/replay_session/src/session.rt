@@ -1,9 +1,9 @@
 // The state between two lines.
 ghost use Rattle.std.specs.Prelude.{◌≡◌};
-ghost use Rattle.replay_session.specs.Session.{no_table, fresh_session, over_by, session_over};
+ghost use Rattle.replay_session.specs.Session.{fresh_session, over_by, session_over};
 ghost use Rattle.replay_session.specs.Trusting.{sound_by, session_sound};
 
-use lock_table::Table;
+use lock_table::{Table, no_table};
 
 #[derive(Clone, Copy)]
 pub enum Stage {
@@ -19,14 +19,6 @@ pub struct Session {
     pub stage: Stage,
     // all zero unless the stage is Running
     pub table: Table,
-}
-
-// The table of no threads and no objects, which `fresh` gives where it refuses.
-fn no_table() -> Table
-    ensures { result ≡ no_table }
-{
-    let refused = lock_table::fresh(lock_table::sized_request(0, 0, false));
-    refused.table
 }
 
 pub fn fresh_session() -> Session

@@ -11,9 +11,10 @@ use lib.Seq.{set-get_or}
 use borrow.Author.Tests.{eqb-true}
 use Rattle.laws.proofs.Choice.{split, both_no, false≢true}
 use Rattle.lock_rules.specs.Numbers.{refusal_number}
-use Rattle.lock_rules.specs.declared.event.{Event.Event, Gate.Gate}
+use Rattle.std.specs.Prelude.{Result, Ok, Err}
+use Rattle.lock_rules.specs.declared.event.Refusal.{Refusal}
+use Rattle.lock_rules.specs.declared.event.{Event.Event}
 use Rattle.lock_rules.specs.declared.event.Event.TheVariants.{Step as StepEvent}
-use Rattle.lock_rules.specs.declared.event.Gate.TheVariants.{Open, Shut}
 use Rattle.lock_rules.specs.declared.event.Refusal.TheVariants.{NotSound}
 use Rattle.lock_table.specs.{Narrow.narrow_of, Limits.thread_limit, Limits.object_limit}
 use Rattle.lock_table.specs.Record.{no_thread, no_object}
@@ -55,10 +56,10 @@ unfolding way_finished finishes_enter
 not_finished thread own word number other = rw (other, both_no (is_enter own.operation)) refl
 
 -- a step that is about no object's record is refused
-kept_other : (gated : Gate) (thread : ℕ) (own : ThreadRecord) → eqb (reply_returned (parts_of gated (StepEvent thread) own).reply) finished_number ≡ true → ⊥
+kept_other : (gated : Result (Unit {0}) Refusal) (thread : ℕ) (own : ThreadRecord) → eqb (reply_returned (parts_of gated (StepEvent thread) own).reply) finished_number ≡ true → ⊥
 unfolding reply_returned
-kept_other Open thread own is = refusal_other NotSound (eqb-true (refusal_number NotSound) finished_number is)
-kept_other (Shut refusal) thread own is = refusal_other refusal (eqb-true (refusal_number refusal) finished_number is)
+kept_other (Ok _) thread own is = refusal_other NotSound (eqb-true (refusal_number NotSound) finished_number is)
+kept_other (Err refusal) thread own is = refusal_other refusal (eqb-true (refusal_number refusal) finished_number is)
 
 module _ (t : Table) (thread : ℕ) (issound : Bool) (known : issound ≡ sound_of t) where
   abbrev event : Event

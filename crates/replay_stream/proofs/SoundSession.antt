@@ -7,14 +7,14 @@ use mathlib.Core.List.{[]}
 use Rattle.lock_rules.specs.declared.event.Event.{Event}
 use Rattle.lock_rules.specs.declared.event.Event.TheVariants.{Begin as BeginEvent, Step as StepEvent, Tick as TickEvent}
 use Rattle.lock_table.specs.{Access.thread_at, WellTyped.WellTyped, Narrow.narrow_of}
-use Rattle.lock_table.specs.Fresh.{sized_request, refused_of, InRange, fresh_of}
+use Rattle.lock_table.specs.Fresh.{sized_request, InRange, fresh_of}
 use Rattle.lock_table.proofs.FreshTables.{fresh_made, fresh_either}
 use Rattle.lock_table.specs.declared.record.Table.{Table}
-use Rattle.lock_table.specs.declared.fresh_table.{FreshRequest.FreshRequest, FreshRefusal.FreshRefusal, FreshTable.FreshTable}
+use Rattle.lock_table.specs.declared.fresh_table.{FreshRequest.FreshRequest, FreshRefusal.FreshRefusal}
 use Rattle.lock_soundness.specs.Sound.{sound_of}
 use Rattle.lock_rules.specs.Gate.{gate, event_thread}
 use Rattle.lock_rules.specs.declared.event.Refusal.TheVariants.{NotSound}
-use Rattle.lock_rules.specs.declared.event.Gate.TheVariants.{Shut}
+use Rattle.std.specs.Prelude.{Result, Err}
 use Rattle.lock_gate.specs.Status.{thread_status}
 use Rattle.lock_engine.specs.Handle.{handle_trusting, handle}
 use Rattle.lock_engine.specs.declared.outcome.Outcome.{Outcome}
@@ -65,7 +65,7 @@ unfolding handle
 refused_same table event unsound = rw unsound (ap (λ (outcome : Outcome). outcome.table) (handle_shut table event false NotSound (shut event)))
   where
     shut : (event : Event)
-        → gate false table.threadcount table.objectcount event (thread_status (thread_at table (event_thread event)).phase) ≡ Shut NotSound
+        → gate false table.threadcount table.objectcount event (thread_status (thread_at table (event_thread event)).phase) ≡ Err NotSound
     shut (BeginEvent operation thread object limit) = refl
     shut (StepEvent thread) = refl
     shut TickEvent = refl
@@ -86,14 +86,14 @@ well_typed_by Running typed = typed
 well_typed_by Over typed = tt
 
 -- a header opens the session with a sound table, which is well typed, or ends it
-abbrev Opens : FreshTable → Type 0
-Opens made = let session = (opened_by made.answer made.table).session in (session_sound session ≡ true) × WellTypedBy session.stage session.table
+abbrev Opens : Result Table FreshRefusal → Type 0
+Opens made = let session = (opened_by made).session in (session_sound session ≡ true) × WellTypedBy session.stage session.table
 
 opens : (request : FreshRequest) → Opens (fresh_of request)
 unfolding opened_by sound_by
 opens request = at (fresh_either request)
   where
-    at : InRange request ⊎ ((refusal : FreshRefusal) × (fresh_of request ≡ refused_of refusal)) → Opens (fresh_of request)
+    at : InRange request ⊎ ((refusal : FreshRefusal) × (fresh_of request ≡ Err refusal)) → Opens (fresh_of request)
     at (inl in_range) =
         let made = fresh_made request in_range in
         rw made (rw made at (reached_sound request in_range []), rw made at (reached_well_typed request in_range []))

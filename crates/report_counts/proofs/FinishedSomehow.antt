@@ -12,12 +12,13 @@ use Rattle.lock_word.specs.Meaning.{kept_count, seen_word}
 use Rattle.lock_word.specs.Read.{read_word}
 use Rattle.lock_word.specs.declared.reading.LockWord.TheVariants.{Free as FreeWord, Flat as FlatWord, Anonymous as AnonymousWord}
 use Rattle.lock_word.specs.declared.reading.LockWord.TheVariants.{Reserved as ReservedWord, Fat as FatWord}
-use Rattle.lock_word.specs.declared.reading.Decoded.{Decoded}
-use Rattle.lock_word.specs.declared.reading.Decoded.TheVariants.{Valid, Invalid}
+use Rattle.std.specs.Prelude.{Option, Some, None}
+use Rattle.lock_word.specs.declared.reading.LockWord.{LockWord}
 use Rattle.lock_word.specs.declared.meaning.WordSeen.{WordSeen}
 use Rattle.lock_word.specs.declared.meaning.WordSeen.TheVariants.{Fat, Reserved}
 use Rattle.lock_rules.specs.Rules.{enter_look, cancel, decide}
-use Rattle.lock_rules.specs.declared.{Action.Action, Suspension.Suspension, Sight.Sight}
+use Rattle.lock_rules.specs.declared.Effect.{Effect}
+use Rattle.lock_rules.specs.declared.{Suspension.Suspension, Sight.Sight}
 use Rattle.lock_rules.specs.declared.Doing.TheVariants.{EnterLook, EnterCancel}
 use Rattle.lock_rules.specs.declared.event.Refusal.TheVariants.{NotSound}
 use Rattle.lock_rules.proofs.Each.{each_word}
@@ -51,7 +52,7 @@ other_way some is = some (ap way_number is)
 
 module _ (thread : ℕ) (own : ThreadRecord) (object : ObjectRecord) where
   -- an action that does not finish its operation
-  abbrev Unfinished : Action → Type 0
+  abbrev Unfinished : Option Effect → Type 0
   Unfinished action = reply_returned (action_turn thread own object action).reply ≢ finished_number
 
   -- phase 1 goes on where the word is reserved or fat
@@ -73,20 +74,20 @@ module _ (thread : ℕ) (own : ThreadRecord) (object : ObjectRecord) where
       (omega arith, omega arith, omega arith, λ owner count. omega arith, λ owner count. omega arith)
 
   module _ (waiters : ℕ) where
-    cancel_word : (decoded : Decoded) → reply_returned (word_turn thread own object waiters EnterCancel decoded).reply ≢ finished_number
+    cancel_word : (decoded : Option LockWord) → reply_returned (word_turn thread own object waiters EnterCancel decoded).reply ≢ finished_number
     unfolding word_turn decide reply_returned
-    cancel_word Invalid = refusal_other NotSound
-    cancel_word (Valid word) = cancel_goes_on _ (seen_word word)
+    cancel_word None = refusal_other NotSound
+    cancel_word (Some word) = cancel_goes_on _ (seen_word word)
 
-    look_word : (decoded : Decoded) → reply_returned (word_turn thread own object waiters EnterLook decoded).reply ≡ finished_number
+    look_word : (decoded : Option LockWord) → reply_returned (word_turn thread own object waiters EnterLook decoded).reply ≡ finished_number
         → way_by_word decoded ≢ NoEnter
     unfolding word_turn decide reply_returned seen_word way_by_word way_by_meaning way_number
-    look_word Invalid is = absurd (refusal_other NotSound is)
-    look_word (Valid FreeWord) is = other_way (omega arith)
-    look_word (Valid (FlatWord owner count)) is = other_way (omega arith)
-    look_word (Valid AnonymousWord) is = other_way (omega arith)
-    look_word (Valid (ReservedWord owner count)) is = absurd (look_reserved _ owner.0 count is)
-    look_word (Valid (FatWord monitor)) is = absurd (look_fat _ is)
+    look_word None is = absurd (refusal_other NotSound is)
+    look_word (Some FreeWord) is = other_way (omega arith)
+    look_word (Some (FlatWord owner count)) is = other_way (omega arith)
+    look_word (Some AnonymousWord) is = other_way (omega arith)
+    look_word (Some (ReservedWord owner count)) is = absurd (look_reserved _ owner.0 count is)
+    look_word (Some (FatWord monitor)) is = absurd (look_fat _ is)
 
     -- by the phase, which is one that an enter uses
     phase_way : (phase : Phase) (count : ℕ) (suspension : Suspension) → uses_phase Enter (phase_number phase) ≡ true

@@ -9,7 +9,7 @@ use lib.Dec.{leb}
 use Rattle.laws.specs.Choice.{pick, both, within}
 use Rattle.laws.proofs.Choice.{split, both_second, false≢true}
 use Rattle.lock_table.specs.Limits.{thread_limit, object_limit}
-use Rattle.lock_table.specs.Fresh.{sized_request, in_range, ranks_fit, fresh_answer, met_request, fresh_of}
+use Rattle.lock_table.specs.Fresh.{sized_request, in_range, ranks_fit, fresh_answer, made_by, fresh_of, no_table}
 use Rattle.lock_table.specs.declared.fresh_table.FreshRequest.{FreshRequest}
 use Rattle.lock_table.proofs.FreshTables.{sized_ranks_fit}
 use Rattle.replay_lines.specs.Bytes.{letter_L}
@@ -18,18 +18,18 @@ use Rattle.replay_lines.specs.LineText.{begins_with}
 use Rattle.replay_lines.specs.declared.reading.Line.{Line}
 use Rattle.replay_lines.specs.declared.reading.Line.TheVariants.{Header, Begin, Step, Tick, BadHeader, Malformed}
 use Rattle.replay_lines.proofs.Headers.{header_begins}
-use Rattle.replay_session.specs.Session.{no_table, fresh_session, opened_by, open_by, react_at_stage, react_of}
+use Rattle.replay_session.specs.Session.{fresh_session, opened_by, open_by, react_at_stage, react_of}
 use Rattle.report_counts.specs.Enters.{good_objects, opened_objects}
 
 made_objects : (request : FreshRequest) → ranks_fit request ≡ true
-    → (opened_by (fresh_of request).answer (fresh_of request).table).session.table.objectcount
+    → (opened_by (fresh_of request)).session.table.objectcount
     ≡ pick (both (within 1 thread_limit request.threads) (within 1 object_limit request.objects)) request.objects 0
-unfolding opened_by fresh_of fresh_answer met_request in_range
+unfolding opened_by fresh_of fresh_answer made_by in_range
 made_objects request ranked =
     split (both (within 1 thread_limit request.threads) (within 1 object_limit request.objects)) (λ sized. rw (sized, ranked) refl) (λ outside. rw outside refl)
 
 header_objects : (line : Line) → is_header line ≡ true → (open_by no_table line).session.table.objectcount ≡ good_objects line
-unfolding open_by is_header good_objects fresh_of fresh_answer met_request in_range
+unfolding open_by is_header good_objects fresh_of fresh_answer made_by in_range
 header_objects (Header threads objects reserved) is =
     made_objects (sized_request threads objects reserved) (sized_ranks_fit threads objects reserved)
 header_objects (Begin operation thread object limit) other = false≢true other

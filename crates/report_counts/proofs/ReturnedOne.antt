@@ -7,7 +7,8 @@ use native.Mathlib.Omega.{arith}
 use borrow.Author.Tests.{eqb-true}
 use Rattle.laws.proofs.Choice.{both_first, both_second, false≢true}
 use Rattle.lock_rules.specs.Gate.{is_idle}
-use Rattle.lock_rules.specs.declared.event.Gate.{Gate}
+use Rattle.std.specs.Prelude.{Result}
+use Rattle.lock_rules.specs.declared.event.Refusal.{Refusal}
 use Rattle.lock_rules.specs.declared.event.Event.TheVariants.{Step}
 use Rattle.lock_rules.specs.declared.event.Refusal.TheVariants.{NotSound}
 use Rattle.lock_rules.specs.declared.event.ThreadStatus.TheVariants.{Ready}
@@ -84,7 +85,7 @@ module _ (table : Table) (thread : ℕ) where
   unfolding handle handle_trusting gate_turn open_turn reply_returned
   let_through =
       by_gate (trusted table (sound_of table)) table.threadcount table.objectcount
-      (λ (gated : Gate).
+      (λ (gated : Result (Unit {0}) Refusal).
       let object = object_at table own.object in
       reply_returned (gate_turn gated (Step thread) own object (waiters_of table object)).reply ≡ finished_number → LetThrough)
       (λ unsound is. absurd (refusal_other NotSound is)) (λ refusal sound high is. absurd (refusal_other refusal is)) (Step thread)

@@ -8,7 +8,7 @@ use lib.Dec.{eqb}
 use lib.ListN.{length-replicate, get_or-replicate}
 use Rattle.laws.specs.Choice.{both}
 use Rattle.lock_table.specs.Limits.{object_limit}
-use Rattle.lock_table.specs.Fresh.{in_range, fresh_answer, met_request, fresh_of}
+use Rattle.lock_table.specs.Fresh.{in_range, fresh_answer, made_by, fresh_of}
 use Rattle.replay_lines.specs.Cutting.{lines_of}
 use Rattle.replay_text.specs.Row.{figures_sum}
 use Rattle.replay_text.specs.declared.row.Figures.{Figures}
@@ -32,7 +32,7 @@ unfolding figure_of
 no_figure = each_way (λ way. figure_of way no_figures ≡ 0) (refl, refl, refl, refl, refl, refl)
 
 no_schedule_fine : (limit : ℕ) → Fine limit no_schedule
-unfolding sound_by fresh_of fresh_answer met_request in_range
+unfolding sound_by fresh_of fresh_answer made_by in_range
 no_schedule_fine limit = record { sound = refl; typed = tt; known = omega arith }
 
 module _ (input : List ℕ) (room : lines_counted (lines_of input) ≤ most_lines) where

@@ -1,12 +1,10 @@
 -- The way in which an enter finishes (document 02, L4): "by anonymous reservation, by a reserved store, by a free word, by nesting in a flat word,
 -- and through the monitor (phases 4, 6, 7)", by the phase of the step that finishes it and the lock word before that step.
-use Rattle.std.specs.Prelude.{ℕ, Bool, true, false, eqb}
+use Rattle.std.specs.Prelude.{ℕ, Bool, true, false, eqb, Option, Some, None}
 use Rattle.laws.specs.Choice.{pick, both}
 use Rattle.lock_word.specs.Read.{read_word}
 use Rattle.lock_word.specs.declared.reading.LockWord.{LockWord}
 use Rattle.lock_word.specs.declared.reading.LockWord.TheVariants.{Free as FreeWord, Flat, Anonymous as AnonymousWord, Reserved as ReservedWord, Fat}
-use Rattle.lock_word.specs.declared.reading.Decoded.{Decoded}
-use Rattle.lock_word.specs.declared.reading.Decoded.TheVariants.{Valid, Invalid}
 use Rattle.lock_rules.specs.declared.event.Event.{Event}
 use Rattle.lock_rules.specs.declared.event.Event.TheVariants.{Begin, Step, Tick}
 use Rattle.lock_rules.specs.Numbers.{returned_of}
@@ -47,9 +45,9 @@ way_by_meaning AnonymousWord = Anonymous
 way_by_meaning (ReservedWord thread count) = NoEnter
 way_by_meaning (Fat object) = NoEnter
 
-unfoldable pub way_by_word : Decoded → Way
-way_by_word (Valid word) = way_by_meaning word
-way_by_word Invalid = NoEnter
+unfoldable pub way_by_word : Option LockWord → Way
+way_by_word (Some word) = way_by_meaning word
+way_by_word None = NoEnter
 
 -- an enter finishes in no other phase, and in phase 1 on no other word (the law `finished_somehow`)
 unfoldable pub way_of : Phase → ℕ → Way

@@ -5,7 +5,7 @@ ghost use Rattle.report_tally.specs.Way.{finished_number, is_enter, finishes_ent
 use lock_engine::{Reply, returned};
 use lock_rules::{Answer, Event};
 use lock_table::{Operation, Phase, ThreadRecord};
-use lock_word::{Decoded, LockWord, read_word};
+use lock_word::{LockWord, read_word};
 
 #[derive(Clone, Copy)]
 pub enum Way {
@@ -77,12 +77,12 @@ fn way_by_meaning(word: LockWord) -> Way
 }
 
 #[tactic(auto, unfolding(crate::specs::Way::way_by_word))]
-fn way_by_word(decoded: Decoded) -> Way
+fn way_by_word(decoded: Option<LockWord>) -> Way
     ensures { result ≡ way_by_word decoded }
 {
     match decoded {
-        Decoded::Valid(word) => way_by_meaning(word),
-        Decoded::Invalid => Way::NoEnter,
+        Some(word) => way_by_meaning(word),
+        None => Way::NoEnter,
     }
 }
 

@@ -2,7 +2,7 @@
 ghost use Rattle.std.specs.Prelude.{◌≡◌};
 ghost use Rattle.lock_rules.specs.Actions.{keep_object, go_on, not_owner, finish_committed, finish, finish_word, finish_depth, let_go, inflate, cancel_word, become_holder, raise_flag};
 
-use lock_rules::{Action, Answer, ChainWork, Doing, Effect, Sight, ThreadState, WordChange};
+use lock_rules::{Answer, ChainWork, Doing, Effect, Sight, ThreadState, WordChange};
 use lock_word::Depth;
 
 // The work on chains, the thread's state and the answer, with word and monitor as they are.
@@ -12,10 +12,10 @@ pub fn keep_object(
     state: ThreadState,
     answer: Answer,
     commits: bool,
-) -> Action
+) -> Option<Effect>
     ensures { result ≡ keep_object sight work state answer commits }
 {
-    Action::Do(Effect {
+    Some(Effect {
         work: work,
         state: state,
         word: WordChange::Unchanged,
@@ -27,7 +27,7 @@ pub fn keep_object(
     })
 }
 
-pub fn go_on(sight: Sight, doing: Doing) -> Action
+pub fn go_on(sight: Sight, doing: Doing) -> Option<Effect>
     ensures { result ≡ go_on sight doing }
 {
     keep_object(
@@ -39,7 +39,7 @@ pub fn go_on(sight: Sight, doing: Doing) -> Action
     )
 }
 
-pub fn not_owner(sight: Sight) -> Action
+pub fn not_owner(sight: Sight) -> Option<Effect>
     ensures { result ≡ not_owner sight }
 {
     keep_object(
@@ -52,7 +52,7 @@ pub fn not_owner(sight: Sight) -> Action
 }
 
 // An exit that committed at its look finishes.
-pub fn finish_committed(sight: Sight) -> Action
+pub fn finish_committed(sight: Sight) -> Option<Effect>
     ensures { result ≡ finish_committed sight }
 {
     keep_object(
@@ -64,7 +64,7 @@ pub fn finish_committed(sight: Sight) -> Action
     )
 }
 
-pub fn finish(sight: Sight) -> Action
+pub fn finish(sight: Sight) -> Option<Effect>
     ensures { result ≡ finish sight }
 {
     keep_object(
@@ -76,10 +76,10 @@ pub fn finish(sight: Sight) -> Action
     )
 }
 
-pub fn finish_word(sight: Sight, word: WordChange) -> Action
+pub fn finish_word(sight: Sight, word: WordChange) -> Option<Effect>
     ensures { result ≡ finish_word sight word }
 {
-    Action::Do(Effect {
+    Some(Effect {
         work: ChainWork::Stay,
         state: ThreadState::Idle,
         word: word,
@@ -91,10 +91,10 @@ pub fn finish_word(sight: Sight, word: WordChange) -> Action
     })
 }
 
-pub fn finish_depth(sight: Sight, depth: Depth, woken: u8) -> Action
+pub fn finish_depth(sight: Sight, depth: Depth, woken: u8) -> Option<Effect>
     ensures { result ≡ finish_depth sight depth woken }
 {
-    Action::Do(Effect {
+    Some(Effect {
         work: ChainWork::Stay,
         state: ThreadState::Idle,
         word: WordChange::Unchanged,
@@ -106,10 +106,10 @@ pub fn finish_depth(sight: Sight, depth: Depth, woken: u8) -> Action
     })
 }
 
-pub fn let_go(sight: Sight, word: WordChange, depth: Depth, doing: Doing) -> Action
+pub fn let_go(sight: Sight, word: WordChange, depth: Depth, doing: Doing) -> Option<Effect>
     ensures { result ≡ let_go sight word depth doing }
 {
-    Action::Do(Effect {
+    Some(Effect {
         work: ChainWork::Stay,
         state: ThreadState::Running(doing),
         word: word,
@@ -128,10 +128,10 @@ pub fn inflate(
     state: ThreadState,
     answer: Answer,
     commits: bool,
-) -> Action
+) -> Option<Effect>
     ensures { result ≡ inflate sight depth state answer commits }
 {
-    Action::Do(Effect {
+    Some(Effect {
         work: ChainWork::MoveAndLetOut,
         state: state,
         word: WordChange::Inflated,
@@ -144,10 +144,10 @@ pub fn inflate(
 }
 
 // The word's reservation cancelled; `look` is where the operation goes back to.
-pub fn cancel_word(sight: Sight, work: ChainWork, look: Doing) -> Action
+pub fn cancel_word(sight: Sight, work: ChainWork, look: Doing) -> Option<Effect>
     ensures { result ≡ cancel_word sight work look }
 {
-    Action::Do(Effect {
+    Some(Effect {
         work: work,
         state: ThreadState::Running(look),
         word: WordChange::Cancelled,
@@ -159,10 +159,10 @@ pub fn cancel_word(sight: Sight, work: ChainWork, look: Doing) -> Action
     })
 }
 
-pub fn become_holder(thread: u8, sight: Sight, doing: Doing) -> Action
+pub fn become_holder(thread: u8, sight: Sight, doing: Doing) -> Option<Effect>
     ensures { result ≡ become_holder thread sight doing }
 {
-    Action::Do(Effect {
+    Some(Effect {
         work: ChainWork::Stay,
         state: ThreadState::Running(doing),
         word: WordChange::Unchanged,
@@ -174,10 +174,10 @@ pub fn become_holder(thread: u8, sight: Sight, doing: Doing) -> Action
     })
 }
 
-pub fn raise_flag(sight: Sight) -> Action
+pub fn raise_flag(sight: Sight) -> Option<Effect>
     ensures { result ≡ raise_flag sight }
 {
-    Action::Do(Effect {
+    Some(Effect {
         work: ChainWork::Stay,
         state: ThreadState::Running(Doing::EnterTry),
         word: WordChange::Unchanged,

@@ -2,7 +2,7 @@
 ghost use Rattle.std.specs.Prelude.{◌≡◌};
 ghost use Rattle.lock_rules.specs.Rules.{owner_only, owner_seen, decide};
 
-use lock_rules::{Action, Doing, OnwardStep, Sight};
+use lock_rules::{Doing, Effect, OnwardStep, Sight};
 use rule_look::{
     cancel, enter_look, enter_store, exit_owned, exit_store, notify_all_owned, notify_owned,
     owner_only, owner_seen, wait_owned,
@@ -13,14 +13,14 @@ use rule_monitor::{
 };
 
 // What the object's owner alone may do, by the word that is seen.
-fn by_owner(thread: u8, sight: Sight, action: Action) -> Action
+fn by_owner(thread: u8, sight: Sight, action: Option<Effect>) -> Option<Effect>
     ensures { result ≡ owner_only thread sight (owner_seen sight) action }
 {
     owner_only(thread, sight, owner_seen(sight), action)
 }
 
 #[tactic(auto, unfolding(lock_rules::specs::Rules::decide))]
-pub fn decide(thread: u8, sight: Sight, doing: Doing) -> Action
+pub fn decide(thread: u8, sight: Sight, doing: Doing) -> Option<Effect>
     ensures { result ≡ decide thread sight doing }
 {
     let word = sight.word;

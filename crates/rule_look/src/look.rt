@@ -3,7 +3,7 @@ ghost use Rattle.std.specs.Prelude.{◌≡◌};
 ghost use Rattle.lock_rules.specs.Rules.{owner_seen, enter_look, deflation, exit_owned, wait_owned, notify_owned, notify_all_owned, owner_only, enter_store, exit_store, cancel};
 
 use chains::Chain;
-use lock_rules::{Action, Answer, ChainWork, Doing, Limit, Sight, Taken, ThreadState, WordChange};
+use lock_rules::{Answer, ChainWork, Doing, Effect, Limit, Sight, Taken, ThreadState, WordChange};
 use lock_word::{COUNT_LIMIT, WordSeen, owner_of};
 use rule_actions::{
     cancel_word, finish, finish_depth, finish_word, go_on, keep_object, let_go, not_owner,
@@ -18,7 +18,7 @@ pub fn owner_seen(sight: Sight) -> u16
 }
 
 // What only the owner may do; 18 for anybody else.
-pub fn owner_only(thread: u8, sight: Sight, owner: u16, action: Action) -> Action
+pub fn owner_only(thread: u8, sight: Sight, owner: u16, action: Option<Effect>) -> Option<Effect>
     ensures { result ≡ owner_only thread sight owner action }
 {
     if owner == (thread as u16) {
@@ -29,7 +29,7 @@ pub fn owner_only(thread: u8, sight: Sight, owner: u16, action: Action) -> Actio
 
 // 1 look, enter.
 #[tactic(auto, unfolding(lock_rules::specs::Rules::enter_look))]
-pub fn enter_look(thread: u8, sight: Sight, word: WordSeen) -> Action
+pub fn enter_look(thread: u8, sight: Sight, word: WordSeen) -> Option<Effect>
     ensures { result ≡ enter_look thread sight word }
 {
     match word {
@@ -74,7 +74,7 @@ fn deflation(sight: Sight) -> WordChange
 
 // 1 look, exit, by the owner.
 #[tactic(auto, unfolding(lock_rules::specs::Rules::exit_owned))]
-pub fn exit_owned(sight: Sight, word: WordSeen) -> Action
+pub fn exit_owned(sight: Sight, word: WordSeen) -> Option<Effect>
     ensures { result ≡ exit_owned sight word }
 {
     match word {
@@ -98,7 +98,7 @@ pub fn exit_owned(sight: Sight, word: WordSeen) -> Action
 
 // 1 look, wait, by the owner.
 #[tactic(auto, unfolding(lock_rules::specs::Rules::wait_owned))]
-pub fn wait_owned(sight: Sight, limit: Limit, word: WordSeen) -> Action
+pub fn wait_owned(sight: Sight, limit: Limit, word: WordSeen) -> Option<Effect>
     ensures { result ≡ wait_owned sight limit word }
 {
     match word {
@@ -112,7 +112,7 @@ pub fn wait_owned(sight: Sight, limit: Limit, word: WordSeen) -> Action
 
 // 1 look, notify, by the owner.
 #[tactic(auto, unfolding(lock_rules::specs::Rules::notify_owned))]
-pub fn notify_owned(sight: Sight, word: WordSeen) -> Action
+pub fn notify_owned(sight: Sight, word: WordSeen) -> Option<Effect>
     ensures { result ≡ notify_owned sight word }
 {
     match word {
@@ -137,7 +137,7 @@ pub fn notify_owned(sight: Sight, word: WordSeen) -> Action
 
 // 1 look, notify all, by the owner.
 #[tactic(auto, unfolding(lock_rules::specs::Rules::notify_all_owned))]
-pub fn notify_all_owned(sight: Sight, word: WordSeen) -> Action
+pub fn notify_all_owned(sight: Sight, word: WordSeen) -> Option<Effect>
     ensures { result ≡ notify_all_owned sight word }
 {
     match word {
@@ -157,29 +157,29 @@ pub fn notify_all_owned(sight: Sight, word: WordSeen) -> Action
 
 // 2 store, enter.
 #[tactic(auto, unfolding(lock_rules::specs::Rules::enter_store))]
-pub fn enter_store(sight: Sight, count: u8) -> Action
+pub fn enter_store(sight: Sight, count: u8) -> Option<Effect>
     ensures { result ≡ enter_store sight count }
 {
     if count < COUNT_LIMIT {
         return finish_word(sight, WordChange::OwnReserved(count + 1));
     }
-    Action::Unruled
+    None
 }
 
 // 2 store, exit.
 #[tactic(auto, unfolding(lock_rules::specs::Rules::exit_store))]
-pub fn exit_store(sight: Sight, count: u8) -> Action
+pub fn exit_store(sight: Sight, count: u8) -> Option<Effect>
     ensures { result ≡ exit_store sight count }
 {
     if count == 0 {
-        return Action::Unruled;
+        return None;
     }
     finish_word(sight, WordChange::OwnReserved(count - 1))
 }
 
 // 3 cancel; `look` is where the operation goes back to.
 #[tactic(auto, unfolding(lock_rules::specs::Rules::cancel))]
-pub fn cancel(sight: Sight, look: Doing, word: WordSeen) -> Action
+pub fn cancel(sight: Sight, look: Doing, word: WordSeen) -> Option<Effect>
     ensures { result ≡ cancel sight look word }
 {
     match word {

@@ -5,7 +5,7 @@ ghost use Rattle.lock_rules.specs.Rules.{onward, go_in_again, go_in, exit_go_in,
 
 use chains::Chain;
 use lock_rules::{
-    Action, Answer, ChainWork, Doing, Limit, OnwardStep, Sight, Suspension, Taken, ThreadState,
+    Answer, ChainWork, Doing, Effect, Limit, OnwardStep, Sight, Suspension, Taken, ThreadState,
 };
 use lock_word::{DEPTH_LIMIT, Depth, WordSeen};
 use rule_actions::{
@@ -25,13 +25,13 @@ fn onward(carried: OnwardStep) -> Doing
 
 // 4 go in, by the holder itself.
 #[tactic(auto, unfolding(lock_rules::specs::Rules::go_in_again))]
-fn go_in_again(sight: Sight, carried: OnwardStep) -> Action
+fn go_in_again(sight: Sight, carried: OnwardStep) -> Option<Effect>
     ensures { result ≡ go_in_again sight carried }
 {
     match carried {
         OnwardStep::ToCheck => {
             if sight.depth == 0 {
-                return Action::Unruled;
+                return None;
             }
             if sight.depth < DEPTH_LIMIT {
                 return finish_depth(sight, sight.depth + 1, 0);
@@ -44,15 +44,15 @@ fn go_in_again(sight: Sight, carried: OnwardStep) -> Action
                 true,
             )
         }
-        OnwardStep::ToTell => Action::Unruled,
-        OnwardStep::ToInflate(_) => Action::Unruled,
-        OnwardStep::ToResume(_) => Action::Unruled,
+        OnwardStep::ToTell => None,
+        OnwardStep::ToInflate(_) => None,
+        OnwardStep::ToResume(_) => None,
     }
 }
 
 // 4 go in; `carried` is what the thread goes on with as holder.
 #[tactic(auto, unfolding(lock_rules::specs::Rules::go_in))]
-pub fn go_in(thread: u8, sight: Sight, carried: OnwardStep) -> Action
+pub fn go_in(thread: u8, sight: Sight, carried: OnwardStep) -> Option<Effect>
     ensures { result ≡ go_in thread sight carried }
 {
     if sight.holder == 0 {
@@ -72,7 +72,7 @@ pub fn go_in(thread: u8, sight: Sight, carried: OnwardStep) -> Action
 
 // 4 go in, of an exit: with flag 0 there is nobody to tell, and it does not go in.
 #[tactic(auto, unfolding(lock_rules::specs::Rules::exit_go_in))]
-pub fn exit_go_in(thread: u8, sight: Sight) -> Action
+pub fn exit_go_in(thread: u8, sight: Sight) -> Option<Effect>
     ensures { result ≡ exit_go_in thread sight }
 {
     if sight.flag {
@@ -82,28 +82,28 @@ pub fn exit_go_in(thread: u8, sight: Sight) -> Action
 }
 
 // What only the holder may do; 20 for anybody else.
-pub fn holder_only(thread: u8, sight: Sight, action: Action) -> Action
+pub fn holder_only(thread: u8, sight: Sight, action: Option<Effect>) -> Option<Effect>
     ensures { result ≡ holder_only thread sight action }
 {
     if sight.holder == thread {
         return action;
     }
-    Action::Unruled
+    None
 }
 
 // 6 check.
 #[tactic(auto, unfolding(lock_rules::specs::Rules::enter_check))]
-pub fn enter_check(thread: u8, sight: Sight, word: WordSeen) -> Action
+pub fn enter_check(thread: u8, sight: Sight, word: WordSeen) -> Option<Effect>
     ensures { result ≡ enter_check thread sight word }
 {
     match word {
         WordSeen::Free => raise_flag(sight),
-        WordSeen::Anonymous => Action::Unruled,
+        WordSeen::Anonymous => None,
         WordSeen::Fat => {
             if sight.depth == 0 {
                 return finish_depth(sight, 1, 0);
             }
-            Action::Unruled
+            None
         }
         WordSeen::Flat(owner, count) => {
             if owner == (thread as u16) {
@@ -117,22 +117,22 @@ pub fn enter_check(thread: u8, sight: Sight, word: WordSeen) -> Action
             }
             raise_flag(sight)
         }
-        WordSeen::Reserved(_, _) => Action::Unruled,
+        WordSeen::Reserved(_, _) => None,
     }
 }
 
 // 7 try.
 #[tactic(auto, unfolding(lock_rules::specs::Rules::enter_try))]
-pub fn enter_try(thread: u8, sight: Sight, word: WordSeen) -> Action
+pub fn enter_try(thread: u8, sight: Sight, word: WordSeen) -> Option<Effect>
     ensures { result ≡ enter_try thread sight word }
 {
     match word {
         WordSeen::Free => inflate(sight, 1, ThreadState::Idle, Answer::Finished(0), true),
-        WordSeen::Anonymous => Action::Unruled,
-        WordSeen::Fat => Action::Unruled,
+        WordSeen::Anonymous => None,
+        WordSeen::Fat => None,
         WordSeen::Flat(owner, _) => {
             if owner == (thread as u16) {
-                return Action::Unruled;
+                return None;
             }
             keep_object(
                 sight,
@@ -142,13 +142,13 @@ pub fn enter_try(thread: u8, sight: Sight, word: WordSeen) -> Action
                 false,
             )
         }
-        WordSeen::Reserved(_, _) => Action::Unruled,
+        WordSeen::Reserved(_, _) => None,
     }
 }
 
 // 9 test.
 #[tactic(auto, unfolding(lock_rules::specs::Rules::exit_test))]
-pub fn exit_test(sight: Sight) -> Action
+pub fn exit_test(sight: Sight) -> Option<Effect>
     ensures { result ≡ exit_test sight }
 {
     if sight.flag {
@@ -159,7 +159,7 @@ pub fn exit_test(sight: Sight) -> Action
 
 // 10 tell.
 #[tactic(auto, unfolding(lock_rules::specs::Rules::exit_tell))]
-pub fn exit_tell(sight: Sight) -> Action
+pub fn exit_tell(sight: Sight) -> Option<Effect>
     ensures { result ≡ exit_tell sight }
 {
     if sight.flag {
@@ -179,7 +179,7 @@ pub fn exit_tell(sight: Sight) -> Action
 
 // 11 leave.
 #[tactic(auto, unfolding(lock_rules::specs::Rules::exit_leave))]
-pub fn exit_leave(sight: Sight) -> Action
+pub fn exit_leave(sight: Sight) -> Option<Effect>
     ensures { result ≡ exit_leave sight }
 {
     if sight.depth == 0 {
@@ -191,18 +191,18 @@ pub fn exit_leave(sight: Sight) -> Action
             false,
         );
     }
-    Action::Unruled
+    None
 }
 
 // 12 inflate.
 #[tactic(auto, unfolding(lock_rules::specs::Rules::wait_inflate))]
-pub fn wait_inflate(thread: u8, sight: Sight, limit: Limit, word: WordSeen) -> Action
+pub fn wait_inflate(thread: u8, sight: Sight, limit: Limit, word: WordSeen) -> Option<Effect>
     ensures { result ≡ wait_inflate thread sight limit word }
 {
     match word {
-        WordSeen::Free => Action::Unruled,
-        WordSeen::Anonymous => Action::Unruled,
-        WordSeen::Fat => Action::Unruled,
+        WordSeen::Free => None,
+        WordSeen::Anonymous => None,
+        WordSeen::Fat => None,
         WordSeen::Flat(owner, count) => {
             if owner == (thread as u16) {
                 return inflate(
@@ -213,23 +213,23 @@ pub fn wait_inflate(thread: u8, sight: Sight, limit: Limit, word: WordSeen) -> A
                     false,
                 );
             }
-            Action::Unruled
+            None
         }
-        WordSeen::Reserved(_, _) => Action::Unruled,
+        WordSeen::Reserved(_, _) => None,
     }
 }
 
 // 13 wait.
 #[tactic(auto, unfolding(lock_rules::specs::Rules::wait_give_up))]
-pub fn wait_give_up(sight: Sight, limit: Limit, word: WordSeen) -> Action
+pub fn wait_give_up(sight: Sight, limit: Limit, word: WordSeen) -> Option<Effect>
     ensures { result ≡ wait_give_up sight limit word }
 {
     match word {
-        WordSeen::Free => Action::Unruled,
-        WordSeen::Anonymous => Action::Unruled,
+        WordSeen::Free => None,
+        WordSeen::Anonymous => None,
         WordSeen::Fat => {
             if sight.depth == 0 {
-                return Action::Unruled;
+                return None;
             }
             let suspension = Suspension {
                 depth: sight.depth,
@@ -243,8 +243,8 @@ pub fn wait_give_up(sight: Sight, limit: Limit, word: WordSeen) -> Action
                 true,
             )
         }
-        WordSeen::Flat(_, _) => Action::Unruled,
-        WordSeen::Reserved(_, _) => Action::Unruled,
+        WordSeen::Flat(_, _) => None,
+        WordSeen::Reserved(_, _) => None,
     }
 }
 
@@ -272,20 +272,20 @@ fn run_out(limit: Limit) -> u8
 
 // 15 resume.
 #[tactic(auto, unfolding(lock_rules::specs::Rules::wait_resume))]
-pub fn wait_resume(sight: Sight, suspension: Suspension, word: WordSeen) -> Action
+pub fn wait_resume(sight: Sight, suspension: Suspension, word: WordSeen) -> Option<Effect>
     ensures { result ≡ wait_resume sight suspension word }
 {
     match word {
-        WordSeen::Free => Action::Unruled,
-        WordSeen::Anonymous => Action::Unruled,
+        WordSeen::Free => None,
+        WordSeen::Anonymous => None,
         WordSeen::Fat => {
             if sight.depth == 0 {
                 let limit = suspension.limit;
                 return finish_depth(sight, suspension.depth, run_out(limit));
             }
-            Action::Unruled
+            None
         }
-        WordSeen::Flat(_, _) => Action::Unruled,
-        WordSeen::Reserved(_, _) => Action::Unruled,
+        WordSeen::Flat(_, _) => None,
+        WordSeen::Reserved(_, _) => None,
     }
 }

@@ -13,8 +13,8 @@ use Rattle.laws.specs.Choice.{pick, both, implies}
 use Rattle.lock_word.specs.{Layout.count_limit, Depth.depth_limit, Ticks.tick_limit}
 use Rattle.lock_word.specs.Read.{read_word, read_flat}
 use Rattle.lock_word.specs.declared.reading.LockWord.TheVariants.{Free, Flat, Anonymous, Reserved, Fat}
-use Rattle.lock_word.specs.declared.reading.Decoded.{Decoded}
-use Rattle.lock_word.specs.declared.reading.Decoded.TheVariants.{Valid, Invalid}
+use Rattle.std.specs.Prelude.{Option, Some, None}
+use Rattle.lock_word.specs.declared.reading.LockWord.{LockWord}
 use Rattle.lock_table.specs.Operation.{operation_number}
 use Rattle.lock_table.specs.Phase.{phase_number, carried_number}
 use Rattle.lock_table.specs.Record.{no_thread, no_monitor, no_object, with_activity, with_next, with_word, with_flag, with_monitor, with_rank}
@@ -34,13 +34,13 @@ use Rattle.laws.proofs.Facts.{reads_unless, reads_implies}
 abbrev pub Within : ℕ → ℕ → ℕ → Type 0
 Within low high n = (low ≤ n) × (n ≤ high)
 
-abbrev pub WordFits : ℕ → ℕ → Decoded → Type 0
-WordFits threads o Invalid = ⊥
-WordFits threads o (Valid Free) = Unit
-WordFits threads o (Valid (Flat thread count)) = thread.0 ≤ threads
-WordFits threads o (Valid Anonymous) = Unit
-WordFits threads o (Valid (Reserved thread count)) = thread.0 ≤ threads
-WordFits threads o (Valid (Fat monitor)) = monitor.0 ≡ o
+abbrev pub WordFits : ℕ → ℕ → Option LockWord → Type 0
+WordFits threads o None = ⊥
+WordFits threads o (Some Free) = Unit
+WordFits threads o (Some (Flat thread count)) = thread.0 ≤ threads
+WordFits threads o (Some Anonymous) = Unit
+WordFits threads o (Some (Reserved thread count)) = thread.0 ≤ threads
+WordFits threads o (Some (Fat monitor)) = monitor.0 ≡ o
 
 -- the operation may be in the phase: "a phase that its operation uses", and carries one that it may
 abbrev pub allowed? : ℕ → ℕ → Operation → Bool
@@ -58,13 +58,13 @@ KeptCountFits Notify count = ⊥
 KeptCountFits NotifyAll count = ⊥
 KeptCountFits TimedWait count = ⊥
 
-abbrev pub ReservedFor : ℕ → Operation → Decoded → Type 0
-ReservedFor n operation Invalid = ⊥
-ReservedFor n operation (Valid Free) = ⊥
-ReservedFor n operation (Valid (Flat thread count)) = ⊥
-ReservedFor n operation (Valid Anonymous) = ⊥
-ReservedFor n operation (Valid (Reserved thread count)) = (thread.0 ≡ n) × KeptCountFits operation count
-ReservedFor n operation (Valid (Fat monitor)) = ⊥
+abbrev pub ReservedFor : ℕ → Operation → Option LockWord → Type 0
+ReservedFor n operation None = ⊥
+ReservedFor n operation (Some Free) = ⊥
+ReservedFor n operation (Some (Flat thread count)) = ⊥
+ReservedFor n operation (Some Anonymous) = ⊥
+ReservedFor n operation (Some (Reserved thread count)) = (thread.0 ≡ n) × KeptCountFits operation count
+ReservedFor n operation (Some (Fat monitor)) = ⊥
 
 abbrev pub SavesDepth : ℕ → ℕ → Type 0
 SavesDepth phase carried = Within 14 15 phase ⊎ (carried ≡ 15)
@@ -120,14 +120,14 @@ pub parked_busy : (phase : ℕ) → chain_named phase ≢ 0 → phase ≢ 0
 unfolding chain_named
 parked_busy phase parked idle = parked (ap chain_named idle)
 
-reads_word : (threads o : ℕ) (decoded : Decoded) → Reads (word_fits threads o decoded) (WordFits threads o decoded)
+reads_word : (threads o : ℕ) (decoded : Option LockWord) → Reads (word_fits threads o decoded) (WordFits threads o decoded)
 unfolding word_fits
-reads_word threads o Invalid = reads_never
-reads_word threads o (Valid Free) = reads_always
-reads_word threads o (Valid (Flat thread count)) = reads_leb thread.0 threads
-reads_word threads o (Valid Anonymous) = reads_always
-reads_word threads o (Valid (Reserved thread count)) = reads_leb thread.0 threads
-reads_word threads o (Valid (Fat monitor)) = reads_eqb monitor.0 o
+reads_word threads o None = reads_never
+reads_word threads o (Some Free) = reads_always
+reads_word threads o (Some (Flat thread count)) = reads_leb thread.0 threads
+reads_word threads o (Some Anonymous) = reads_always
+reads_word threads o (Some (Reserved thread count)) = reads_leb thread.0 threads
+reads_word threads o (Some (Fat monitor)) = reads_eqb monitor.0 o
 
 reads_operation : (objects phase carried : ℕ) (thread : ThreadRecord)
     → Reads (operation_fits objects phase carried thread) (phase ≢ 0 → OperationFits objects phase carried thread)
@@ -145,14 +145,14 @@ reads_kept_count Notify count = reads_never
 reads_kept_count NotifyAll count = reads_never
 reads_kept_count TimedWait count = reads_never
 
-reads_reserved : (n : ℕ) (operation : Operation) (decoded : Decoded) → Reads (reserved_for n operation decoded) (ReservedFor n operation decoded)
+reads_reserved : (n : ℕ) (operation : Operation) (decoded : Option LockWord) → Reads (reserved_for n operation decoded) (ReservedFor n operation decoded)
 unfolding reserved_for
-reads_reserved n operation Invalid = reads_never
-reads_reserved n operation (Valid Free) = reads_never
-reads_reserved n operation (Valid (Flat thread count)) = reads_never
-reads_reserved n operation (Valid Anonymous) = reads_never
-reads_reserved n operation (Valid (Reserved thread count)) = reads_both (reads_eqb thread.0 n) (reads_kept_count operation count)
-reads_reserved n operation (Valid (Fat monitor)) = reads_never
+reads_reserved n operation None = reads_never
+reads_reserved n operation (Some Free) = reads_never
+reads_reserved n operation (Some (Flat thread count)) = reads_never
+reads_reserved n operation (Some Anonymous) = reads_never
+reads_reserved n operation (Some (Reserved thread count)) = reads_both (reads_eqb thread.0 n) (reads_kept_count operation count)
+reads_reserved n operation (Some (Fat monitor)) = reads_never
 
 reads_kept : (n phase : ℕ) (thread : ThreadRecord)
     → Reads (kept_fits n phase thread) (phase ≡ 2 → ReservedFor n thread.operation (read_word thread.kept))

@@ -1,13 +1,12 @@
 -- What soundness asks of one record (document 01, "Lock words", the sentence "Sound means"): the clauses that are about one thread or one object, in
 -- its order and words, each a test that computes. The clause about ticks is document 02's, L1, that about ranks L8. The others are in lock_soundness/specs/Sound.antt.
 -- Phases are document 01's numbers, `threads` its T and `objects` its N; n is a thread, o an object, and a chain 1 entry, 2 contention or 3 waiting.
-use Rattle.std.specs.Prelude.{ℕ, ◌-◌, Bool, true, false, not, eqb, leb}
+use Rattle.std.specs.Prelude.{ℕ, ◌-◌, Bool, true, false, not, eqb, leb, Option, Some, None}
 use Rattle.laws.specs.Choice.{both, either, implies, within}
 use Rattle.lock_word.specs.Layout.{count_limit}
 use Rattle.lock_word.specs.Read.{read_word}
 use Rattle.lock_word.specs.declared.reading.LockWord.TheVariants.{Free, Flat, Anonymous, Reserved, Fat}
-use Rattle.lock_word.specs.declared.reading.Decoded.{Decoded}
-use Rattle.lock_word.specs.declared.reading.Decoded.TheVariants.{Valid, Invalid}
+use Rattle.lock_word.specs.declared.reading.LockWord.{LockWord}
 use Rattle.lock_word.specs.{Depth.depth_limit, Ticks.tick_limit}
 use Rattle.lock_table.specs.Limits.{rank_limit}
 use Rattle.lock_table.specs.Operation.{operation_number}
@@ -20,13 +19,13 @@ use Rattle.lock_table.specs.declared.record.Monitor.{Monitor}
 use Rattle.lock_table.specs.declared.record.ObjectRecord.{ObjectRecord}
 
 -- "every word valid with its thread at most T"; a fat word names its own object
-unfoldable pub word_fits : ℕ → ℕ → Decoded → Bool
-word_fits threads o Invalid = false
-word_fits threads o (Valid Free) = true
-word_fits threads o (Valid (Flat thread count)) = leb thread.0 threads
-word_fits threads o (Valid Anonymous) = true
-word_fits threads o (Valid (Reserved thread count)) = leb thread.0 threads
-word_fits threads o (Valid (Fat monitor)) = eqb monitor.0 o
+unfoldable pub word_fits : ℕ → ℕ → Option LockWord → Bool
+word_fits threads o None = false
+word_fits threads o (Some Free) = true
+word_fits threads o (Some (Flat thread count)) = leb thread.0 threads
+word_fits threads o (Some Anonymous) = true
+word_fits threads o (Some (Reserved thread count)) = leb thread.0 threads
+word_fits threads o (Some (Fat monitor)) = eqb monitor.0 o
 
 -- the phases of a wait, which a timed wait shares: those that it uses, and those that it can carry
 abbrev pub wait_uses : ℕ → Bool
@@ -73,13 +72,13 @@ kept_count_fits NotifyAll count = false
 kept_count_fits TimedWait count = false
 
 -- "a kept word in phase 2 is reserved for that thread"
-unfoldable pub reserved_for : ℕ → Operation → Decoded → Bool
-reserved_for n operation Invalid = false
-reserved_for n operation (Valid Free) = false
-reserved_for n operation (Valid (Flat thread count)) = false
-reserved_for n operation (Valid Anonymous) = false
-reserved_for n operation (Valid (Reserved thread count)) = both (eqb thread.0 n) (kept_count_fits operation count)
-reserved_for n operation (Valid (Fat monitor)) = false
+unfoldable pub reserved_for : ℕ → Operation → Option LockWord → Bool
+reserved_for n operation None = false
+reserved_for n operation (Some Free) = false
+reserved_for n operation (Some (Flat thread count)) = false
+reserved_for n operation (Some Anonymous) = false
+reserved_for n operation (Some (Reserved thread count)) = both (eqb thread.0 n) (kept_count_fits operation count)
+reserved_for n operation (Some (Fat monitor)) = false
 
 unfoldable pub kept_fits : ℕ → ℕ → ThreadRecord → Bool
 kept_fits n phase thread = implies (eqb phase 2) (reserved_for n thread.operation (read_word thread.kept))

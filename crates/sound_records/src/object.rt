@@ -4,14 +4,14 @@ ghost use Rattle.sound_records.specs.Records.{word_fits, unheld_fits, used_objec
 
 use crate::choice::implies;
 use lock_table::{Monitor, ObjectRecord};
-use lock_word::{Decoded, LockWord};
+use lock_word::LockWord;
 
 // A valid word, with its thread at most `threads`; a fat word names its own object.
 #[tactic(auto, unfolding(crate::specs::Records::word_fits))]
-fn word_fits(threads: u8, number: u8, decoded: Decoded) -> bool
+fn word_fits(threads: u8, number: u8, decoded: Option<LockWord>) -> bool
     ensures { result ≡ word_fits threads number decoded }
 {
-    let Decoded::Valid(meaning) = decoded else {
+    let Some(meaning) = decoded else {
         return false;
     };
     match meaning {

@@ -10,7 +10,7 @@ use crate::choice::{implies, within};
 use lock_table::{
     Operation, RANKS, THREADS, ThreadRecord, carried_number, operation_number, phase_number,
 };
-use lock_word::{COUNT_LIMIT, DEPTH_LIMIT, Decoded, LockWord, TICK_LIMIT};
+use lock_word::{COUNT_LIMIT, DEPTH_LIMIT, LockWord, TICK_LIMIT};
 
 // The largest counts of a kept word: storing it adds one for enter and takes one off for exit.
 const ENTER_COUNT_LIMIT: u8 = COUNT_LIMIT - 1;
@@ -91,10 +91,10 @@ fn kept_count_fits(operation: Operation, count: u8) -> bool
 
 // Reserved for this thread, with a count that the operation can store the next of.
 #[tactic(auto, unfolding(crate::specs::Records::reserved_for))]
-fn reserved_for(number: u8, operation: Operation, decoded: Decoded) -> bool
+fn reserved_for(number: u8, operation: Operation, decoded: Option<LockWord>) -> bool
     ensures { result ≡ reserved_for number operation decoded }
 {
-    let Decoded::Valid(meaning) = decoded else {
+    let Some(meaning) = decoded else {
         return false;
     };
     match meaning {

@@ -4,7 +4,7 @@
 #![tactic(auto)]
 
 use lock_table::{Monitor, Onward, Operation, Phase, Table, ThreadRecord};
-use lock_word::Decoded;
+use lock_word::LockWord;
 use std::io::Read;
 
 // What is read has room for a case and nine digits.
@@ -56,28 +56,24 @@ fn all_owned(table: Table) -> Table {
     changed
 }
 
+// A fresh table of these sizes, which are in range in each case.
+fn fresh_table(threads: u16, objects: u16) -> Table {
+    match lock_table::fresh(lock_table::sized_request(threads, objects, false)) {
+        Ok(table) => table,
+        Err(_) => lock_table::no_table(),
+    }
+}
+
 fn case_table(number: u8) -> Table {
     if number == 0 {
-        return lock_table::fresh(lock_table::sized_request(32, 64, false)).table;
+        return fresh_table(32, 64);
     }
     if number == 1 {
-        let one = contended(
-            lock_table::fresh(lock_table::sized_request(8, 16, false)).table,
-            1,
-            1,
-            4,
-            5,
-        );
+        let one = contended(fresh_table(8, 16), 1, 1, 4, 5);
         let two = contended(one, 2, 2, 6, 7);
         return contended(two, 3, 3, 8, 8);
     }
-    contended(
-        all_owned(lock_table::fresh(lock_table::sized_request(32, 64, false)).table),
-        1,
-        1,
-        2,
-        32,
-    )
+    contended(all_owned(fresh_table(32, 64)), 1, 1, 2, 32)
 }
 
 // Object 16 has another word for each test, so that none can be left out.
@@ -98,7 +94,7 @@ fn sound_answers(table: Table, repeats: u64) -> u64 {
 
 // The owner's number and depth by a word, added up; of a fat word thread 1 is the holder, at depth 1.
 fn owned_by(word: u32) -> u64 {
-    let Decoded::Valid(meaning) = lock_word::read_word(word) else {
+    let Some(meaning) = lock_word::read_word(word) else {
         return 0;
     };
     let ownership = lock_word::ownership_of(lock_word::seen_word(meaning), 1, 1);

@@ -11,12 +11,13 @@ use Rattle.laws.proofs.Update.{update_same, update_other}
 use Rattle.chains.specs.declared.named.Chain.{Chain}
 use Rattle.lock_word.specs.declared.meaning.WordSeen.{WordSeen}
 use Rattle.lock_rules.specs.{Numbers.phase_of, Numbers.returned_of, Rules.decide}
-use Rattle.lock_rules.specs.declared.{Doing.Doing, ThreadState.ThreadState, ChainWork.ChainWork, Action.Action}
+use Rattle.std.specs.Prelude.{Option, Some, None}
+use Rattle.lock_rules.specs.declared.Effect.{Effect}
+use Rattle.lock_rules.specs.declared.{Doing.Doing, ThreadState.ThreadState, ChainWork.ChainWork}
 use Rattle.lock_rules.specs.declared.ThreadState.TheVariants.{Running}
 use Rattle.lock_rules.specs.declared.Taken.TheVariants.{First, All}
 use Rattle.lock_rules.specs.declared.ChainWork.TheVariants.{Stay, Join, JoinAndHand, Hand, Move, MoveAndLetOut, SendBack}
 use Rattle.lock_rules.specs.declared.event.Event.TheVariants.{Step}
-use Rattle.lock_rules.specs.declared.Action.TheVariants.{Unruled, Do}
 use Rattle.lock_rules.proofs.Each.{each_state, each_carried, each_chain}
 use Rattle.lock_rules.proofs.Changes.{handed, moved, let_out_state, sent_back}
 use Rattle.lock_rules.proofs.Status.{unparked}
@@ -113,10 +114,10 @@ one_more false steps = omega arith
 
 -- a step of `thread` at this object
 module _ (thread : ℕ) (states : ℕ → ThreadState) (o : ListObject) (doing : Doing) (relies : ReliesOn (phase_row doing).reliance thread o.word o.flag o.holder) where
-  other_bounded : (before : ℕ) (action : Action) → Lowers thread o.word before action → (t : ℕ) → t ≢ thread
+  other_bounded : (before : ℕ) (action : Option Effect) → Lowers thread o.word before action → (t : ℕ) → t ≢ thread
       → let result = perform thread states o action in Bounded o.word (states t) result.object.word (result.states t)
-  other_bounded before Unruled lowers t other = same_bounded o.word o.word (λ clear. clear) (states t)
-  other_bounded before (Do effect) lowers t other =
+  other_bounded before None lowers t other = same_bounded o.word o.word (λ clear. clear) (states t)
+  other_bounded before (Some effect) lowers t other =
       let now = effected thread effect o in
       rw (work_word effect.work thread states now, update_other (states_after effect.work states now) thread effect.state t other)
       (work_bounded o.word now.word lowers.keeps effect.work states now t lowers.sends)
@@ -126,11 +127,11 @@ module _ (thread : ℕ) (states : ℕ → ThreadState) (o : ListObject) (doing :
   other_step = other_bounded _ (decide thread (sight_of o) doing) (decide_lowers thread (sight_of o) doing relies)
 
   -- its own: the step that is counted is one that it had left
-  own_bounded : (before steps : ℕ) (action : Action) → left o.word (states thread) ≡ before → Lowers thread o.word before action
+  own_bounded : (before steps : ℕ) (action : Option Effect) → left o.word (states thread) ≡ before → Lowers thread o.word before action
       → let result = perform thread states o action in
       own_steps (Step thread) (returned_of result.answer) steps + left result.object.word (result.states thread) ≤ steps + before
-  own_bounded before steps Unruled is lowers = omega (arith, is)
-  own_bounded before steps (Do effect) is lowers =
+  own_bounded before steps None is lowers = omega (arith, is)
+  own_bounded before steps (Some effect) is lowers =
       let now = effected thread effect o in
       rw (work_word effect.work thread states now, update_same (states_after effect.work states now) thread effect.state)
       (omega (arith, lowers.own, one_more (is_step (returned_of effect.answer)) steps))

@@ -11,14 +11,14 @@ use Rattle.lock_rules.specs.Actions.{finish_word, let_go}
 use Rattle.lock_rules.specs.Rules.{onward, owner_seen, enter_look, exit_owned, deflation, wait_owned, notify_owned, notify_all_owned, owner_only}
 use Rattle.lock_rules.specs.Rules.{enter_store, exit_store, cancel, go_in_again, go_in, exit_go_in, holder_only, enter_check, enter_try, exit_test}
 use Rattle.lock_rules.specs.Rules.{exit_tell, exit_leave, wait_inflate, wait_give_up, wait_resume, decide}
-use Rattle.lock_rules.specs.declared.{OnwardStep.OnwardStep, Doing.Doing, Sight.Sight, ChainWork.ChainWork, Effect.Effect, Action.Action}
+use Rattle.std.specs.Prelude.{Option, Some, None}
+use Rattle.lock_rules.specs.declared.{OnwardStep.OnwardStep, Doing.Doing, Sight.Sight, ChainWork.ChainWork, Effect.Effect}
 use Rattle.lock_rules.specs.declared.OnwardStep.TheVariants.{ToCheck, ToTell, ToInflate}
 use Rattle.lock_rules.specs.declared.Doing.TheVariants.{EnterLook, EnterStore, EnterCancel, EnterGoIn, EnterCheck, EnterTry, ExitLook, ExitStore}
 use Rattle.lock_rules.specs.declared.Doing.TheVariants.{ExitGoIn, ExitTest, ExitTell, ExitLeave, WaitLook, WaitCancel, WaitGoIn, WaitInflate}
 use Rattle.lock_rules.specs.declared.Doing.TheVariants.{WaitGiveUp, WaitResume, NotifyLook, NotifyAllLook}
 use Rattle.lock_rules.specs.declared.WordChange.TheVariants.{OwnReserved}
 use Rattle.lock_rules.specs.declared.ChainWork.TheVariants.{Stay, Join, JoinAndHand, Hand, Move, MoveAndLetOut, SendBack}
-use Rattle.lock_rules.specs.declared.Action.TheVariants.{Unruled, Do}
 use Rattle.lock_rules.proofs.Each.{each_carried, Words, each_word}
 use Rattle.lock_rules.proofs.Changes.{seen_after}
 use Rattle.lock_rules.proofs.SoundEffects.{either_way}
@@ -41,29 +41,29 @@ pub record EffectLowers (thread : ℕ) (word : WordSeen) (before : ℕ) (effect 
   pub sends : Sends effect.work (seen_after thread effect.word word)
 
 -- of a step of `thread`, which had so many left
-abbrev pub Lowers : ℕ → WordSeen → ℕ → Action → Type 0
-Lowers thread word before Unruled = Unit {0}
-Lowers thread word before (Do effect) = EffectLowers thread word before effect
+abbrev pub Lowers : ℕ → WordSeen → ℕ → Option Effect → Type 0
+Lowers thread word before None = Unit {0}
+Lowers thread word before (Some effect) = EffectLowers thread word before effect
 
 module _ (thread : ℕ) (sight : Sight) where
   -- either way of a test
-  either_lowers : (word : WordSeen) (before : ℕ) (test : Bool) (x y : Action) → Lowers thread word before x → Lowers thread word before y
+  either_lowers : (word : WordSeen) (before : ℕ) (test : Bool) (x y : Option Effect) → Lowers thread word before x → Lowers thread word before y
       → Lowers thread word before (pick test x y)
   either_lowers word before test x y = either_way (Lowers thread word before) test
 
   -- a rule that goes by the word, the owner's, the holder's
-  by_word : (doing : Doing) (rule : WordSeen → Action) → Words (λ word. Lowers thread word (doing_left word doing) (rule word))
+  by_word : (doing : Doing) (rule : WordSeen → Option Effect) → Words (λ word. Lowers thread word (doing_left word doing) (rule word))
       → Lowers thread sight.word (doing_left sight.word doing) (rule sight.word)
   by_word doing rule all = each_word (λ word. Lowers thread word (doing_left word doing) (rule word)) all sight.word
 
-  by_owned : (doing : Doing) (rule : WordSeen → Action)
+  by_owned : (doing : Doing) (rule : WordSeen → Option Effect)
       → Words (λ word. Lowers thread word (doing_left word doing) (rule word) × (0 < doing_left word doing))
       → Lowers thread sight.word (doing_left sight.word doing) (owner_only thread sight (owner_seen sight) (rule sight.word))
   by_owned doing rule all =
       let (lowers, some) = each_word (λ word. Lowers thread word (doing_left word doing) (rule word) × (0 < doing_left word doing)) all sight.word in
       either_lowers sight.word (doing_left sight.word doing) (eqb (owner_seen sight) thread) _ _ lowers (search)
 
-  by_held : (before : ℕ) (action : Action) → Lowers thread sight.word before action → Lowers thread sight.word before (holder_only thread sight action)
+  by_held : (before : ℕ) (action : Option Effect) → Lowers thread sight.word before action → Lowers thread sight.word before (holder_only thread sight action)
   by_held before action lowers = either_lowers sight.word before (eqb sight.holder thread) _ _ lowers tt
 
   -- the kept word is the word, so the word was reserved before the store

@@ -2,7 +2,7 @@
 use Rattle.std.specs.Prelude.{ℕ, zero, suc, ◌≤◌, ◌≡◌, Bool, true, false, List, [], ◌∷◌, ◌++◌}
 use Rattle.lock_rules.specs.declared.event.Event.{Event}
 use Rattle.lock_rules.specs.declared.event.Event.TheVariants.{Begin, Step}
-use Rattle.lock_table.specs.Fresh.{sized_request, fresh_of}
+use Rattle.lock_table.specs.Fresh.{sized_request, table_of}
 use Rattle.lock_table.specs.declared.fresh_table.FreshRequest.{FreshRequest}
 use Rattle.step_bounds.specs.SixSteps.{steps_taken, AtMost, step_limit}
 use Rattle.step_bounds.specs.Starts.{Start, Begun, Unparked, most_from, start_of_steps}
@@ -85,7 +85,7 @@ pub record EachStart (Claimed : FreshRequest → ℕ → List Event → Start �
 -- the thread's steps are counted from this start, and are all that there are from it
 abbrev pub Reached : FreshRequest → ℕ → List Event → Start → Type 0
 Reached request n events start =
-    let table = (fresh_of request).table in (start_of_steps n table events ≡ start) × (steps_taken n table events ≡ most_from start)
+    let table = table_of request in (start_of_steps n table events ≡ start) × (steps_taken n table events ≡ most_from start)
 
 abbrev pub EachReached : Type 0
 EachReached = EachStart Reached

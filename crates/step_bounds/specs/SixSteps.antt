@@ -6,7 +6,7 @@ use Rattle.lock_rules.specs.{RunQueue.own_event, Numbers.returned_of}
 use Rattle.lock_rules.specs.declared.Answer.TheVariants.{GoneOn, Finished, Parked, NotOwner, TooDeep}
 use Rattle.lock_rules.specs.declared.event.Event.{Event}
 use Rattle.lock_rules.specs.declared.event.Event.TheVariants.{Begin, Step, Tick}
-use Rattle.lock_table.specs.{Access.phase_number_at, Fresh.InRange, Fresh.fresh_of}
+use Rattle.lock_table.specs.{Access.phase_number_at, Fresh.InRange, Fresh.table_of}
 use Rattle.lock_table.specs.declared.{fresh_table.FreshRequest.FreshRequest, record.Table.Table}
 use Rattle.lock_engine.specs.{Outcome.reply_returned, Handle.handle}
 
@@ -46,7 +46,7 @@ steps_taken n table events = along (λ after. 0) own_steps n 0 table events
 
 -- so many at most, in every schedule from any fresh table, of every thread
 abbrev pub AtMost : ℕ → Type 0
-AtMost most = (request : FreshRequest) → InRange request → (events : List Event) (n : ℕ) → steps_taken n (fresh_of request).table events ≤ most
+AtMost most = (request : FreshRequest) → InRange request → (events : List Event) (n : ℕ) → steps_taken n (table_of request) events ≤ most
 
 abbrev pub step_limit : ℕ
 step_limit = 6

@@ -4,8 +4,8 @@ use mathlib.Core.Path.{◌≡◌, refl, ap, ◌∙◌}
 use mathlib.Core.Bool.{true}
 use Rattle.laws.proofs.Choice.{either_way}
 use Rattle.lock_word.specs.{Read.read_word, Meaning.seen_word}
-use Rattle.lock_word.specs.declared.reading.Decoded.{Decoded}
-use Rattle.lock_word.specs.declared.reading.Decoded.TheVariants.{Valid, Invalid}
+use Rattle.std.specs.Prelude.{Option, Some, None}
+use Rattle.lock_word.specs.declared.reading.LockWord.{LockWord}
 use Rattle.lock_rules.specs.declared.event.Event.{Event}
 use Rattle.lock_rules.specs.declared.event.Event.TheVariants.{Begin, Step}
 use Rattle.lock_rules.proofs.ListSound.{SoundTable}
@@ -25,9 +25,9 @@ use Rattle.step_measure.proofs.Weights.{look_more, weight, weight_limit, weight_
 use Rattle.step_measure.proofs.WeightTables.{weight_to, list_work, Measured, event_measured}
 
 -- what a look has besides, by a word's bits; what is no lock word is no reserved one
-abbrev pub more_read : Decoded → ℕ
-more_read Invalid = 0
-more_read (Valid word) = look_more (seen_word word)
+abbrev pub more_read : Option LockWord → ℕ
+more_read None = 0
+more_read (Some word) = look_more (seen_word word)
 
 -- the weight of a thread, by its record and its object's
 abbrev pub weight_at : Table → ℕ → ℕ

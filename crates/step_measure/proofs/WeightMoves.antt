@@ -9,11 +9,12 @@ use Rattle.laws.proofs.Update.{update_same, update_other}
 use Rattle.chains.specs.declared.named.Chain.{Chain}
 use Rattle.lock_word.specs.declared.meaning.WordSeen.{WordSeen}
 use Rattle.lock_rules.specs.{Numbers.returned_of, Rules.decide}
-use Rattle.lock_rules.specs.declared.{Doing.Doing, ThreadState.ThreadState, ChainWork.ChainWork, Action.Action}
+use Rattle.std.specs.Prelude.{Option, Some, None}
+use Rattle.lock_rules.specs.declared.Effect.{Effect}
+use Rattle.lock_rules.specs.declared.{Doing.Doing, ThreadState.ThreadState, ChainWork.ChainWork}
 use Rattle.lock_rules.specs.declared.ThreadState.TheVariants.{Running}
 use Rattle.lock_rules.specs.declared.Taken.TheVariants.{First, All}
 use Rattle.lock_rules.specs.declared.ChainWork.TheVariants.{Stay, Join, JoinAndHand, Hand, Move, MoveAndLetOut, SendBack}
-use Rattle.lock_rules.specs.declared.Action.TheVariants.{Unruled, Do}
 use Rattle.lock_rules.proofs.Changes.{handed, moved, sent_back}
 use Rattle.lock_rules.proofs.Objects.{ListObject, chain_of, sight_of}
 use Rattle.lock_rules.proofs.Perform.{taken, changed_states, changed_so, moved_states, states_after, object_after, effected, perform}
@@ -44,11 +45,11 @@ abbrev pub weights : WordSeen → (ℕ → ThreadState) → ℕ → ℕ
 weights word states t = weight (look_more word) (states t)
 
 module _ (thread : ℕ) (states : ℕ → ThreadState) (o : ListObject) where
-  performed_falls : (action : Action) → Lowers (look_more o.word) (weights o.word states thread) action
+  performed_falls : (action : Option Effect) → Lowers (look_more o.word) (weights o.word states thread) action
       → let result = perform thread states o action in
       is_step (returned_of result.answer) ≡ true → Falls thread (weights o.word states) (weights result.object.word result.states)
-  performed_falls Unruled lowers step = false≢true step
-  performed_falls (Do effect) lowers step =
+  performed_falls None lowers step = false≢true step
+  performed_falls (Some effect) lowers step =
       let now = effected thread effect o in
       let more = look_more o.word in
       let after = more_after effect.word more in

@@ -10,10 +10,11 @@ use Rattle.lock_rules.specs.Actions.{let_go}
 use Rattle.lock_rules.specs.Rules.{enter_look, exit_owned, deflation, wait_owned, notify_owned, notify_all_owned}
 use Rattle.lock_rules.specs.Rules.{enter_store, exit_store, cancel, go_in_again, go_in, exit_go_in, enter_check, enter_try, exit_test}
 use Rattle.lock_rules.specs.Rules.{exit_tell, exit_leave, wait_inflate, wait_give_up, wait_resume, decide}
-use Rattle.lock_rules.specs.declared.{Doing.Doing, ChainWork.ChainWork, Action.Action}
+use Rattle.std.specs.Prelude.{Option, Some, None}
+use Rattle.lock_rules.specs.declared.Effect.{Effect}
+use Rattle.lock_rules.specs.declared.{Doing.Doing, ChainWork.ChainWork}
 use Rattle.lock_rules.specs.declared.Doing.TheVariants.{ExitLook, ExitLeave}
 use Rattle.lock_rules.specs.declared.ChainWork.TheVariants.{Stay, Join, JoinAndHand, Hand, Move, MoveAndLetOut, SendBack}
-use Rattle.lock_rules.specs.declared.Action.TheVariants.{Unruled, Do}
 use Rattle.lock_rules.proofs.Each.{each_doing, Words, each_word}
 use Rattle.lock_rules.proofs.Objects.{ListObject, with_word, sight_of}
 use Rattle.lock_rules.proofs.SoundEffects.{either_way}
@@ -35,12 +36,12 @@ abbrev pub step_raise : ℕ → ℕ → ChainWork → ℕ
 step_raise more after work = (after - more) + work_raise work after
 
 -- the thread's weight falls from `before` by more than that for each of the others
-abbrev pub Lowers : ℕ → ℕ → Action → Type 0
-Lowers more before Unruled = Unit {0}
-Lowers more before (Do effect) =
+abbrev pub Lowers : ℕ → ℕ → Option Effect → Type 0
+Lowers more before None = Unit {0}
+Lowers more before (Some effect) =
     let after = more_after effect.word more in weight after effect.state + others * step_raise more after effect.work < before
 
-either_lowers : (more before : ℕ) (test : Bool) (x y : Action) → Lowers more before x → Lowers more before y → Lowers more before (pick test x y)
+either_lowers : (more before : ℕ) (test : Bool) (x y : Option Effect) → Lowers more before x → Lowers more before y → Lowers more before (pick test x y)
 either_lowers more before test x y = either_way (Lowers more before) test
 
 module _ (thread : ℕ) (o : ListObject) where

@@ -1,9 +1,8 @@
 -- What can be asked of a table, and the answers. A question is a name of what is asked and a clause that says its value; all share one shape.
-use Rattle.std.specs.Prelude.{ℕ, ◌+◌, ◌*◌, Bool, true, List, Result, Ok, Err, eqb, leb}
+use Rattle.std.specs.Prelude.{ℕ, ◌+◌, ◌*◌, Bool, true, List, Option, Some, None, Result, Ok, Err, eqb, leb}
 use Rattle.laws.specs.Choice.{pick, both, within}
 use Rattle.lock_word.specs.Read.{read_word}
-use Rattle.lock_word.specs.declared.reading.Decoded.{Decoded}
-use Rattle.lock_word.specs.declared.reading.Decoded.TheVariants.{Valid, Invalid}
+use Rattle.lock_word.specs.declared.reading.LockWord.{LockWord}
 use Rattle.lock_word.specs.declared.reading.LockWord.TheVariants.{Free, Flat, Anonymous, Reserved, Fat}
 use Rattle.lock_word.specs.declared.meaning.Ownership.{Ownership}
 use Rattle.lock_table.specs.Access.{thread_at, object_at}
@@ -79,22 +78,22 @@ thread_value BlockerOf number thread owner holder =
     blocker_of (operation_number thread.operation) (phase_number thread.phase) number owner holder
 
 -- the kind of a lock word: free, flat, anonymous, reserved, fat, and no lock word, which only a table that is not sound has
-unfoldable pub kind_number : Decoded → ℕ
-kind_number Invalid = 5
-kind_number (Valid Free) = 0
-kind_number (Valid (Flat thread count)) = 1
-kind_number (Valid Anonymous) = 2
-kind_number (Valid (Reserved thread count)) = 3
-kind_number (Valid (Fat monitor)) = 4
+unfoldable pub kind_number : Option LockWord → ℕ
+kind_number None = 5
+kind_number (Some Free) = 0
+kind_number (Some (Flat thread count)) = 1
+kind_number (Some Anonymous) = 2
+kind_number (Some (Reserved thread count)) = 3
+kind_number (Some (Fat monitor)) = 4
 
 -- the thread that a flat or reserved word names, whether it owns the object or not; 0 for any other word
-unfoldable pub named_thread : Decoded → ℕ
-named_thread Invalid = 0
-named_thread (Valid Free) = 0
-named_thread (Valid (Flat thread count)) = thread.0
-named_thread (Valid Anonymous) = 0
-named_thread (Valid (Reserved thread count)) = thread.0
-named_thread (Valid (Fat monitor)) = 0
+unfoldable pub named_thread : Option LockWord → ℕ
+named_thread None = 0
+named_thread (Some Free) = 0
+named_thread (Some (Flat thread count)) = thread.0
+named_thread (Some Anonymous) = 0
+named_thread (Some (Reserved thread count)) = thread.0
+named_thread (Some (Fat monitor)) = 0
 
 -- what is asked of an object, by its record and who owns it; owner and depth are those that the theorem on schedules compares with the plain monitors
 unfoldable pub object_value : ObjectQuestion → ObjectRecord → Ownership → ℕ

@@ -17,7 +17,7 @@ use lock_table::{
     OBJECTS, ObjectRecord, Operation, Phase, THREADS, Table, ThreadRecord, carried_number, narrow,
     object_at, operation_number, ownership_at, phase_number, thread_at,
 };
-use lock_word::{Decoded, LockWord, Ownership, read_word};
+use lock_word::{LockWord, Ownership, read_word};
 use table_bytes::{is_table, read_table};
 
 // Of a thread.
@@ -62,10 +62,10 @@ const HOLDER_MARK: u32 = 65536;
 
 // The kind of a lock word, 5 where it is none. C callers have names for these numbers.
 #[tactic(auto, unfolding(crate::specs::Questions::kind_number))]
-fn kind_number(decoded: Decoded) -> u32
+fn kind_number(decoded: Option<LockWord>) -> u32
     ensures { result ≡ kind_number decoded }
 {
-    let Decoded::Valid(meaning) = decoded else {
+    let Some(meaning) = decoded else {
         return 5;
     };
     match meaning {
@@ -79,10 +79,10 @@ fn kind_number(decoded: Decoded) -> u32
 
 // The thread that the word names. It need not own the object: a reserved word without a count names who may take it fast.
 #[tactic(auto, unfolding(crate::specs::Questions::named_thread))]
-fn named_thread(decoded: Decoded) -> u32
+fn named_thread(decoded: Option<LockWord>) -> u32
     ensures { result ≡ named_thread decoded }
 {
-    let Decoded::Valid(meaning) = decoded else {
+    let Some(meaning) = decoded else {
         return 0;
     };
     match meaning {

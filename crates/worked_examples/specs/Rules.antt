@@ -1,5 +1,5 @@
 -- Examples of steps whose rules demand 3 alone would not tell from others, and of what a step returns.
-use Rattle.std.specs.Prelude.{◌≡◌, Bool, true, false}
+use Rattle.std.specs.Prelude.{◌≡◌, Bool, true, false, Some}
 use Rattle.chains.specs.declared.named.Chain.{Chain}
 use Rattle.lock_rules.specs.Rules.{deflation, exit_tell, enter_try}
 use Rattle.lock_rules.specs.Actions.{keep_object}
@@ -11,7 +11,6 @@ use Rattle.lock_rules.specs.declared.Sight.{Sight}
 use Rattle.lock_rules.specs.declared.Taken.TheVariants.{First}
 use Rattle.lock_rules.specs.declared.ChainWork.TheVariants.{Move, MoveAndLetOut}
 use Rattle.lock_rules.specs.declared.Answer.TheVariants.{GoneOn, Finished, Parked}
-use Rattle.lock_rules.specs.declared.Action.TheVariants.{Do}
 use Rattle.lock_word.specs.declared.meaning.WordSeen.TheVariants.{Free, Fat}
 
 -- a monitor that thread 1 holds at depth 1, its flag up, nobody queued or waiting, with contenders or without
@@ -35,7 +34,7 @@ pub record RuleExamples : Type 0 where
   pub told : exit_tell (seen false) ≡ keep_object (seen false) (Move Chain.Contention First) (Running ExitLeave) GoneOn false
   -- a contender that finds the word free inflates it, takes the flag down, and lets the queued exits out
   pub flag_down : enter_try 1 (seen false) Free
-      ≡ Do
+      ≡ Some
       (record {
         work = MoveAndLetOut;
         state = Idle;

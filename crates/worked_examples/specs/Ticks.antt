@@ -1,5 +1,5 @@
 -- Examples of a tick at one object, of what a limit says, of its refusal, and of both events in bytes (document 02, L1).
-use Rattle.std.specs.Prelude.{◌≡◌, true, false, [], ◌∷◌, ℕ}
+use Rattle.std.specs.Prelude.{◌≡◌, true, false, [], ◌∷◌, ℕ, Ok, Err}
 use Rattle.lock_rules.specs.Gate.{gate}
 use Rattle.lock_rules.specs.Limits.{one_less, run_out}
 use Rattle.lock_rules.specs.Operations.{timed_wait}
@@ -7,7 +7,6 @@ use Rattle.lock_rules.specs.declared.Limit.TheVariants.{Unlimited, Ticks}
 use Rattle.lock_rules.specs.declared.event.Event.TheVariants.{Begin, Tick}
 use Rattle.lock_rules.specs.declared.event.ThreadStatus.TheVariants.{Idle, Ready}
 use Rattle.lock_rules.specs.declared.event.Refusal.TheVariants.{NotIdle, LimitOutOfRange}
-use Rattle.lock_rules.specs.declared.event.Gate.TheVariants.{Open, Shut}
 use Rattle.lock_table.specs.Access.{thread_at, object_at}
 use Rattle.lock_table.specs.declared.operation.Operation.{Operation}
 use Rattle.lock_table.specs.declared.operation.Operation.TheVariants.{Wait, TimedWait}
@@ -76,10 +75,10 @@ pub record TickExamples : Type 0 where
   pub notified : run_out (Ticks 1) ≡ 0
   pub unlimited : run_out (one_less Unlimited) ≡ 0
   -- 65,536 ticks are no limit, 65,535 are; 23 comes after 14; an enter's limit is not looked at
-  pub too_long : gate true 1 1 (Begin timed_wait 1 1 65536) Idle ≡ Shut LimitOutOfRange
-  pub longest : gate true 1 1 (Begin timed_wait 1 1 65535) Idle ≡ Open
-  pub busy : gate true 1 1 (Begin timed_wait 1 1 0) Ready ≡ Shut NotIdle
-  pub untimed : gate true 1 1 (Begin 1 1 1 0) Idle ≡ Open
+  pub too_long : gate true 1 1 (Begin timed_wait 1 1 65536) Idle ≡ Err LimitOutOfRange
+  pub longest : gate true 1 1 (Begin timed_wait 1 1 65535) Idle ≡ (Ok tt)
+  pub busy : gate true 1 1 (Begin timed_wait 1 1 0) Ready ≡ Err NotIdle
+  pub untimed : gate true 1 1 (Begin 1 1 1 0) Idle ≡ (Ok tt)
   -- in bytes the limit's lowest comes first, and a tick is its kind alone
   pub timed_bytes : event_at (0 ∷ 1 ∷ 6 ∷ 2 ∷ 7 ∷ 1 ∷ 0 ∷ 0 ∷ []) 0 ≡ Begin timed_wait 1 2 263
   pub tick_bytes : event_at (2 ∷ 0 ∷ 0 ∷ 0 ∷ 0 ∷ 0 ∷ 0 ∷ 0 ∷ []) 0 ≡ Tick

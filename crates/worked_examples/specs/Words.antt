@@ -1,20 +1,19 @@
 -- Examples of lock words beyond document 01's cases: what is a word, and who owns by it.
-use Rattle.std.specs.Prelude.{◌≡◌}
+use Rattle.std.specs.Prelude.{◌≡◌, Some, None}
 use Rattle.lock_word.specs.Read.{read_word, thread_number, monitor_number}
 use Rattle.lock_word.specs.Meaning.{ownership_of, cancelled}
 use Rattle.lock_word.specs.declared.reading.LockWord.TheVariants.{Free, Flat, Fat as FatWord}
-use Rattle.lock_word.specs.declared.reading.Decoded.TheVariants.{Valid, Invalid}
 use Rattle.lock_word.specs.declared.meaning.WordSeen.TheVariants.{Fat, Flat as FlatSeen, Reserved}
 
 pub record WordExamples : Type 0 where
-  pub free : read_word 0x000000 ≡ Valid Free
-  pub flat : read_word 0x000300 ≡ Valid (Flat (thread_number 3) 0)
-  pub fat : read_word 0x000301 ≡ Valid (FatWord (monitor_number 3))
+  pub free : read_word 0x000000 ≡ Some Free
+  pub flat : read_word 0x000300 ≡ Some (Flat (thread_number 3) 0)
+  pub fat : read_word 0x000301 ≡ Some (FatWord (monitor_number 3))
   -- bit 23, the first of the rest, and bit 22, the last of the number
-  pub beyond : read_word 0x800000 ≡ Invalid
-  pub greatest : read_word 0x7fff00 ≡ Valid (Flat (thread_number 32767) 0)
+  pub beyond : read_word 0x800000 ≡ None
+  pub greatest : read_word 0x7fff00 ≡ Some (Flat (thread_number 32767) 0)
   -- number 0 with a count
-  pub count_alone : read_word 0x000004 ≡ Invalid
+  pub count_alone : read_word 0x000004 ≡ None
   -- holder and depth of a monitor, and who owns by them
   pub owned : ownership_of Fat 3 2 ≡ record { thread = 3; depth = 2 }
   pub held_only : ownership_of Fat 3 0 ≡ record { thread = 0; depth = 0 }

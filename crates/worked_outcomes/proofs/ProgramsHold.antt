@@ -10,7 +10,7 @@ use Rattle.lock_rules.specs.Numbers.{refusal_number}
 use Rattle.lock_rules.specs.Rules.{decide, enter_look, enter_store, exit_owned, exit_store, cancel, go_in, wait_owned, wait_inflate, wait_give_up, wait_resume}
 use Rattle.lock_table.specs.Access.{thread_at, set_thread, object_at, set_object}
 use Rattle.lock_table.specs.Chain.{moved_phase, move_all, carried_of}
-use Rattle.lock_table.specs.Fresh.{thread_given, object_given, in_range, ranks_fit, fresh_answer, met_request, fresh_of, first_word}
+use Rattle.lock_table.specs.Fresh.{thread_given, object_given, in_range, ranks_fit, fresh_answer, made_by, fresh_of, first_word}
 use Rattle.lock_table.specs.Ownership.{ownership_in}
 use Rattle.lock_table.specs.Narrow.{narrow_of}
 use Rattle.lock_table.specs.Operation.{operation_number, operation_from}
@@ -45,7 +45,7 @@ use Rattle.worked_outcomes.specs.Programs.{ProgramExamples}
 pub program_examples : ProgramExamples
 unfolding rewritten_of ownership_in wait_activity limit_of in_chain carried_of onward_phase kept_count cancel_of cancel_read store_of cancelling sent_back_of back_from reserved_for kept_count_fits narrow_of all_up_to tabulate members chain_test read_word read_flat read_reserved fat_of seen_word owned_by one_less no_ticks run_out refusal_number decide
     enter_look enter_store exit_owned exit_store cancel go_in wait_owned wait_inflate wait_give_up wait_resume thread_at set_thread object_at set_object queue place_for first_at moved_phase
-    move_all thread_given object_given in_range ranks_fit fresh_answer met_request fresh_of first_word falls_behind operation_number operation_from phase_number carried_number onward_number chain_named first_in place_within state_by look_of
+    move_all thread_given object_given in_range ranks_fit fresh_answer made_by fresh_of first_word falls_behind operation_number operation_from phase_number carried_number onward_number chain_named first_in place_within state_by look_of
     go_in_of write_activity doing_activity word_after stays after_whole let_out last_behind taken_with passed part_chain thread_set sizes_fit word_fits uses_phase
     carries_phase operation_fits kept_fits saves_depth saved_fits unheld_fits ticks_fit found_in names_chain unused_fits empty_thread empty_monitor empty_object sound_of
     thread_status runs_out waiter_after handing hand_if_free tick_object tick_to work_stays work_done reply_returned reply_woken given_ticks action_turn word_turn state_turn

@@ -4,7 +4,7 @@ use Rattle.std.specs.Prelude.{ℕ, ◌≡◌, true, false, [], ◌∷◌}
 use Rattle.lock_rules.specs.declared.Doing.{Doing}
 use Rattle.lock_rules.specs.declared.Doing.TheVariants.{EnterCheck, ExitLook}
 use Rattle.lock_table.specs.Record.{no_monitor}
-use Rattle.lock_table.specs.Fresh.{sized_request, fresh_of}
+use Rattle.lock_table.specs.Fresh.{sized_request, table_of}
 use Rattle.lock_engine.specs.Outcome.{reply_returned}
 use Rattle.lock_engine.specs.Cases.{case_table}
 use Rattle.round_robin.specs.Dispatch.{Tried, Ran}
@@ -22,7 +22,7 @@ returns tried = reply_returned tried.shows.outcome.reply
 
 -- a fresh table of one thread and one object, and a script: the thread enters the object and leaves it
 abbrev pub alone : Scripted
-alone = scripted (fresh_of (sized_request 1 1 false)).table (cursor_of 0 2 0 ∷ [])
+alone = scripted (table_of (sized_request 1 1 false)) (cursor_of 0 2 0 ∷ [])
 
 -- what the thread does when it may take a step for the first time
 abbrev pub enters : Tried Scripted Shown

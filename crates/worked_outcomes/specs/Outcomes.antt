@@ -10,7 +10,7 @@ use Rattle.lock_engine.specs.declared.outcome.Reply.TheVariants.{Accepted, Refus
 use Rattle.event_bytes.specs.Answer.{packed_of}
 use Rattle.dispatch_rules.specs.declared.DispatchAnswer.TheVariants.{Ended, QuantumOutOfRange}
 use Rattle.lock_table.specs.Access.{object_at, set_object}
-use Rattle.lock_table.specs.Fresh.{sized_request, fresh_of}
+use Rattle.lock_table.specs.Fresh.{sized_request, table_of}
 use Rattle.lock_table.specs.Record.{with_word}
 use Rattle.lock_table.specs.declared.record.Table.{Table}
 use Rattle.table_questions.specs.Questions.{kind_number, named_thread, blocker_of}
@@ -25,7 +25,7 @@ replied outcome reply = record { table = outcome.table; reply = reply; commits =
 
 -- of two objects thread 1 owns the second; an event of it there unparked thread 4
 abbrev pub second_owned : Table
-second_owned = let fresh = (fresh_of (sized_request 4 2 false)).table in set_object fresh 2 (with_word (object_at fresh 2) 0x000100)
+second_owned = let fresh = (table_of (sized_request 4 2 false)) in set_object fresh 2 (with_word (object_at fresh 2) 0x000100)
 
 abbrev pub told : Outcome
 told = record { table = second_owned; reply = Accepted; commits = false; unparked = 0x00000008 }

@@ -8,7 +8,7 @@ use Rattle.lock_rules.specs.declared.event.Event.{Event}
 use Rattle.lock_rules.specs.declared.event.Event.TheVariants.{Begin, Step, Tick}
 use Rattle.lock_rules.specs.declared.event.Refusal.TheVariants.{ThreadIdle}
 use Rattle.lock_table.specs.Access.{thread_at, set_thread, object_at, set_object, phase_number_at}
-use Rattle.lock_table.specs.Fresh.{sized_request, fresh_of}
+use Rattle.lock_table.specs.Fresh.{sized_request, table_of}
 use Rattle.lock_table.specs.Ownership.{ownership_at}
 use Rattle.lock_table.specs.Record.{with_word}
 use Rattle.lock_table.specs.declared.record.Table.{Table}
@@ -90,7 +90,7 @@ left_by program table (event ∷ rest) = left_by program (program table event).t
 
 -- ---- the accident, on two threads and one object whose word is reserved: thread 1 enters and leaves, and so reserves it
 abbrev pub two_threads : Table
-two_threads = (fresh_of (sized_request 2 1 true)).table
+two_threads = (table_of (sized_request 2 1 true))
 
 abbrev pub reserving : List Event
 reserving = Begin 1 1 1 0 ∷ Step 1 ∷ Begin 2 1 1 0 ∷ Step 1 ∷ Step 1 ∷ []
@@ -118,7 +118,7 @@ abbrev pub running_out : List Event
 running_out = Begin 1 1 1 0 ∷ Step 1 ∷ Begin timed_wait 1 1 1 ∷ Step 1 ∷ Step 1 ∷ Step 1 ∷ Step 1 ∷ Tick ∷ Step 1 ∷ []
 
 abbrev pub one_thread : Table
-one_thread = (fresh_of (sized_request 1 1 false)).table
+one_thread = (table_of (sized_request 1 1 false))
 
 -- ---- a replay: `L 1 2 0`, `E 1 2` and `S 1`
 abbrev pub enter_second : List ℕ

@@ -12,17 +12,15 @@ abbrev empty : List ObjectRecord
 empty = replicate 64 no_object
 
 pub loop-place-init : goal.loop-place-init
-loop-place-init c = (omega arith, rw c.no_object-objects.ensures (patched_none 0 (object_from c.args.request) empty))
+loop-place-init c = rw c.no_object-objects.ensures (patched_none 0 (object_from c.args.request) empty)
 
 pub loop-place-preserved : goal.loop-place-preserved
-loop-place-preserved c = (
-  omega arith,
-  rw (c.fresh_object.ensures, c.object_given.ensures, c.loop-place.invariant.1)
-      (patched_next_front (object_from c.args.request) empty c.loop-place.place),
-)
+loop-place-preserved c =
+    rw (c.fresh_object.ensures, c.object_given.ensures, c.loop-place.invariant)
+    (patched_next_front (object_from c.args.request) empty c.loop-place.place)
 
 pub returns : goal.returns
 returns c =
     let all : c.loop-place.place ≡ 64 = omega arith in
-    c.loop-place.invariant.1 ∙ ap (λ (n : ℕ). patched 0 n (object_from c.args.request) empty) all
+    c.loop-place.invariant ∙ ap (λ (n : ℕ). patched 0 n (object_from c.args.request) empty) all
     ∙ patched_all 64 (object_from c.args.request) no_object empty (length-replicate 64 no_object)

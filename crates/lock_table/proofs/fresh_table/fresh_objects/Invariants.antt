@@ -7,7 +7,4 @@ use Rattle.lock_table.specs.Record.{no_object}
 use Rattle.lock_table.proofs.fresh_table.fresh_objects.Given as goal
 
 abbrev pub invariant-loop-place : goal.invariant-loop-place
-invariant-loop-place l = (l.place ≤ 64) × (l.objects ≡ patched 0 l.place (object_from l.request) (replicate 64 no_object))
-
-abbrev pub decreases-loop-place : goal.decreases-loop-place
-decreases-loop-place l = 64 - l.place
+invariant-loop-place l = l.object-items ≡ patched 0 l.place (object_from l.request) (replicate 64 no_object)

@@ -7,7 +7,4 @@ use Rattle.lock_table.specs.Record.{no_thread}
 use Rattle.lock_table.proofs.fresh_table.fresh_threads.Given as goal
 
 abbrev pub invariant-loop-place : goal.invariant-loop-place
-invariant-loop-place l = (l.place ≤ 32) × (l.threads ≡ patched 0 l.place (thread_from l.request) (replicate 32 no_thread))
-
-abbrev pub decreases-loop-place : goal.decreases-loop-place
-decreases-loop-place l = 32 - l.place
+invariant-loop-place l = l.thread-items ≡ patched 0 l.place (thread_from l.request) (replicate 32 no_thread)

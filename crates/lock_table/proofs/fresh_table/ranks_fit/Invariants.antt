@@ -5,8 +5,5 @@ use Rattle.laws.specs.Every.{all_below}
 use Rattle.lock_table.specs.{Limits.rank_limit, Fresh.thread_given, Fresh.ranks_fit}
 use Rattle.lock_table.proofs.fresh_table.ranks_fit.Given as goal
 
-abbrev pub invariant-loop-left : goal.invariant-loop-left
-invariant-loop-left l = ranks_fit l.request ≡ all_below l.left (λ place. leb (thread_given l.request place).rank rank_limit)
-
-abbrev pub decreases-loop-left : goal.decreases-loop-left
-decreases-loop-left l = l.left
+abbrev pub invariant-loop-place : goal.invariant-loop-place
+invariant-loop-place l = ranks_fit l.request ≡ all_below l.place (λ place. leb (thread_given l.request place).rank rank_limit)
