@@ -66,9 +66,9 @@ pub fn handle_trusting(table: Table, event: Event, issound: bool) -> Outcome
     }
     Outcome {
         table: changed,
-        reply: reply,
+        reply,
         commits: turn.commits,
-        unparked: unparked,
+        unparked,
     }
 }
 
@@ -87,10 +87,10 @@ pub fn begin(table: Table, thread: u8, operation: u8, object: u8, limit: u32) ->
     handle(
         table,
         Event::Begin {
-            operation: operation,
-            thread: thread,
-            object: object,
-            limit: limit,
+            operation,
+            thread,
+            object,
+            limit,
         },
     )
 }

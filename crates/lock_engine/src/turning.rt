@@ -27,8 +27,8 @@ fn refused(own: ThreadRecord, object: ObjectRecord, refusal: Refusal) -> Turn
     ensures { result ≡ refused own object refusal }
 {
     Turn {
-        own: own,
-        object: object,
+        own,
+        object,
         work: Work::Chains(ChainWork::Stay),
         reply: Reply::Refused(refusal),
         commits: false,
@@ -39,10 +39,7 @@ fn refused(own: ThreadRecord, object: ObjectRecord, refusal: Refusal) -> Turn
 fn narrow_limit(limit: u32) -> Ticks
     ensures { result ≡ pick (ltb tick_limit limit) tick_limit limit }
 {
-    if (TICK_LIMIT as u32) < limit {
-        return TICK_LIMIT;
-    }
-    limit as Ticks
+    Ticks::try_from(limit).unwrap_or(TICK_LIMIT)
 }
 
 // The limit of a timed wait; no other operation has ticks.
@@ -65,7 +62,7 @@ pub fn begun(own: ThreadRecord, operation: Operation, number: u8, limit: u32) ->
         saved: 0,
         ticks: given_ticks(operation, limit),
         object: number,
-        operation: operation,
+        operation,
         phase: Phase::Look,
     })
 }
@@ -81,7 +78,7 @@ fn begin_turn(
 {
     Turn {
         own: begun(own, operation, number, limit),
-        object: object,
+        object,
         work: Work::Chains(ChainWork::Stay),
         reply: Reply::Accepted,
         commits: false,
@@ -93,8 +90,8 @@ fn tick_turn(own: ThreadRecord, object: ObjectRecord) -> Turn
     ensures { result ≡ tick_turn own object }
 {
     Turn {
-        own: own,
-        object: object,
+        own,
+        object,
         work: Work::Tick,
         reply: Reply::Accepted,
         commits: false,
@@ -123,8 +120,8 @@ fn action_turn(thread: u8, own: ThreadRecord, object: ObjectRecord, action: Opti
 {
     match action {
         None => Turn {
-            own: own,
-            object: object,
+            own,
+            object,
             work: Work::Chains(ChainWork::Stay),
             reply: Reply::Answered(Answer::NoRule),
             commits: false,

@@ -3,6 +3,7 @@
 #![tactic(auto)]
 
 mod event;
+mod numbers;
 
 use chains::Chain;
 pub use event::{Event, Refusal, ThreadStatus};

@@ -41,15 +41,9 @@ pub fn seen_word(word: LockWord) -> WordSeen
 pub fn kept_count(decoded: Option<LockWord>) -> u8
     ensures { result ≡ kept_count decoded }
 {
-    let Some(meaning) = decoded else {
-        return 0;
-    };
-    match meaning {
-        LockWord::Free => 0,
-        LockWord::Flat(_, _) => 0,
-        LockWord::Anonymous => 0,
-        LockWord::Reserved(_, count) => count,
-        LockWord::Fat(_) => 0,
+    match decoded {
+        Some(LockWord::Reserved(_, count)) => count,
+        _ => 0,
     }
 }
 
@@ -58,21 +52,10 @@ pub fn owner_of(word: WordSeen, holder: u8, depth: Depth) -> u16
     ensures { result ≡ owner_of word holder depth }
 {
     match word {
-        WordSeen::Free => 0,
-        WordSeen::Anonymous => 0,
-        WordSeen::Fat => {
-            if depth == 0 {
-                return 0;
-            }
-            holder as u16
-        }
+        WordSeen::Fat if depth != 0 => u16::from(holder),
         WordSeen::Flat(thread, _) => thread,
-        WordSeen::Reserved(thread, count) => {
-            if count == 0 {
-                return 0;
-            }
-            thread
-        }
+        WordSeen::Reserved(thread, count) if count != 0 => thread,
+        _ => 0,
     }
 }
 
@@ -80,11 +63,10 @@ fn depth_of(word: WordSeen, depth: Depth) -> Depth
     ensures { result ≡ depth_of word depth }
 {
     match word {
-        WordSeen::Free => 0,
-        WordSeen::Anonymous => 0,
         WordSeen::Fat => depth,
-        WordSeen::Flat(_, count) => (count as Depth) + 1,
-        WordSeen::Reserved(_, count) => count as Depth,
+        WordSeen::Flat(_, count) => Depth::from(count) + 1,
+        WordSeen::Reserved(_, count) => Depth::from(count),
+        _ => 0,
     }
 }
 
@@ -117,16 +99,9 @@ fn cancel_seen(word: WordSeen) -> WordSeen
     ensures { result ≡ cancelled word }
 {
     match word {
-        WordSeen::Free => WordSeen::Free,
-        WordSeen::Anonymous => WordSeen::Free,
-        WordSeen::Fat => WordSeen::Fat,
-        WordSeen::Flat(thread, count) => WordSeen::Flat(thread, count),
-        WordSeen::Reserved(thread, count) => {
-            if count == 0 {
-                return WordSeen::Free;
-            }
-            WordSeen::Flat(thread, count - 1)
-        }
+        WordSeen::Anonymous | WordSeen::Reserved(_, 0) => WordSeen::Free,
+        WordSeen::Reserved(thread, count) => WordSeen::Flat(thread, count - 1),
+        _ => word,
     }
 }
 
@@ -147,10 +122,10 @@ fn rewritten(word: u32, seen: WordSeen) -> u32
 fn cancel_read(word: u32, decoded: Option<LockWord>) -> u32
     ensures { result ≡ cancel_read word decoded }
 {
-    let Some(meaning) = decoded else {
-        return word;
-    };
-    rewritten(word, cancel_seen(seen_word(meaning)))
+    match decoded {
+        Some(meaning) => rewritten(word, cancel_seen(seen_word(meaning))),
+        None => word,
+    }
 }
 
 #[tactic(auto, unfolding(crate::specs::Meaning::cancel_of))]

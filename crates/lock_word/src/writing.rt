@@ -20,21 +20,19 @@ pub fn anonymous_word() -> u32
 pub fn flat_word(thread: u16, count: u8) -> u32
     ensures { result ≡ flat_word thread count }
 {
-    (thread as u32) % NUMBERS * NUMBER_UNIT + ((count % COUNTS) as u32) * (COUNT_UNIT as u32)
+    u32::from(thread) % NUMBERS * NUMBER_UNIT + u32::from(count % COUNTS) * u32::from(COUNT_UNIT)
 }
 
 pub fn reserved_word(thread: u16, count: u8) -> u32
     ensures { result ≡ reserved_word thread count }
 {
-    (thread as u32) % NUMBERS * NUMBER_UNIT
-        + ((count % COUNTS) as u32) * (COUNT_UNIT as u32)
-        + RESERVED_BIT
+    flat_word(thread, count) + RESERVED_BIT
 }
 
 pub fn fat_word(object: u16) -> u32
     ensures { result ≡ fat_word object }
 {
-    (object as u32) % NUMBERS * NUMBER_UNIT + 1
+    u32::from(object) % NUMBERS * NUMBER_UNIT + 1
 }
 
 // The word that is written for a meaning.

@@ -16,14 +16,14 @@ pub fn keep_object(
     ensures { result ≡ keep_object sight work state answer commits }
 {
     Some(Effect {
-        work: work,
-        state: state,
+        work,
+        state,
         word: WordChange::Unchanged,
         flag: sight.flag,
         holder: sight.holder,
         depth: sight.depth,
-        answer: answer,
-        commits: commits,
+        answer,
+        commits,
     })
 }
 
@@ -82,7 +82,7 @@ pub fn finish_word(sight: Sight, word: WordChange) -> Option<Effect>
     Some(Effect {
         work: ChainWork::Stay,
         state: ThreadState::Idle,
-        word: word,
+        word,
         flag: sight.flag,
         holder: sight.holder,
         depth: sight.depth,
@@ -100,7 +100,7 @@ pub fn finish_depth(sight: Sight, depth: Depth, woken: u8) -> Option<Effect>
         word: WordChange::Unchanged,
         flag: sight.flag,
         holder: sight.holder,
-        depth: depth,
+        depth,
         answer: Answer::Finished(woken),
         commits: true,
     })
@@ -112,10 +112,10 @@ pub fn let_go(sight: Sight, word: WordChange, depth: Depth, doing: Doing) -> Opt
     Some(Effect {
         work: ChainWork::Stay,
         state: ThreadState::Running(doing),
-        word: word,
+        word,
         flag: sight.flag,
         holder: sight.holder,
-        depth: depth,
+        depth,
         answer: Answer::GoneOn,
         commits: true,
     })
@@ -133,13 +133,13 @@ pub fn inflate(
 {
     Some(Effect {
         work: ChainWork::MoveAndLetOut,
-        state: state,
+        state,
         word: WordChange::Inflated,
         flag: false,
         holder: sight.holder,
-        depth: depth,
-        answer: answer,
-        commits: commits,
+        depth,
+        answer,
+        commits,
     })
 }
 
@@ -148,7 +148,7 @@ pub fn cancel_word(sight: Sight, work: ChainWork, look: Doing) -> Option<Effect>
     ensures { result ≡ cancel_word sight work look }
 {
     Some(Effect {
-        work: work,
+        work,
         state: ThreadState::Running(look),
         word: WordChange::Cancelled,
         flag: sight.flag,

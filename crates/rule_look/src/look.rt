@@ -21,7 +21,7 @@ pub fn owner_seen(sight: Sight) -> u16
 pub fn owner_only(thread: u8, sight: Sight, owner: u16, action: Option<Effect>) -> Option<Effect>
     ensures { result ≡ owner_only thread sight owner action }
 {
-    if owner == (thread as u16) {
+    if owner == u16::from(thread) {
         return action;
     }
     not_owner(sight)
@@ -36,38 +36,22 @@ pub fn enter_look(thread: u8, sight: Sight, word: WordSeen) -> Option<Effect>
         WordSeen::Free => finish_word(sight, WordChange::OwnFlat(0)),
         WordSeen::Anonymous => finish_word(sight, WordChange::OwnReserved(1)),
         WordSeen::Fat => go_on(sight, Doing::EnterGoIn),
-        WordSeen::Flat(owner, count) => {
-            if owner == (thread as u16) {
-                if count < COUNT_LIMIT {
-                    return finish_word(sight, WordChange::OwnFlat(count + 1));
-                }
-                return go_on(sight, Doing::EnterGoIn);
-            }
-            go_on(sight, Doing::EnterGoIn)
+        WordSeen::Flat(owner, count) if owner == u16::from(thread) && count < COUNT_LIMIT => {
+            finish_word(sight, WordChange::OwnFlat(count + 1))
         }
-        WordSeen::Reserved(owner, count) => {
-            if owner == (thread as u16) {
-                if count < COUNT_LIMIT {
-                    return go_on(sight, Doing::EnterStore(count));
-                }
-                return go_on(sight, Doing::EnterCancel);
-            }
-            go_on(sight, Doing::EnterCancel)
+        WordSeen::Flat(_, _) => go_on(sight, Doing::EnterGoIn),
+        WordSeen::Reserved(owner, count) if owner == u16::from(thread) && count < COUNT_LIMIT => {
+            go_on(sight, Doing::EnterStore(count))
         }
+        WordSeen::Reserved(_, _) => go_on(sight, Doing::EnterCancel),
     }
 }
 
 fn deflation(sight: Sight) -> WordChange
     ensures { result ≡ deflation sight }
 {
-    if sight.entryempty {
-        if sight.contentionempty {
-            if sight.waiters == 0 {
-                return WordChange::Freed;
-            }
-            return WordChange::Unchanged;
-        }
-        return WordChange::Unchanged;
+    if sight.entryempty && sight.contentionempty && sight.waiters == 0 {
+        return WordChange::Freed;
     }
     WordChange::Unchanged
 }
@@ -78,8 +62,7 @@ pub fn exit_owned(sight: Sight, word: WordSeen) -> Option<Effect>
     ensures { result ≡ exit_owned sight word }
 {
     match word {
-        WordSeen::Free => not_owner(sight),
-        WordSeen::Anonymous => not_owner(sight),
+        WordSeen::Free | WordSeen::Anonymous => not_owner(sight),
         WordSeen::Fat => {
             if 1 < sight.depth {
                 return finish_depth(sight, sight.depth - 1, 0);
@@ -102,8 +85,7 @@ pub fn wait_owned(sight: Sight, limit: Limit, word: WordSeen) -> Option<Effect>
     ensures { result ≡ wait_owned sight limit word }
 {
     match word {
-        WordSeen::Free => not_owner(sight),
-        WordSeen::Anonymous => not_owner(sight),
+        WordSeen::Free | WordSeen::Anonymous => not_owner(sight),
         WordSeen::Fat => go_on(sight, Doing::WaitGiveUp(limit)),
         WordSeen::Flat(_, _) => go_on(sight, Doing::WaitGoIn(limit)),
         WordSeen::Reserved(_, _) => go_on(sight, Doing::WaitCancel(limit)),
@@ -116,8 +98,7 @@ pub fn notify_owned(sight: Sight, word: WordSeen) -> Option<Effect>
     ensures { result ≡ notify_owned sight word }
 {
     match word {
-        WordSeen::Free => not_owner(sight),
-        WordSeen::Anonymous => not_owner(sight),
+        WordSeen::Free | WordSeen::Anonymous => not_owner(sight),
         WordSeen::Fat => {
             if sight.waiters == 0 {
                 return finish(sight);
@@ -130,8 +111,7 @@ pub fn notify_owned(sight: Sight, word: WordSeen) -> Option<Effect>
                 true,
             )
         }
-        WordSeen::Flat(_, _) => finish(sight),
-        WordSeen::Reserved(_, _) => finish(sight),
+        WordSeen::Flat(_, _) | WordSeen::Reserved(_, _) => finish(sight),
     }
 }
 
@@ -141,8 +121,7 @@ pub fn notify_all_owned(sight: Sight, word: WordSeen) -> Option<Effect>
     ensures { result ≡ notify_all_owned sight word }
 {
     match word {
-        WordSeen::Free => not_owner(sight),
-        WordSeen::Anonymous => not_owner(sight),
+        WordSeen::Free | WordSeen::Anonymous => not_owner(sight),
         WordSeen::Fat => keep_object(
             sight,
             ChainWork::Move(Chain::Waiting, Taken::All),
@@ -150,8 +129,7 @@ pub fn notify_all_owned(sight: Sight, word: WordSeen) -> Option<Effect>
             Answer::Finished(sight.waiters),
             true,
         ),
-        WordSeen::Flat(_, _) => finish(sight),
-        WordSeen::Reserved(_, _) => finish(sight),
+        WordSeen::Flat(_, _) | WordSeen::Reserved(_, _) => finish(sight),
     }
 }
 
@@ -183,10 +161,8 @@ pub fn cancel(sight: Sight, look: Doing, word: WordSeen) -> Option<Effect>
     ensures { result ≡ cancel sight look word }
 {
     match word {
-        WordSeen::Free => go_on(sight, look),
         WordSeen::Anonymous => cancel_word(sight, ChainWork::Stay, look),
-        WordSeen::Fat => go_on(sight, look),
-        WordSeen::Flat(_, _) => go_on(sight, look),
         WordSeen::Reserved(owner, _) => cancel_word(sight, ChainWork::SendBack(owner), look),
+        _ => go_on(sight, look),
     }
 }

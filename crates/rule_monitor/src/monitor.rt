@@ -44,9 +44,7 @@ fn go_in_again(sight: Sight, carried: OnwardStep) -> Option<Effect>
                 true,
             )
         }
-        OnwardStep::ToTell => None,
-        OnwardStep::ToInflate(_) => None,
-        OnwardStep::ToResume(_) => None,
+        _ => None,
     }
 }
 
@@ -98,26 +96,16 @@ pub fn enter_check(thread: u8, sight: Sight, word: WordSeen) -> Option<Effect>
 {
     match word {
         WordSeen::Free => raise_flag(sight),
-        WordSeen::Anonymous => None,
-        WordSeen::Fat => {
-            if sight.depth == 0 {
-                return finish_depth(sight, 1, 0);
-            }
-            None
-        }
-        WordSeen::Flat(owner, count) => {
-            if owner == (thread as u16) {
-                return inflate(
-                    sight,
-                    (count as Depth) + 2,
-                    ThreadState::Idle,
-                    Answer::Finished(0),
-                    true,
-                );
-            }
-            raise_flag(sight)
-        }
-        WordSeen::Reserved(_, _) => None,
+        WordSeen::Fat if sight.depth == 0 => finish_depth(sight, 1, 0),
+        WordSeen::Flat(owner, count) if owner == u16::from(thread) => inflate(
+            sight,
+            Depth::from(count) + 2,
+            ThreadState::Idle,
+            Answer::Finished(0),
+            true,
+        ),
+        WordSeen::Flat(_, _) => raise_flag(sight),
+        _ => None,
     }
 }
 
@@ -128,21 +116,14 @@ pub fn enter_try(thread: u8, sight: Sight, word: WordSeen) -> Option<Effect>
 {
     match word {
         WordSeen::Free => inflate(sight, 1, ThreadState::Idle, Answer::Finished(0), true),
-        WordSeen::Anonymous => None,
-        WordSeen::Fat => None,
-        WordSeen::Flat(owner, _) => {
-            if owner == (thread as u16) {
-                return None;
-            }
-            keep_object(
-                sight,
-                ChainWork::JoinAndHand(Chain::Contention),
-                ThreadState::Contending,
-                Answer::Parked,
-                false,
-            )
-        }
-        WordSeen::Reserved(_, _) => None,
+        WordSeen::Flat(owner, _) if owner != u16::from(thread) => keep_object(
+            sight,
+            ChainWork::JoinAndHand(Chain::Contention),
+            ThreadState::Contending,
+            Answer::Parked,
+            false,
+        ),
+        _ => None,
     }
 }
 
@@ -200,22 +181,14 @@ pub fn wait_inflate(thread: u8, sight: Sight, limit: Limit, word: WordSeen) -> O
     ensures { result ≡ wait_inflate thread sight limit word }
 {
     match word {
-        WordSeen::Free => None,
-        WordSeen::Anonymous => None,
-        WordSeen::Fat => None,
-        WordSeen::Flat(owner, count) => {
-            if owner == (thread as u16) {
-                return inflate(
-                    sight,
-                    (count as Depth) + 1,
-                    ThreadState::Running(Doing::WaitGiveUp(limit)),
-                    Answer::GoneOn,
-                    false,
-                );
-            }
-            None
-        }
-        WordSeen::Reserved(_, _) => None,
+        WordSeen::Flat(owner, count) if owner == u16::from(thread) => inflate(
+            sight,
+            Depth::from(count) + 1,
+            ThreadState::Running(Doing::WaitGiveUp(limit)),
+            Answer::GoneOn,
+            false,
+        ),
+        _ => None,
     }
 }
 
@@ -225,15 +198,13 @@ pub fn wait_give_up(sight: Sight, limit: Limit, word: WordSeen) -> Option<Effect
     ensures { result ≡ wait_give_up sight limit word }
 {
     match word {
-        WordSeen::Free => None,
-        WordSeen::Anonymous => None,
         WordSeen::Fat => {
             if sight.depth == 0 {
                 return None;
             }
             let suspension = Suspension {
                 depth: sight.depth,
-                limit: limit,
+                limit,
             };
             keep_object(
                 sight,
@@ -243,8 +214,7 @@ pub fn wait_give_up(sight: Sight, limit: Limit, word: WordSeen) -> Option<Effect
                 true,
             )
         }
-        WordSeen::Flat(_, _) => None,
-        WordSeen::Reserved(_, _) => None,
+        _ => None,
     }
 }
 
@@ -253,10 +223,7 @@ pub fn wait_give_up(sight: Sight, limit: Limit, word: WordSeen) -> Option<Effect
 fn no_ticks(limit: Limit) -> bool
     ensures { result ≡ no_ticks limit }
 {
-    match limit {
-        Limit::Unlimited => false,
-        Limit::Ticks(left) => left == 0,
-    }
+    matches!(limit, Limit::Ticks(0))
 }
 
 // The woken number of a wait that resumes: 1 if it ran out, 0 if it was notified.
@@ -264,10 +231,7 @@ fn no_ticks(limit: Limit) -> bool
 fn run_out(limit: Limit) -> u8
     ensures { result ≡ run_out limit }
 {
-    if no_ticks(limit) {
-        return 1;
-    }
-    0
+    u8::from(no_ticks(limit))
 }
 
 // 15 resume.
@@ -276,16 +240,9 @@ pub fn wait_resume(sight: Sight, suspension: Suspension, word: WordSeen) -> Opti
     ensures { result ≡ wait_resume sight suspension word }
 {
     match word {
-        WordSeen::Free => None,
-        WordSeen::Anonymous => None,
-        WordSeen::Fat => {
-            if sight.depth == 0 {
-                let limit = suspension.limit;
-                return finish_depth(sight, suspension.depth, run_out(limit));
-            }
-            None
+        WordSeen::Fat if sight.depth == 0 => {
+            finish_depth(sight, suspension.depth, run_out(suspension.limit))
         }
-        WordSeen::Flat(_, _) => None,
-        WordSeen::Reserved(_, _) => None,
+        _ => None,
     }
 }
