@@ -16,7 +16,7 @@ use Rattle.lock_table.specs.Limits.{thread_limit, object_limit, rank_limit}
 use Rattle.lock_table.specs.Record.{no_object, with_word}
 use Rattle.lock_table.specs.Fresh.{no_thread_given, first_word, fresh_thread, thread_from, object_from, InRange, table_of}
 use Rattle.lock_table.specs.declared.fresh_table.{ThreadGiven.ThreadGiven, FreshRequest.FreshRequest}
-use Rattle.lock_table.proofs.FreshTables.{given_to, fresh_rank, thread_past, fresh_made, fresh_thread_at, fresh_used, fresh_past}
+use Rattle.lock_table.proofs.FreshTables.{given_to, fresh_rank, thread_past, fresh_thread_at, fresh_used, fresh_past}
 use Rattle.lock_perform.specs.State.{write_activity}
 use Rattle.sound_records.specs.Records.{word_fits}
 use Rattle.sound_records.proofs.Reading.{ranked_thread_fits, word_alone_fits}
@@ -53,8 +53,7 @@ module _ (request : FreshRequest) (in_range : InRange request) where
   pub fresh_represents : Represents request.threads request.objects (table_of request) (fresh request.reserved (fresh_rank request))
   unfolding write_activity
   fresh_represents =
-      rw (fresh_made request in_range)
-      (record {
+      record {
         threadcount = refl;
         objectcount = refl;
         thread_room = in_range.1;
@@ -74,7 +73,7 @@ module _ (request : FreshRequest) (in_range : InRange request) where
             ∙ (λ j. with_word no_object (first_word_written o request.reserved j));
         object_past = λ o past. fresh_past request in_range.3 o past;
         ranked = λ o. refl;
-      })
+      }
     where
       rank_low : (n : ℕ) → fresh_rank request n ≤ rank_limit
       rank_low n = by_equal (λ (given : ThreadGiven). given.rank ≤ rank_limit) n 0 (λ e. omega arith) (λ e. in_range.4 (n - 1))

@@ -3,7 +3,7 @@ use Prim.Native.Nat.{ℕ, ◌+◌, ◌-◌, ◌≤◌, ◌<◌}
 use mathlib.Core.Path.{◌≡◌, sym, ap, ◌∙◌, subst}
 use mathlib.Core.List.{List}
 use Rattle.lock_rules.specs.declared.event.Event.{Event}
-use Rattle.lock_table.specs.Fresh.{InRange, table_of}
+use Rattle.lock_table.specs.Fresh.{InRange, table_of, fresh_of}
 use Rattle.std.specs.Prelude.{Result, Ok, IsOkAnd}
 use Rattle.lock_table.specs.declared.fresh_table.{FreshRequest.FreshRequest, FreshRefusal.FreshRefusal}
 use Rattle.lock_table.specs.declared.record.Table.{Table}
@@ -26,6 +26,9 @@ module _ (bytes : List ℕ) (at : ℕ) (table : Table) {left : ℕ} where
   run_goes_on some is gave = rw (gave, is) (ap (final_of table) (events_next some bytes at))
 
 module _ (request : FreshRequest) (events : List Event) {result : Result Table FreshRefusal} where
+  pub run_same : {made : Result Table FreshRefusal} → made ≡ fresh_of request → result ≡ run_fresh made events → result ≡ run_of request events
+  run_same gave ran = ran ∙ ap (λ (made : Result Table FreshRefusal). run_fresh made events) gave
+
   -- a run whose request is in range comes to the table that the schedule comes to
   ran_to : result ≡ run_of request events → InRange request → result ≡ Ok (final_of (table_of request) events)
   unfolding run_fresh

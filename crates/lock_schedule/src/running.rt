@@ -2,7 +2,7 @@
 ghost use Rattle.std.specs.Prelude.{◌≡◌};
 ghost use Rattle.event_bytes.specs.Encoding.{events_of};
 ghost use Rattle.lock_schedule.specs.Schedule.{final_of};
-ghost use Rattle.lock_schedule.specs.Runs.{run_of, ClaimOfRun, StepsOfRun};
+ghost use Rattle.lock_schedule.specs.Runs.{run_fresh, run_of, ClaimOfRun, StepsOfRun};
 
 use event_bytes::{EVENT_SIZE, event_from, limit_from};
 use lock_engine::handle;
@@ -34,13 +34,19 @@ fn run_events(table: Table, events: &[u8]) -> Table
     current
 }
 
-// The schedule from a fresh table as asked for; refused, with no table made there is nothing to run it on.
-#[tactic(auto, using(crate::proofs::Runs::run_claimed, crate::proofs::Runs::run_steps), unfolding(crate::specs::Runs::run_fresh))]
+// With no table made there is nothing to run the schedule on.
+#[tactic(auto, unfolding(crate::specs::Runs::run_fresh))]
+fn run_made(made: Result<Table, FreshRefusal>, events: &[u8]) -> Result<Table, FreshRefusal>
+    ensures { result ≡ run_fresh made (events_of events.now) }
+{
+    Ok(run_events(made?, events))
+}
+
+// The schedule from a fresh table as asked for.
 pub fn run(request: FreshRequest, events: &[u8]) -> Result<Table, FreshRefusal>
     ensures same { result ≡ run_of request (events_of events.now) }
     ensures claimed { ClaimOfRun request (events_of events.now) result }
     ensures steps { StepsOfRun request (events_of events.now) result }
 {
-    let table = lock_table::fresh(request)?;
-    Ok(run_events(table, events))
+    run_made(lock_table::fresh(request), events)
 }

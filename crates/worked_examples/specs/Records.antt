@@ -3,7 +3,7 @@ use Rattle.std.specs.Prelude.{◌≡◌, Bool, true, false, ℕ, ◌+◌, replic
 use Rattle.chains.specs.declared.named.Chain.{Chain}
 use Rattle.lock_table.specs.Record.{no_thread, with_activity, with_next}
 use Rattle.lock_table.specs.Access.{object_at}
-use Rattle.lock_table.specs.Fresh.{sized_request, table_of}
+use Rattle.lock_table.specs.Fresh.{sized_request, table_of as fresh_table}
 use Rattle.lock_table.specs.Monitor.{hand_of}
 use Rattle.lock_table.specs.declared.operation.Operation.TheVariants.{Enter}
 use Rattle.lock_table.specs.declared.phase.Phase.{Phase}
@@ -24,7 +24,7 @@ entering kept phase = with_activity no_thread (record { kept = kept; saved = 0; 
 
 -- the word of the one object of a fresh table
 abbrev pub fresh_word : Bool → ℕ
-fresh_word reserved = (object_at (table_of (sized_request 1 1 reserved)) 1).word
+fresh_word reserved = (object_at (fresh_table (sized_request 1 1 reserved)) 1).word
 
 -- thread 1 holds the monitor, and thread 2 is the first in its entry chain
 abbrev pub held : Monitor
