@@ -1,16 +1,14 @@
 -- A record read and written at its place is that of its number; a number that has none reads as the empty record and writes nothing.
 use Prim.Native.Nat.{ℕ, zero, suc, ◌+◌, ◌-◌, ◌≤◌, ◌<◌}
 use mathlib.Core.Path.{◌≡◌, refl, sym, ap, ◌∙◌}
-use mathlib.Core.Logic.{◌≢◌}
 use mathlib.Core.Bool.{Bool, true, false}
 use mathlib.Core.List.{List}
 use native.Mathlib.Omega.{arith}
-use lib.Dec.{eqb, ltb, leb}
+use lib.Dec.{eqb, ltb}
 use lib.ListN.{get_or, set}
 use lib.Seq.{set-get_or}
-use borrow.Author.Tests.{leb-true, leb-false}
 use Rattle.laws.specs.Choice.{pick, within}
-use Rattle.laws.proofs.Choice.{split, both_first, both_second, false≢true}
+use Rattle.laws.proofs.Choice.{equal?, either_way}
 use Rattle.chains.specs.declared.named.Chain.{Chain}
 use Rattle.lock_rules.specs.declared.ChainWork.{ChainWork}
 use Rattle.lock_table.specs.Limits.{thread_limit, object_limit}
@@ -20,6 +18,7 @@ use Rattle.lock_table.specs.Monitor.{first_in, with_first}
 use Rattle.lock_table.specs.Chain.{moved, move_all}
 use Rattle.lock_table.specs.Place.{place_within, thread_place, object_place}
 use Rattle.lock_table.specs.declared.record.{ThreadRecord.ThreadRecord, ObjectRecord.ObjectRecord, Monitor.Monitor, Table.Table}
+use Rattle.lock_table.proofs.Places.{number_some, number_high, number_past}
 use Rattle.lock_table.proofs.Walks.{move_all_turn, move_all_end, move_all_past, move_none}
 use Rattle.lock_perform.specs.Moving.{CarriedOut, touched, plan, carried_out, joined_by, relink}
 use Rattle.lock_perform.specs.Queueing.{queue}
@@ -145,13 +144,6 @@ relinked_alone t m work thread object none =
     ∙ (ap (λ (queued : JoinedChain). carried_out queued planned) (queue_none planned.into thread_limit changed first)
     ∙ λ j. record { table = changed; monitor = same_first planned.monitor planned.into j; unparked = planned.unparked }))
 
--- a thread's number
-pub number_some : (n : ℕ) → within 1 thread_limit n ≡ true → n ≢ 0
-number_some n inside = let some = leb-true 1 n (both_first (leb 1 n) _ inside) in λ none. omega (arith, some, none)
-
-pub number_high : (n : ℕ) → within 1 thread_limit n ≡ true → n ≤ thread_limit
-number_high n inside = leb-true n thread_limit (both_second (leb 1 n) _ inside)
-
 -- the walk along a chain that moves whole: one turn, and its ends: the chain ended, it went on with a number that has no record, or all were passed
 pub move_passes : (gone at : ℕ) → gone < thread_limit → within 1 thread_limit at ≡ true → (t : Table)
     → move_all (thread_limit - gone) t at
@@ -159,18 +151,13 @@ pub move_passes : (gone at : ℕ) → gone < thread_limit → within 1 thread_li
     (get_or t.threads (at - 1) no_thread).next
 move_passes gone at small inside t =
     let one : thread_limit - gone - 1 ≡ thread_limit - (gone + 1) = omega arith in
-    rw (← one) (move_all_turn (omega arith) t at (number_some at inside) (number_high at inside))
+    rw (← one) (move_all_turn (omega arith) t at (number_some thread_limit _ inside) (number_high thread_limit _ inside))
 
 pub move_stops : (left at : ℕ) → within 1 thread_limit at ≡ false → (t : Table) → move_all left t at ≡ t
 move_stops zero at outside t = move_all_end (omega arith) t at
 move_stops (suc left) at outside t =
-    split (leb 1 at)
-    (λ some. split (leb at thread_limit) (λ high. false≢true (sym (rw (some, high) at outside)))
-    (λ high. move_all_past (omega arith) t at (leb-false at thread_limit high)))
-    (λ low.
-    let below = leb-false 1 at low in
-    let none : at ≡ 0 = omega (arith, below) in
-    ap (move_all (suc left) t) none ∙ move_none (suc left) t)
+    either_way (equal? at 0) (λ none. ap (move_all (suc left) t) none ∙ move_none (suc left) t)
+    (λ some. move_all_past (omega arith) t at (number_past thread_limit at some outside))
 
 pub move_ends : (gone at : ℕ) → thread_limit ≤ gone → (t : Table) → move_all (thread_limit - gone) t at ≡ t
 move_ends gone at all t = move_all_end (omega arith) t at

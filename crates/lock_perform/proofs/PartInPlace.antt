@@ -10,11 +10,12 @@ use Rattle.lock_table.specs.Record.{no_thread, with_next}
 use Rattle.lock_table.specs.Access.{thread_at, set_thread}
 use Rattle.lock_table.specs.Place.{thread_place}
 use Rattle.lock_table.specs.declared.record.{ThreadRecord.ThreadRecord, Table.Table}
+use Rattle.lock_table.proofs.Places.{number_some, number_high}
 use Rattle.lock_table.proofs.Records.{thread_in, set_thread_in}
 use Rattle.lock_perform.specs.Parting.{last_behind, passed, part_chain}
 use Rattle.lock_perform.specs.InPlace.{linked_to}
 use Rattle.lock_perform.specs.declared.parting.Parting.{Parting}
-use Rattle.lock_perform.proofs.InPlace.{with_threads, set_by_in_place, number_some, number_high}
+use Rattle.lock_perform.proofs.InPlace.{with_threads, set_by_in_place}
 
 module _ (goes : ThreadRecord → Bool) (after : ThreadRecord → Bool → ThreadRecord) (together : Bool) where
   part_step : {left rest : ℕ} → left ≡ suc rest → (t : Table) (parting : Parting) (at : ℕ) → within 1 thread_limit at ≡ true
@@ -36,8 +37,8 @@ module _ (goes : ThreadRecord → Bool) (after : ThreadRecord → Bool → Threa
       (with_threads alone (set alone.threads (thread_place last) (linked_to last (get_or alone.threads (thread_place last) no_thread) at)))
       (passed together parting (goes thread) at) thread.next
   part_passes gone at small inside t parting =
-      let some = number_some at inside in
-      let high = number_high at inside in
+      let some = number_some thread_limit _ inside in
+      let high = number_high thread_limit _ inside in
       let read = thread_in t at some high in
       let rest = thread_limit - (gone + 1) in
       let thread = get_or t.threads (at - 1) no_thread in

@@ -17,16 +17,17 @@ use Rattle.lock_table.specs.Record.{no_thread, with_next}
 use Rattle.lock_table.specs.Access.{thread_at, set_thread}
 use Rattle.lock_table.specs.Place.{thread_place}
 use Rattle.lock_table.specs.declared.record.{ThreadRecord.ThreadRecord, Table.Table}
+use Rattle.lock_table.proofs.Places.{number_some, number_high}
 use Rattle.lock_table.proofs.Records.{thread_in, set_thread_in}
 use Rattle.lock_perform.specs.Queueing.{joining_rank, place_for, put_at, first_at, queue}
 use Rattle.lock_perform.specs.InPlace.{record_in, linked_to, if_record}
-use Rattle.lock_perform.proofs.InPlace.{with_threads, read_in_place, set_by_in_place, number_some, number_high}
+use Rattle.lock_perform.proofs.InPlace.{with_threads, read_in_place, set_by_in_place}
 
 -- the record at the place of a number that has one
 read_there : (t : Table) (n : ℕ) → within 1 thread_limit n ≡ true → thread_at t n ≡ record_in t.threads n
 unfolding if_record
 read_there t n inside =
-    sym (read_in_place t n) ∙ rw (ne_eqb n 0 (number_some n inside), le-ltb thread_limit n (number_high n inside))
+    sym (read_in_place t n) ∙ rw (ne_eqb n 0 (number_some thread_limit _ inside), le-ltb thread_limit n (number_high thread_limit _ inside))
 
 -- the walk to a place reads records at their places
 place_read : (t : Table) (rank fuel last here : ℕ) → place_for fuel (thread_at t) rank last here ≡ place_for fuel (record_in t.threads) rank last here
@@ -79,8 +80,8 @@ module _ (into : Chain) where
       (with_threads alone (set alone.threads (thread_place place.last) (linked_to place.last (get_or alone.threads (thread_place place.last) no_thread) at)))
       (first_at place.last first at) thread.next
   queue_passes gone at small inside t first =
-      let some = number_some at inside in
-      let high = number_high at inside in
+      let some = number_some thread_limit _ inside in
+      let high = number_high thread_limit _ inside in
       let read = thread_in t at some high in
       let rest = thread_limit - (gone + 1) in
       let thread = get_or t.threads (at - 1) no_thread in

@@ -7,12 +7,14 @@ use mathlib.Core.List.{List}
 use native.Mathlib.Omega.{arith}
 use lib.Dec.{eqb, ltb}
 use lib.ListN.{get_or}
-use borrow.Author.Tests.{ne_eqb, le-ltb}
-use Rattle.laws.specs.Choice.{pick}
+use borrow.Author.Tests.{ne_eqb, le-ltb, lt-ltb}
+use Rattle.laws.specs.Choice.{pick, within}
+use Rattle.laws.proofs.Choice.{pick_same}
 use Rattle.chains.specs.Chain.{chain_test}
 use Rattle.lock_table.specs.{Limits.thread_limit, Record.no_thread, Access.object_at}
 use Rattle.lock_table.specs.Place.{place_within, thread_place}
 use Rattle.lock_table.specs.declared.record.{ThreadRecord.ThreadRecord, ObjectRecord.ObjectRecord, Table.Table}
+use Rattle.lock_table.proofs.Places.{number_some, number_high, number_past}
 use Rattle.sound_records.specs.Records.{empty_object}
 use Rattle.sound_records.specs.OnePass.{rank_there, member_passes}
 use Rattle.sound_records.proofs.Reading.{reads_empty_object}
@@ -21,12 +23,12 @@ use Rattle.lock_soundness.specs.OnePass.{object_turn, objects_marks}
 use Rattle.lock_soundness.proofs.Marks.{marked_none}
 
 -- a record in place is that of its number
-pub thread_here : (threads : List ThreadRecord) (n : ℕ) → n ≢ 0 → n ≤ thread_limit → thread_in threads n ≡ get_or threads (n - 1) no_thread
+thread_here : (threads : List ThreadRecord) (n : ℕ) → within 1 thread_limit n ≡ true → thread_in threads n ≡ get_or threads (n - 1) no_thread
 unfolding thread_in
-thread_here threads n some high = simp (ne_eqb n 0 some, le-ltb thread_limit n high)
+thread_here threads n inside = simp (ne_eqb n 0 (number_some thread_limit _ inside), le-ltb thread_limit n (number_high thread_limit _ inside))
 
-pub next_here : (threads : List ThreadRecord) (n : ℕ) → n ≢ 0 → n ≤ thread_limit → next_in threads n ≡ (get_or threads (n - 1) no_thread).next
-next_here threads n some high = ap (λ (thread : ThreadRecord). thread.next) (thread_here threads n some high)
+pub next_here : (threads : List ThreadRecord) (n : ℕ) → within 1 thread_limit n ≡ true → next_in threads n ≡ (get_or threads (n - 1) no_thread).next
+next_here threads n inside = ap (λ (thread : ThreadRecord). thread.next) (thread_here threads n inside)
 
 -- the rank of a number, by the record at its place
 pub rank_here : (threads : List ThreadRecord) (n : ℕ) → rank_there n (get_or threads (thread_place n) no_thread) ≡ (thread_in threads n).rank
@@ -40,15 +42,20 @@ rank_here threads n = at (eqb n 0) (ltb thread_limit n)
     at false true = refl
     at false false = refl
 
-pub member_here : (threads : List ThreadRecord) (count o chain n : ℕ) → n ≢ 0 → n ≤ thread_limit → n ≤ count
+pub member_here : (threads : List ThreadRecord) (count o chain n : ℕ) → within 1 thread_limit n ≡ true → n ≤ count
     → let thread = get_or threads (n - 1) no_thread in
     member_fits threads count o chain n ≡ member_passes o chain thread (rank_there thread.next (get_or threads (thread_place thread.next) no_thread))
 unfolding member_fits
-member_here threads count o chain n some high inside =
+member_here threads count o chain n inside low =
     let thread = get_or threads (n - 1) no_thread in
-    simp (le-ltb count n inside, le-ltb thread_limit n high)
-    (ap (λ (own : ThreadRecord). member_passes o chain own (thread_in threads own.next).rank) (thread_here threads n some high)
+    simp (le-ltb count n low, le-ltb thread_limit n (number_high thread_limit _ inside))
+    (ap (λ (own : ThreadRecord). member_passes o chain own (thread_in threads own.next).rank) (thread_here threads n inside)
     ∙ ap (member_passes o chain thread) (sym (rank_here threads thread.next)))
+
+-- a number that no thread has
+pub member_none : (threads : List ThreadRecord) (count o chain n : ℕ) → n ≢ 0 → within 1 thread_limit n ≡ false → member_fits threads count o chain n ≡ false
+unfolding member_fits
+member_none threads count o chain n some outside = rw (lt-ltb thread_limit n (number_past thread_limit n some outside)) (pick_same (ltb count n) false)
 
 -- an empty chain passes any test
 pub empty_passes : (fuel : ℕ) (next : ℕ → ℕ) (ok : ℕ → Bool) → chain_test fuel next ok 0 ≡ true

@@ -1,6 +1,5 @@
 // Soundness of a table (document 01, "Lock words", the sentence "Sound means"), in one pass: one loop over the object records, which walks their
-// chains and marks the threads that it meets, and one over the thread records, in which a parked thread has to be marked. Each record is read once
-// and in place, since a table that is passed on is copied.
+// chains and marks the threads that it meets, and one over the thread records, in which a parked thread has to be marked. Each record is read once.
 #![tactic(auto)]
 
 mod chain;
@@ -12,7 +11,7 @@ ghost use Rattle.lock_soundness.specs.Sound.{sizes_fit, sound_of};
 ghost use Rattle.lock_soundness.specs.OnePass.{chains_marks, object_passes, object_turn, objects_marks, thread_turn};
 
 use chain::chains_pass;
-use lock_table::{OBJECTS, ObjectRecord, THREADS, Table, ThreadRecord};
+use lock_table::{OBJECTS, ObjectRecord, THREADS, Table};
 use sound_records::{empty_object, thread_passes, used_object_fits, within};
 
 #[tactic(auto, unfolding(crate::specs::Sound::sizes_fit))]
@@ -24,69 +23,47 @@ fn sizes_fit(threads: u8, objects: u8) -> bool
 
 // An empty record passes at once, and most are. Any other is one of an object in use, with its chains.
 #[tactic(auto, unfolding(crate::specs::OnePass::object_passes))]
-fn object_passes(
-    threads: [ThreadRecord; 32],
-    threadcount: u8,
-    objects: u8,
-    number: u8,
-    object: ObjectRecord,
-    met: &mut [bool; 32],
-) -> bool
-    ensures value { result ≡ object_passes threads threadcount objects number object }
-    ensures marks { met.new ≡ chains_marks threads threadcount number object.monitor met.old }
+fn object_passes(table: &Table, number: u8, object: ObjectRecord, met: &mut [bool; 32]) -> bool
+    ensures value { result ≡ object_passes table.now.threads table.now.threadcount table.now.objectcount number object }
+    ensures marks { met.new ≡ chains_marks table.now.threads table.now.threadcount number object.monitor met.old }
 {
-    let empty = empty_object(object);
-    if empty {
+    if empty_object(object) {
         return true;
     }
-    let fits = (number <= objects) & used_object_fits(threadcount, number, object);
-    fits & chains_pass(threads, threadcount, number, object.monitor, met)
+    let fits = (number <= table.objectcount) & used_object_fits(table.threadcount, number, object);
+    fits & chains_pass(table, number, object.monitor, met)
 }
 
 // Each object's record is in order, and so are its chains.
-fn objects_pass(table: Table, met: &mut [bool; 32]) -> bool
-    ensures value { result ≡ all_up_to object_limit (object_turn table) }
-    ensures marks { met.new ≡ objects_marks table object_limit met.old }
+fn objects_pass(table: &Table, met: &mut [bool; 32]) -> bool
+    ensures value { result ≡ all_up_to object_limit (object_turn table.now) }
+    ensures marks { met.new ≡ objects_marks table.now object_limit met.old }
 {
-    let mut left = OBJECTS;
-    while 0 < left {
-        let place = (left as usize) - 1;
-        let object = table.objects[place];
-        let passes = object_passes(
-            table.threads,
-            table.threadcount,
-            table.objectcount,
-            left,
-            object,
-            met,
-        );
-        if !passes {
+    for number in (1..=OBJECTS).rev() {
+        let object = table.objects[usize::from(number - 1)];
+        if !object_passes(table, number, object, met) {
             return false;
         }
-        left = left - 1;
     }
     true
 }
 
 // Each thread's record is as its phase asks, and a parked thread was met in a walk.
-fn threads_pass(table: Table, met: &[bool; 32]) -> bool
-    ensures { result ≡ all_up_to thread_limit (thread_turn table met.now) }
+fn threads_pass(table: &Table, met: &[bool; 32]) -> bool
+    ensures { result ≡ all_up_to thread_limit (thread_turn table.now met.now) }
 {
-    let mut left = THREADS;
-    while 0 < left {
-        let place = (left as usize) - 1;
-        let thread = table.threads[place];
+    for number in (1..=THREADS).rev() {
+        let place = usize::from(number - 1);
         let passes = thread_passes(
             table.threadcount,
             table.objectcount,
-            left,
-            thread,
+            number,
+            table.threads[place],
             met[place],
         );
         if !passes {
             return false;
         }
-        left = left - 1;
     }
     true
 }
@@ -98,7 +75,7 @@ pub fn sound(table: Table) -> bool
 {
     let sizes = sizes_fit(table.threadcount, table.objectcount);
     let mut met = [false; 32];
-    let objects = objects_pass(table, &mut met);
-    let threads = threads_pass(table, &met);
-    sizes & (objects & threads)
+    let objects = objects_pass(&table, &mut met);
+    let threads = threads_pass(&table, &met);
+    sizes & objects & threads
 }

@@ -1,13 +1,13 @@
 -- The place of a number's record in its array.
 use Prim.Native.Nat.{ℕ, ◌-◌, ◌≤◌, ◌<◌}
-use mathlib.Core.Path.{◌≡◌}
+use mathlib.Core.Path.{◌≡◌, sym}
 use mathlib.Core.Logic.{◌≢◌, ◌⊎◌, inl, inr}
 use mathlib.Core.Bool.{Bool, true, false}
 use native.Mathlib.Omega.{arith}
-use lib.Dec.{eqb, ltb}
-use borrow.Author.Tests.{ne_eqb, le-ltb}
-use Rattle.laws.specs.Choice.{pick}
-use Rattle.laws.proofs.Choice.{equal?, Equal, equal, Below, below}
+use lib.Dec.{eqb, ltb, leb}
+use borrow.Author.Tests.{ne_eqb, le-ltb, le-leb, leb-true, leb-false}
+use Rattle.laws.specs.Choice.{pick, within}
+use Rattle.laws.proofs.Choice.{equal?, Equal, equal, Below, below, split, both_first, both_second, false≢true}
 use Rattle.lock_table.specs.Place.{place_within}
 
 -- a number that has a record, or none
@@ -28,6 +28,17 @@ has? limit number = at (equal? number 0) (ltb limit number) (below limit number)
 pub place_has : (limit number : ℕ) → Has limit number → place_within limit number ≡ number - 1
 unfolding place_within
 place_has limit number (some, high) = simp (ne_eqb number 0 some, le-ltb limit number high)
+
+-- the same by a test
+pub number_some : (limit number : ℕ) → within 1 limit number ≡ true → number ≢ 0
+number_some limit number inside = let some = leb-true 1 number (both_first (leb 1 number) _ inside) in λ none. omega (arith, some, none)
+
+pub number_high : (limit number : ℕ) → within 1 limit number ≡ true → number ≤ limit
+number_high limit number inside = leb-true number limit (both_second (leb 1 number) _ inside)
+
+pub number_past : (limit number : ℕ) → number ≢ 0 → within 1 limit number ≡ false → limit < number
+number_past limit number some outside =
+    split (leb number limit) (λ high. false≢true (sym (rw (le-leb 1 number (omega (arith, some)), high) at outside))) (λ high. leb-false number limit high)
 
 -- any number's place is one of the array's
 pub place_inside : (limit number : ℕ) → 0 < limit → place_within limit number < limit

@@ -6,14 +6,11 @@ ghost use Rattle.laws.specs.Choice.{within, implies};
 pub fn within(low: u8, high: u8, number: u8) -> bool
     ensures { result ≡ within low high number }
 {
-    (low <= number) & (number <= high)
+    (low..=high).contains(&number)
 }
 
 pub fn implies(test: bool, fact: bool) -> bool
     ensures { result ≡ implies test fact }
 {
-    if test {
-        return fact;
-    }
-    true
+    !test | fact
 }

@@ -41,20 +41,20 @@ pub fn used_object_fits(threads: u8, number: u8, object: ObjectRecord) -> bool
     let word = word_fits(threads, number, lock_word::read_word(object.word));
     let holder = object.monitor.holder <= threads;
     let unheld = unheld_fits(object.monitor);
-    word & (holder & unheld)
+    word & holder & unheld
 }
 
 #[tactic(auto, unfolding(crate::specs::Records::empty_monitor))]
 fn empty_monitor(monitor: Monitor) -> bool
     ensures { result ≡ empty_monitor monitor }
 {
-    let chains = (monitor.entry == 0) & ((monitor.contention == 0) & (monitor.waiting == 0));
-    (monitor.depth == 0) & ((monitor.holder == 0) & chains)
+    let chains = (monitor.entry == 0) & (monitor.contention == 0) & (monitor.waiting == 0);
+    (monitor.depth == 0) & (monitor.holder == 0) & chains
 }
 
 #[tactic(auto, unfolding(crate::specs::Records::empty_object))]
 pub fn empty_object(object: ObjectRecord) -> bool
     ensures { result ≡ empty_object object }
 {
-    (object.word == 0) & (!object.flag & empty_monitor(object.monitor))
+    (object.word == 0) & !object.flag & empty_monitor(object.monitor)
 }

@@ -1,15 +1,14 @@
 // What soundness asks of one thread's record. `phase` and `carried` are document 01's numbers of the thread's phase and of the one it carries.
-ghost use Rattle.std.specs.Prelude.{◌≡◌};
-ghost use Rattle.lock_table.specs.Parked.{chain_named, thread_chain};
+ghost use Rattle.std.specs.Prelude.{◌≡◌, eqb, not};
+ghost use Rattle.lock_table.specs.Parked.{chain_named};
 ghost use Rattle.sound_records.specs.Records.{uses_phase, carries_phase, operation_fits, kept_count_fits, reserved_for, kept_fits, empty_thread};
 ghost use Rattle.sound_records.specs.Records.{saves_depth, saved_fits, unused_fits, used_thread_fits, names_chain, falls_behind};
 ghost use Rattle.sound_records.specs.Records.{wait_uses, wait_carries, resumes, ticks_fit};
-ghost use Rattle.sound_records.specs.OnePass.{rank_there, member_passes, thread_passes};
+ghost use Rattle.sound_records.specs.OnePass.{chain_number, rank_there, member_passes, thread_passes};
 
 use crate::choice::{implies, within};
-use lock_table::{
-    Operation, RANKS, THREADS, ThreadRecord, carried_number, operation_number, phase_number,
-};
+use chains::Chain;
+use lock_table::{Operation, Phase, RANKS, ThreadRecord, carried_number, is_thread, phase_number};
 use lock_word::{COUNT_LIMIT, DEPTH_LIMIT, LockWord, TICK_LIMIT};
 
 // The largest counts of a kept word: storing it adds one for enter and takes one off for exit.
@@ -21,13 +20,13 @@ const EXIT_COUNT_LIMIT: u8 = COUNT_LIMIT;
 fn wait_uses(phase: u8) -> bool
     ensures { result ≡ wait_uses phase }
 {
-    (phase == 1) | (within(3, 5, phase) | within(12, 15, phase))
+    matches!(phase, 1 | 3..=5 | 12..=15)
 }
 
 fn wait_carries(carried: u8) -> bool
     ensures { result ≡ wait_carries carried }
 {
-    (carried == 12) | (carried == 15)
+    matches!(carried, 12 | 15)
 }
 
 // The phases that each operation uses.
@@ -37,12 +36,10 @@ fn uses_phase(operation: Operation, phase: u8) -> bool
 {
     match operation {
         Operation::Idle => false,
-        Operation::Enter => within(1, 8, phase),
-        Operation::Exit => within(1, 2, phase) | (within(4, 5, phase) | within(9, 11, phase)),
-        Operation::Wait => wait_uses(phase),
-        Operation::Notify => phase == 1,
-        Operation::NotifyAll => phase == 1,
-        Operation::TimedWait => wait_uses(phase),
+        Operation::Enter => matches!(phase, 1..=8),
+        Operation::Exit => matches!(phase, 1 | 2 | 4 | 5 | 9..=11),
+        Operation::Wait | Operation::TimedWait => wait_uses(phase),
+        Operation::Notify | Operation::NotifyAll => phase == 1,
     }
 }
 
@@ -52,13 +49,10 @@ fn carries_phase(operation: Operation, carried: u8) -> bool
     ensures { result ≡ carries_phase operation carried }
 {
     match operation {
-        Operation::Idle => false,
         Operation::Enter => carried == 6,
         Operation::Exit => carried == 10,
-        Operation::Wait => wait_carries(carried),
-        Operation::Notify => false,
-        Operation::NotifyAll => false,
-        Operation::TimedWait => wait_carries(carried),
+        Operation::Wait | Operation::TimedWait => wait_carries(carried),
+        Operation::Idle | Operation::Notify | Operation::NotifyAll => false,
     }
 }
 
@@ -67,11 +61,10 @@ fn carries_phase(operation: Operation, carried: u8) -> bool
 fn operation_fits(objects: u8, phase: u8, carried: u8, thread: ThreadRecord) -> bool
     ensures { result ≡ operation_fits objects phase carried thread }
 {
-    let operation = thread.operation;
     let object = within(1, objects, thread.object);
-    let uses = uses_phase(operation, phase);
-    let carries = implies(phase == 5, carries_phase(operation, carried));
-    (phase == 0) | (object & (uses & carries))
+    let uses = uses_phase(thread.operation, phase);
+    let carries = implies(phase == 5, carries_phase(thread.operation, carried));
+    (phase == 0) | (object & uses & carries)
 }
 
 #[tactic(auto, unfolding(crate::specs::Records::kept_count_fits))]
@@ -79,13 +72,9 @@ fn kept_count_fits(operation: Operation, count: u8) -> bool
     ensures { result ≡ kept_count_fits operation count }
 {
     match operation {
-        Operation::Idle => false,
         Operation::Enter => count <= ENTER_COUNT_LIMIT,
         Operation::Exit => within(1, EXIT_COUNT_LIMIT, count),
-        Operation::Wait => false,
-        Operation::Notify => false,
-        Operation::NotifyAll => false,
-        Operation::TimedWait => false,
+        _ => false,
     }
 }
 
@@ -123,7 +112,7 @@ fn kept_fits(number: u8, phase: u8, thread: ThreadRecord) -> bool
 fn saves_depth(phase: u8, carried: u8) -> bool
     ensures { result ≡ saves_depth phase carried }
 {
-    within(14, 15, phase) | (carried == 15)
+    matches!(phase, 14 | 15) | (carried == 15)
 }
 
 #[tactic(auto, unfolding(crate::specs::Records::saved_fits))]
@@ -132,7 +121,7 @@ fn saved_fits(phase: u8, carried: u8, thread: ThreadRecord) -> bool
 {
     implies(
         saves_depth(phase, carried),
-        (1 <= thread.saved) & (thread.saved <= DEPTH_LIMIT),
+        (1..=DEPTH_LIMIT).contains(&thread.saved),
     )
 }
 
@@ -148,64 +137,50 @@ fn resumes(phase: u8, carried: u8) -> bool
 fn ticks_fit(phase: u8, carried: u8, thread: ThreadRecord) -> bool
     ensures { result ≡ ticks_fit phase carried thread }
 {
-    let operation = thread.operation;
     let ticks = thread.ticks;
-    match operation {
-        Operation::Idle => ticks == 0,
-        Operation::Enter => ticks == 0,
-        Operation::Exit => ticks == 0,
-        Operation::Wait => ticks == 0,
-        Operation::Notify => ticks == 0,
-        Operation::NotifyAll => ticks == 0,
-        Operation::TimedWait => ((1 <= ticks) & (ticks <= TICK_LIMIT))
+    match thread.operation {
+        Operation::TimedWait => (1..=TICK_LIMIT).contains(&ticks)
             | ((ticks == 0) & resumes(phase, carried)),
+        _ => ticks == 0,
     }
 }
 
-// The chain that a parked thread's phase names: 1 entry, 2 contention, 3 waiting; 0 where a phase names none.
+// Whether a thread in this phase is parked in a chain of its object.
 #[tactic(auto, unfolding(lock_table::specs::Parked::chain_named))]
-fn chain_named(phase: u8) -> u8
-    ensures { result ≡ chain_named phase }
+fn is_parked(phase: u8) -> bool
+    ensures { result ≡ not (eqb (chain_named phase) 0) }
 {
-    if phase == 5 {
-        return 1;
-    }
-    if phase == 8 {
-        return 2;
-    }
-    if phase == 14 {
-        return 3;
-    }
-    0
-}
-
-// The chain that the thread is parked in.
-fn thread_chain(thread: ThreadRecord) -> u8
-    ensures { result ≡ thread_chain thread }
-{
-    let phase = thread.phase;
-    chain_named(phase_number(phase))
+    matches!(phase, 5 | 8 | 14)
 }
 
 // The thread is parked in this chain of the object.
-#[tactic(auto, unfolding(crate::specs::Records::names_chain))]
-fn names_chain(object: u8, chain: u8, thread: ThreadRecord) -> bool
-    ensures { result ≡ names_chain object chain thread }
+#[tactic(auto, unfolding(crate::specs::Records::names_chain, lock_table::specs::Parked::chain_named, lock_table::specs::Phase::phase_number))]
+fn names_chain(object: u8, chain: Chain, thread: ThreadRecord) -> bool
+    ensures { result ≡ names_chain object (chain_number chain) thread }
 {
-    (thread.object == object) & (thread_chain(thread) == chain)
+    let named = match thread.phase {
+        Phase::Queued(_) => matches!(chain, Chain::Entry),
+        Phase::Contending => matches!(chain, Chain::Contention),
+        Phase::Waiting => matches!(chain, Chain::Waiting),
+        _ => false,
+    };
+    (thread.object == object) & named
 }
 
 // Whether nobody of a higher rank stands behind a queued thread: `behind` is the rank of who stands there, 0 for nobody.
-#[tactic(auto, unfolding(crate::specs::Records::falls_behind))]
+#[tactic(auto, unfolding(crate::specs::Records::falls_behind, lock_table::specs::Parked::chain_named, lock_table::specs::Phase::phase_number))]
 fn falls_behind(thread: ThreadRecord, behind: u8) -> bool
     ensures { result ≡ falls_behind thread behind }
 {
-    implies(thread_chain(thread) == 1, behind <= thread.rank)
+    implies(
+        matches!(thread.phase, Phase::Queued(_)),
+        behind <= thread.rank,
+    )
 }
 
 // A thread that a walk meets in a chain of the object.
-pub fn member_passes(object: u8, chain: u8, thread: ThreadRecord, behind: u8) -> bool
-    ensures { result ≡ member_passes object chain thread behind }
+pub fn member_passes(object: u8, chain: Chain, thread: ThreadRecord, behind: u8) -> bool
+    ensures { result ≡ member_passes object (chain_number chain) thread behind }
 {
     names_chain(object, chain, thread) & falls_behind(thread, behind)
 }
@@ -215,29 +190,22 @@ pub fn member_passes(object: u8, chain: u8, thread: ThreadRecord, behind: u8) ->
 pub fn rank_there(number: u8, there: ThreadRecord) -> u8
     ensures { result ≡ rank_there number there }
 {
-    if number == 0 {
-        return 0;
-    }
-    if THREADS < number {
-        return 0;
-    }
-    there.rank
+    if is_thread(number) { there.rank } else { 0 }
 }
 
 // Every field that the phase does not use is 0.
-#[tactic(auto, unfolding(crate::specs::Records::unused_fits))]
+#[tactic(auto, unfolding(crate::specs::Records::unused_fits, lock_table::specs::Operation::operation_number))]
 fn unused_fits(phase: u8, carried: u8, thread: ThreadRecord) -> bool
     ensures { result ≡ unused_fits phase carried thread }
 {
-    let operation = thread.operation;
     let idle = implies(
         phase == 0,
-        (operation_number(operation) == 0) & (thread.object == 0),
+        matches!(thread.operation, Operation::Idle) & (thread.object == 0),
     );
     let kept = (phase == 2) | (thread.kept == 0);
-    let next = implies(chain_named(phase) == 0, thread.next == 0);
+    let next = is_parked(phase) | (thread.next == 0);
     let saved = saves_depth(phase, carried) | (thread.saved == 0);
-    idle & (kept & (next & saved))
+    idle & kept & next & saved
 }
 
 // A row for each clause about a thread's record.
@@ -250,20 +218,21 @@ fn used_thread_fits(objects: u8, number: u8, phase: u8, carried: u8, thread: Thr
     let ticks = ticks_fit(phase, carried, thread);
     let unused = unused_fits(phase, carried, thread);
     let ranked = thread.rank <= RANKS;
-    ranked & (operation & (kept & (saved & (ticks & unused))))
+    ranked & operation & kept & saved & ticks & unused
 }
 
-#[tactic(auto, unfolding(crate::specs::Records::empty_thread))]
+#[tactic(auto, unfolding(crate::specs::Records::empty_thread, lock_table::specs::Operation::operation_number, lock_table::specs::Phase::phase_number))]
 fn empty_thread(thread: ThreadRecord) -> bool
     ensures { result ≡ empty_thread thread }
 {
-    let operation = thread.operation;
-    let phase = thread.phase;
-    let idle = (operation_number(operation) == 0) & (phase_number(phase) == 0);
+    let idle = matches!(thread.operation, Operation::Idle) & matches!(thread.phase, Phase::Idle);
     (thread.kept == 0)
-        & ((thread.saved == 0)
-            & ((thread.ticks == 0)
-                & ((thread.object == 0) & ((thread.next == 0) & ((thread.rank == 0) & idle)))))
+        & (thread.saved == 0)
+        & (thread.ticks == 0)
+        & (thread.object == 0)
+        & (thread.next == 0)
+        & (thread.rank == 0)
+        & idle
 }
 
 // An empty record passes at once, and most are. Any other is one of a thread in use, which was met in a walk if it is parked.
@@ -271,20 +240,14 @@ fn empty_thread(thread: ThreadRecord) -> bool
 pub fn thread_passes(threads: u8, objects: u8, number: u8, thread: ThreadRecord, met: bool) -> bool
     ensures { result ≡ thread_passes threads objects number thread met }
 {
-    let empty = empty_thread(thread);
-    if empty {
+    if empty_thread(thread) {
         return true;
     }
     if threads < number {
         return false;
     }
-    let phase = thread.phase;
-    let fits = used_thread_fits(
-        objects,
-        number,
-        phase_number(phase),
-        carried_number(phase),
-        thread,
-    );
-    fits & ((thread_chain(thread) == 0) | met)
+    let phase = phase_number(thread.phase);
+    let carried = carried_number(thread.phase);
+    let fits = used_thread_fits(objects, number, phase, carried, thread);
+    fits & (!is_parked(phase) | met)
 }
