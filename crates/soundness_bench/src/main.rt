@@ -7,39 +7,30 @@ use lock_table::{Monitor, Onward, Operation, Phase, Table, ThreadRecord};
 use lock_word::LockWord;
 use std::io::Read;
 
-// What is read has room for a case and nine digits.
-const INPUT: usize = 11;
-
-const COUNT_LIMIT: u64 = 100000000;
-
-const WORDS: u64 = 64;
+const COUNT_LIMIT: u64 = 100_000_000;
 
 // Thread `holder` holds the object, and the threads from `first` to `last` are in its entry chain.
 fn contended(table: Table, object: u8, holder: u8, first: u8, last: u8) -> Table {
     let monitor = Monitor {
         depth: 1,
-        holder: holder,
+        holder,
         entry: first,
         contention: 0,
         waiting: 0,
     };
-    let record = lock_table::no_object().with_word(lock_word::fat_word(object as u16));
+    let record = lock_table::no_object().with_word(lock_word::fat_word(u16::from(object)));
     let mut changed = lock_table::set_object(table, object, record.with_monitor(monitor));
-    let mut next: u8 = 0;
-    let mut number = last;
-    while 0 < number {
-        if first <= number {
-            let thread = ThreadRecord {
-                object: object,
-                next: next,
-                operation: Operation::Enter,
-                phase: Phase::Queued(Onward::ToCheck),
-                ..lock_table::no_thread()
-            };
-            changed = lock_table::set_thread(changed, number, thread);
-            next = number;
-        }
-        number = number - 1;
+    let mut next = 0;
+    for number in (first..=last).rev() {
+        let thread = ThreadRecord {
+            object,
+            next,
+            operation: Operation::Enter,
+            phase: Phase::Queued(Onward::ToCheck),
+            ..lock_table::no_thread()
+        };
+        changed = lock_table::set_thread(changed, number, thread);
+        next = number;
     }
     changed
 }
@@ -47,13 +38,10 @@ fn contended(table: Table, object: u8, holder: u8, first: u8, last: u8) -> Table
 // Thread 1 owns every object, by a flat word.
 fn all_owned(table: Table) -> Table {
     let owned = lock_table::no_object().with_word(lock_word::flat_word(1, 0));
-    let mut changed = table;
-    let mut number = lock_table::OBJECTS;
-    while 0 < number {
-        changed = lock_table::set_object(changed, number, owned);
-        number = number - 1;
+    Table {
+        objects: [owned; 64],
+        ..table
     }
-    changed
 }
 
 // A fresh table of these sizes, which are in range in each case.
@@ -80,14 +68,12 @@ fn case_table(number: u8) -> Table {
 fn sound_answers(table: Table, repeats: u64) -> u64 {
     let mut changed = table;
     let mut answers: u64 = 0;
-    let mut left = repeats;
-    while 0 < left {
-        let record = lock_table::no_object();
-        changed.objects[15] = record.with_word(lock_word::flat_word(1, (left % 64) as u8));
+    for turn in 1..=repeats {
+        let word = lock_word::flat_word(1, (turn % 64) as u8);
+        changed.objects[15] = lock_table::no_object().with_word(word);
         if lock_soundness::sound(changed) {
             answers = answers % COUNT_LIMIT + 1;
         }
-        left = left - 1;
     }
     answers
 }
@@ -98,12 +84,12 @@ fn owned_by(word: u32) -> u64 {
         return 0;
     };
     let ownership = lock_word::ownership_of(lock_word::seen_word(meaning), 1, 1);
-    (ownership.thread as u64) + (ownership.depth as u64)
+    u64::from(ownership.thread) + u64::from(ownership.depth)
 }
 
 // A word of a case: flat, reserved, fat, or of mixed kinds, flat, none, reserved and none by turns. The remainder bounds the sum.
-fn case_word(number: u8, turn: u64) -> u32 {
-    let place = (turn % WORDS) as u32;
+fn case_word(number: u8, place: usize) -> u32 {
+    let place = (place % 64) as u32;
     match number {
         3 => 0x100 + place * 4,
         4 => 0x102 + place * 4,
@@ -114,23 +100,17 @@ fn case_word(number: u8, turn: u64) -> u32 {
 
 fn case_words(number: u8) -> [u32; 64] {
     let mut words = [0; 64];
-    let mut turn: u64 = 0;
-    while turn < WORDS {
-        let at = turn as usize;
-        words[at] = case_word(number, turn);
-        turn = turn + 1;
+    for (place, word) in words.iter_mut().enumerate() {
+        *word = case_word(number, place);
     }
     words
 }
 
 // The words lie in memory, so that nothing is known of them where they are read.
-fn owned_sum(words: [u32; 64], repeats: u64) -> u64 {
+fn owned_sum(words: &[u32; 64], repeats: u64) -> u64 {
     let mut sum: u64 = 0;
-    let mut left = repeats;
-    while 0 < left {
-        let at = (left % WORDS) as usize;
-        sum = sum.wrapping_add(owned_by(words[at]));
-        left = left - 1;
+    for turn in 1..=repeats {
+        sum = sum.wrapping_add(owned_by(words[(turn % 64) as usize]));
     }
     sum
 }
@@ -140,29 +120,27 @@ fn measured(number: u8, repeats: u64) -> u64 {
     if number < 3 {
         return sound_answers(case_table(number), repeats);
     }
-    owned_sum(case_words(number), repeats)
+    owned_sum(&case_words(number), repeats)
 }
 
 // The decimal number behind the first two bytes.
-fn count_read(input: [u8; 11]) -> u64 {
-    let mut count: u64 = 0;
-    let mut at: usize = 2;
-    while at < INPUT {
-        let byte = input[at];
-        if b'0' <= byte {
-            count = count % COUNT_LIMIT * 10 + ((byte % 16) as u64);
+fn count_read(input: &[u8; 11]) -> u64 {
+    let mut count = 0;
+    for byte in &input[2..] {
+        if b'0' <= *byte {
+            count = count % COUNT_LIMIT * 10 + u64::from(*byte % 16);
         }
-        at = at + 1;
     }
     count
 }
 
 fn main(rt: HostRuntime) {
+    // room for a case, a space and nine digits
     let mut input = [0; 11];
     let mut stdin = rt.stdin();
     // a shorter input leaves zeros behind it
     let _ = stdin.read_exact(&mut input);
     let number = input[0] % 16;
-    let answer = measured(number, count_read(input));
+    let answer = measured(number, count_read(&input));
     let _ = println!(rt; "{answer}");
 }
