@@ -10,20 +10,19 @@ use lock_word::{LockWord, Ownership, ownership_of, read_word, seen_word};
 fn ownership_in(decoded: Option<LockWord>, monitor: Monitor) -> Ownership
     ensures { result ≡ ownership_in decoded monitor }
 {
-    let Some(word) = decoded else {
-        return Ownership {
+    match decoded {
+        Some(word) => ownership_of(seen_word(word), monitor.holder, monitor.depth),
+        None => Ownership {
             thread: 0,
             depth: 0,
-        };
-    };
-    ownership_of(seen_word(word), monitor.holder, monitor.depth)
+        },
+    }
 }
 
 fn ownership_by(object: ObjectRecord) -> Ownership
     ensures { result ≡ ownership_by object }
 {
-    let monitor = object.monitor;
-    ownership_in(read_word(object.word), monitor)
+    ownership_in(read_word(object.word), object.monitor)
 }
 
 // The owner of the object with this number, and its depth; 0 and 0 where nobody owns it.

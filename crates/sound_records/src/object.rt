@@ -11,15 +11,12 @@ use lock_word::LockWord;
 fn word_fits(threads: u8, number: u8, decoded: Option<LockWord>) -> bool
     ensures { result ≡ word_fits threads number decoded }
 {
-    let Some(meaning) = decoded else {
-        return false;
-    };
-    match meaning {
-        LockWord::Free => true,
-        LockWord::Flat(thread, _) => thread.value() <= (threads as u16),
-        LockWord::Anonymous => true,
-        LockWord::Reserved(thread, _) => thread.value() <= (threads as u16),
-        LockWord::Fat(monitor) => monitor.value() == (number as u16),
+    match decoded {
+        None => false,
+        Some(LockWord::Free | LockWord::Anonymous) => true,
+        Some(LockWord::Flat(thread, _) | LockWord::Reserved(thread, _)) => thread.value()
+            <= u16::from(threads),
+        Some(LockWord::Fat(monitor)) => monitor.value() == u16::from(number),
     }
 }
 

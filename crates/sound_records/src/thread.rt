@@ -83,16 +83,10 @@ fn kept_count_fits(operation: Operation, count: u8) -> bool
 fn reserved_for(number: u8, operation: Operation, decoded: Option<LockWord>) -> bool
     ensures { result ≡ reserved_for number operation decoded }
 {
-    let Some(meaning) = decoded else {
-        return false;
-    };
-    match meaning {
-        LockWord::Free => false,
-        LockWord::Flat(_, _) => false,
-        LockWord::Anonymous => false,
-        LockWord::Reserved(thread, count) => (thread.value() == (number as u16))
+    match decoded {
+        Some(LockWord::Reserved(thread, count)) => (thread.value() == u16::from(number))
             & kept_count_fits(operation, count),
-        LockWord::Fat(_) => false,
+        _ => false,
     }
 }
 
@@ -101,10 +95,10 @@ fn kept_fits(number: u8, phase: u8, thread: ThreadRecord) -> bool
     ensures { result ≡ kept_fits number phase thread }
 {
     if phase == 2 {
-        let operation = thread.operation;
-        return reserved_for(number, operation, lock_word::read_word(thread.kept));
+        reserved_for(number, thread.operation, lock_word::read_word(thread.kept))
+    } else {
+        true
     }
-    true
 }
 
 // The phases in which a saved depth is used.
