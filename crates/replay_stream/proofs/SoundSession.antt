@@ -95,8 +95,7 @@ opens request = at (fresh_either request)
   where
     at : InRange request ⊎ ((refusal : FreshRefusal) × (fresh_of request ≡ Err refusal)) → Opens (fresh_of request)
     at (inl in_range) =
-        let made = fresh_made request in_range in
-        rw made (rw made at (reached_sound request in_range []), rw made at (reached_well_typed request in_range []))
+        rw (fresh_made request in_range) (reached_sound request in_range [], reached_well_typed request in_range [])
     at (inr (refusal, refused)) = rw refused (refl, tt)
 
 open_kept : (table : Table) (line : Line) → let session = (open_by table line).session in (session_sound session ≡ true) × WellTypedBy session.stage session.table
