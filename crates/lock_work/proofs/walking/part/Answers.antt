@@ -2,35 +2,38 @@
 use Rattle.std.proofs.Common.{◌≡◌, ◌∙◌, ◌-◌, sym, ap, true, false}
 use Rattle.laws.specs.Choice.{within}
 use Rattle.lock_table.specs.Limits.{thread_limit}
-use Rattle.lock_perform.specs.Moving.{queued_exit, let_out}
 use Rattle.lock_perform.specs.declared.parting.PartedChain.{PartedChain}
 use Rattle.lock_perform.proofs.PartInPlace.{part_passes, part_stops, part_ends}
-use Rattle.lock_work.proofs.walking.part_exits.Goals as goal
+use Rattle.lock_work.proofs.walking.part.Goals as goal
 
 pub loop-preserved : goal.loop-preserved
-loop-preserved c =
+loop-preserved g c =
+    let leaving = g.L.Leaving in
     let loop = c.loop in
     let inside : within 1 thread_limit loop.at ≡ true = sym c.is_thread.ensures ∙ c.if-not-is_thread.false in
     rw (
       c.passed-parting.ensures,
+      c.TOGETHER.ensures,
       c.linked_to.ensures,
       c.thread_place-behind.ensures,
       c.last_behind-last.ensures,
-      c.let_out.ensures,
-      c.queued_exit-goes.ensures,
+      c.after.ensures,
+      c.goes-goes.ensures,
       c.from-spot.ensures,
     )
-    (loop.invariant ∙ part_passes queued_exit let_out false loop.counter loop.at c.loop-test.true inside loop.table loop.parting)
+    (loop.invariant ∙ part_passes leaving.goes leaving.after leaving.TOGETHER loop.counter loop.at c.loop-test.true inside loop.table loop.parting)
 
 pub returns-then-not-is_thread : goal.returns-then-not-is_thread
-returns-then-not-is_thread c =
+returns-then-not-is_thread g c =
+    let leaving = g.L.Leaving in
     let loop = c.loop in
     let outside : within 1 thread_limit loop.at ≡ false = sym c.is_thread.ensures ∙ c.if-not-is_thread.true in
-    let all = loop.invariant ∙ part_stops queued_exit let_out false (thread_limit - loop.counter) loop.at outside loop.table loop.parting in
+    let all = loop.invariant ∙ part_stops leaving.goes leaving.after leaving.TOGETHER (thread_limit - loop.counter) loop.at outside loop.table loop.parting in
     record { table = sym (ap (λ (parted : PartedChain). parted.table) all); parting = sym (ap (λ (parted : PartedChain). parted.parting) all) }
 
 pub returns-after-loop : goal.returns-after-loop
-returns-after-loop c =
+returns-after-loop g c =
+    let leaving = g.L.Leaving in
     let loop = c.loop in
-    let all = loop.invariant ∙ part_ends queued_exit let_out false loop.counter loop.at c.loop-test.false loop.table loop.parting in
+    let all = loop.invariant ∙ part_ends leaving.goes leaving.after leaving.TOGETHER loop.counter loop.at c.loop-test.false loop.table loop.parting in
     record { table = sym (ap (λ (parted : PartedChain). parted.table) all); parting = sym (ap (λ (parted : PartedChain). parted.parting) all) }
