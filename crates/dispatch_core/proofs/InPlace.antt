@@ -35,11 +35,10 @@ use Rattle.step_bounds.specs.SixSteps.{is_step}
 use Rattle.round_robin.specs.Dispatch.{Tried, Step, Ran, still, taken, with_step, run}
 use Rattle.dispatch_rules.specs.Script.{no_cursor, cursor_at, begins}
 use Rattle.dispatch_rules.specs.Attempt.{Shown, goes_on, begins_in, begun_in, begin_next, attempt}
-use Rattle.dispatch_rules.specs.Dispatch.{most_steps, steps_room, scripted, dispatch_answer, run_answered, dispatched, is_begun, trace_entry, entry_of, traced}
+use Rattle.std.proofs.Common.{Ok, Err}
+use Rattle.dispatch_rules.specs.Dispatch.{DispatchAnswer, most_steps, steps_room, scripted, dispatch_answer, run_answered, dispatched, is_begun, trace_entry, entry_of, traced}
 use Rattle.dispatch_rules.specs.declared.ScriptCursor.{ScriptCursor}
 use Rattle.dispatch_rules.specs.Script.{Scripted}
-use Rattle.dispatch_rules.specs.declared.DispatchAnswer.{DispatchAnswer}
-use Rattle.dispatch_rules.specs.declared.DispatchAnswer.TheVariants.{Ended, NotSound, QuantumOutOfRange, ScriptUnknown}
 use Rattle.dispatch_rules.specs.Claims.{RunInput}
 use Rattle.dispatch_rules.proofs.Cursors.{begins_says}
 use Rattle.dispatch_rules.proofs.Ends.{runs_end}
@@ -318,43 +317,35 @@ run_begins scripts q lent w trace answer rounds typed long is rounds_are few =
 
     whole : (a : DispatchAnswer) → a ≡ dispatch_answer scripts q lent w
         → run_answered a scripts q w ≡ left_at (attempt scripts) q threads (first_position a q rounds) w
-    whole Ended is =
+    whole (Ok ended) is =
         let (good, (some, small), all) = good_first scripts q lent w typed long (sym is) in
         ap (λ (n : ℕ). run (attempt scripts) q threads (suc n) w) (sym rounds_are) ∙ left_first (attempt scripts) q threads some (some_thread good) rounds w
-    whole NotSound is = refl
-    whole QuantumOutOfRange is = refl
-    whole ScriptUnknown is = refl
+    whole (Err refusal) is = refl
 
     first_room : (a : DispatchAnswer) → a ≡ dispatch_answer scripts q lent w → 0 + ahead threads q (first_position a q rounds) ≤ loop_room
-    first_room Ended is =
+    first_room (Ok ended) is =
         let (good, (some, small), all) = good_first scripts q lent w typed long (sym is) in
         let fits = first_few threads q rounds (few_threads scripts threads w.table.objectcount w good) small few in omega (arith, fits)
-    first_room NotSound is = omega arith
-    first_room QuantumOutOfRange is = omega arith
-    first_room ScriptUnknown is = omega arith
+    first_room (Err refusal) is = omega arith
 
     first_alive : (a : DispatchAnswer) → a ≡ dispatch_answer scripts q lent w → 0 < (first_position a q rounds).left
         → (1 ≤ q) × Alive scripts q threads w.table.objectcount w (first_position a q rounds)
-    first_alive Ended is more =
+    first_alive (Ok ended) is more =
         let (good, (some, small), all) = good_first scripts q lent w typed long (sym is) in
         (some, record { good = good; low = omega arith; high = some_thread good })
-    first_alive NotSound is more = absurd (omega (arith, more))
-    first_alive QuantumOutOfRange is more = absurd (omega (arith, more))
-    first_alive ScriptUnknown is more = absurd (omega (arith, more))
+    first_alive (Err refusal) is more = absurd (omega (arith, more))
 
 -- a run takes few steps: none where it is refused
 pub run_few : (scripts : List ℕ) (q lent : ℕ) (w : Scripted) (answer : DispatchAnswer) (rounds : ℕ) → WellTyped w.table → length w.cursors ≡ thread_limit
     → answer ≡ dispatch_answer scripts q lent w → rounds ≡ most_steps w.table.threadcount w.cursors → rounds ≤ w.table.threadcount * round_room
     → let steps = length (run_answered answer scripts q w).steps in (steps ≤ most_steps w.table.threadcount w.cursors) × (steps < steps_room)
 unfolding run_answered
-run_few scripts q lent w Ended rounds typed long is rounds_are few =
+run_few scripts q lent w (Ok ended) rounds typed long is rounds_are few =
     let (good, small, all) = good_first scripts q lent w typed long (sym is) in
     let threads = few_threads scripts w.table.threadcount w.table.objectcount w good in
     let given : RunInput = record { scripts = scripts; quantum = q; lent = lent; cursors = w.cursors; long = long } in
-    let most : length (run_answered Ended scripts q w).steps ≤ most_steps w.table.threadcount w.cursors =
+    let most : length (run_answered (Ok ended) scripts q w).steps ≤ most_steps w.table.threadcount w.cursors =
     subst (λ (a : DispatchAnswer). length (run_answered a scripts q w).steps ≤ most_steps w.table.threadcount w.cursors) (sym is)
     (runs_end given w.table typed (sym is)).2 in
     (most, omega (arith, most, rounds_are, few, threads))
-run_few scripts q lent w NotSound rounds typed long is rounds_are few = (omega arith, omega arith)
-run_few scripts q lent w QuantumOutOfRange rounds typed long is rounds_are few = (omega arith, omega arith)
-run_few scripts q lent w ScriptUnknown rounds typed long is rounds_are few = (omega arith, omega arith)
+run_few scripts q lent w (Err refusal) rounds typed long is rounds_are few = (omega arith, omega arith)

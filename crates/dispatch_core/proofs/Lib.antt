@@ -1,4 +1,5 @@
 -- Laws of the core.
+pub mod Tests
 pub mod OperationsLeft
 pub mod Positions
 pub mod Measure

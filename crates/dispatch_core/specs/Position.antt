@@ -1,8 +1,7 @@
 -- Where a run is, and where it goes on: the turns and rounds of a run as one loop takes them.
-use Rattle.std.specs.Prelude.{ℕ, ◌+◌, ◌-◌, Bool, false, ltb}
+use Rattle.std.specs.Prelude.{ℕ, ◌+◌, ◌-◌, Bool, false, Ok, Err, ltb}
 use Rattle.laws.specs.Choice.{pick, both, either}
-use Rattle.dispatch_rules.specs.declared.DispatchAnswer.{DispatchAnswer}
-use Rattle.dispatch_rules.specs.declared.DispatchAnswer.TheVariants.{Ended, NotSound, QuantumOutOfRange, ScriptUnknown}
+use Rattle.dispatch_rules.specs.Dispatch.{DispatchAnswer}
 use Rattle.dispatch_core.specs.declared.position.Position.{Position}
 
 -- a cursor has 32 bits
@@ -21,10 +20,8 @@ abbrev pub over : Position
 over = turn_of 1 0 false 0
 
 unfoldable pub first_position : DispatchAnswer → ℕ → ℕ → Position
-first_position Ended quantum rounds = turn_of 1 quantum false rounds
-first_position NotSound quantum rounds = over
-first_position QuantumOutOfRange quantum rounds = over
-first_position ScriptUnknown quantum rounds = over
+first_position (Ok ended) quantum rounds = turn_of 1 quantum false rounds
+first_position (Err refusal) quantum rounds = over
 
 -- the next thread's turn, or the first one's in another round, if this round had a step
 unfoldable pub after_turn : ℕ → ℕ → ℕ → Bool → ℕ → Position

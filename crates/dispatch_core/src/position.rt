@@ -1,13 +1,12 @@
 // Where a run is: whose turn it is, how many steps the turn may still take, whether the round has had a step, and how many rounds may follow it. A run
 // whose turn may take no step is over.
 ghost use Rattle.std.specs.Prelude.{◌≡◌, ◌-◌, ◌*◌, ◌≤◌};
-ghost use Rattle.laws.specs.Count.{one_if};
 ghost use Rattle.step_bounds.specs.SixSteps.{is_step};
 ghost use Rattle.dispatch_rules.specs.Attempt.{goes_on};
 ghost use Rattle.dispatch_rules.specs.Dispatch.{operations_left, most_steps};
 ghost use Rattle.dispatch_core.specs.Position.{cursor_room, round_room, turn_of, over, first_position, after_turn, next_position};
 
-use dispatch_rules::{DispatchAnswer, ScriptCursor};
+use dispatch_rules::{DispatchRefusal, ScriptCursor};
 use lock_table::thread_place;
 
 // The steps of a run are at most so many for each operation that is still to begin, and for each thread.
@@ -24,26 +23,15 @@ pub(crate) struct Position {
     pub rounds: u64,
 }
 
-fn left_of(cursor: ScriptCursor) -> u32
-    ensures { result ≡ cursor.length - cursor.cursor }
-{
-    if cursor.cursor < cursor.length {
-        return cursor.length - cursor.cursor;
-    }
-    0
-}
-
 #[tactic(auto, using(lock_table::proofs::Places::place_inside))]
 fn operations_left(threads: u8, cursors: [ScriptCursor; 32]) -> u64
     ensures value { result ≡ operations_left threads cursors }
     ensures small { result ≤ threads * cursor_room }
 {
-    let mut total: u64 = 0;
-    let mut left = threads;
-    while 0 < left {
-        let place = thread_place(left);
-        total = total + (left_of(cursors[place]) as u64);
-        left = left - 1;
+    let mut total = 0;
+    for place in 0..threads {
+        let cursor = cursors[thread_place(place + 1)];
+        total += u64::from(cursor.length.saturating_sub(cursor.cursor));
     }
     total
 }
@@ -52,17 +40,17 @@ pub(crate) fn most_steps(threads: u8, cursors: [ScriptCursor; 32]) -> u64
     ensures value { result ≡ most_steps threads cursors }
     ensures small { result ≤ threads * round_room }
 {
-    STEP_WEIGHT * (operations_left(threads, cursors) + (threads as u64))
+    STEP_WEIGHT * (operations_left(threads, cursors) + u64::from(threads))
 }
 
 fn turn_of(thread: u8, left: u32, stepped: bool, rounds: u64) -> Position
     ensures { result ≡ turn_of thread left stepped rounds }
 {
     Position {
-        thread: thread,
-        left: left,
-        stepped: stepped,
-        rounds: rounds,
+        thread,
+        left,
+        stepped,
+        rounds,
     }
 }
 
@@ -75,14 +63,16 @@ fn over() -> Position
 
 // The first thread's turn, or over at once where the run is refused.
 #[tactic(auto, unfolding(crate::specs::Position::first_position))]
-pub(crate) fn first_position(answer: DispatchAnswer, quantum: u32, rounds: u64) -> Position
+pub(crate) fn first_position(
+    answer: Result<(), DispatchRefusal>,
+    quantum: u32,
+    rounds: u64,
+) -> Position
     ensures { result ≡ first_position answer quantum rounds }
 {
     match answer {
-        DispatchAnswer::Ended => turn_of(1, quantum, false, rounds),
-        DispatchAnswer::NotSound => over(),
-        DispatchAnswer::QuantumOutOfRange => over(),
-        DispatchAnswer::ScriptUnknown => over(),
+        Ok(()) => turn_of(1, quantum, false, rounds),
+        Err(_) => over(),
     }
 }
 
@@ -94,11 +84,8 @@ fn after_turn(threads: u8, quantum: u32, thread: u8, stepped: bool, rounds: u64)
     if thread < threads {
         return turn_of(thread + 1, quantum, stepped, rounds);
     }
-    if stepped {
-        if 0 < rounds {
-            return turn_of(1, quantum, false, rounds - 1);
-        }
-        return over();
+    if stepped && 0 < rounds {
+        return turn_of(1, quantum, false, rounds - 1);
     }
     over()
 }
@@ -115,11 +102,8 @@ pub(crate) fn next_position(
     ensures { result ≡ next_position threads quantum position took on }
 {
     let stepped = position.stepped | took;
-    if took & on {
-        if 1 < position.left {
-            return turn_of(position.thread, position.left - 1, stepped, position.rounds);
-        }
-        return after_turn(threads, quantum, position.thread, stepped, position.rounds);
+    if took && on && 1 < position.left {
+        return turn_of(position.thread, position.left - 1, stepped, position.rounds);
     }
     after_turn(threads, quantum, position.thread, stepped, position.rounds)
 }
@@ -128,8 +112,7 @@ pub(crate) fn next_position(
 pub(crate) fn is_step(returned: u8) -> bool
     ensures { result ≡ is_step returned }
 {
-    (returned == 0)
-        | ((returned == 1) | ((returned == PARKED) | ((returned == 18) | (returned == 19))))
+    matches!(returned, 0 | 1 | PARKED | 18 | 19)
 }
 
 // A park ends the turn.
@@ -137,14 +120,4 @@ pub(crate) fn goes_on(returned: u8) -> bool
     ensures { result ≡ goes_on returned }
 {
     returned != PARKED
-}
-
-// One more step, or none.
-pub(crate) fn one_if(took: bool) -> usize
-    ensures { result ≡ one_if took }
-{
-    if took {
-        return 1;
-    }
-    0
 }

@@ -3,7 +3,7 @@ ghost use Rattle.std.specs.Prelude.{◌≡◌, ◌≤◌, ◌<◌};
 ghost use Rattle.dispatch_rules.specs.Dispatch.{most_steps, steps_room, scripted, dispatched, run_scripts, traced};
 
 use crate::checking::dispatch_answer;
-use crate::position::{first_position, goes_on, is_step, most_steps, next_position, one_if};
+use crate::position::{first_position, goes_on, is_step, most_steps, next_position};
 use crate::script::{begins, cursor_after, record_ready};
 use crate::trace::{put_entry, trace_entry};
 use dispatch_rules::{Dispatched, ScriptCursor, ScriptRun};
@@ -48,7 +48,7 @@ pub fn run_scripts(
         let target = own.object;
         let home = object_place(target);
         let object = changed.objects[home];
-        let turn = turn_with(changed, Event::Step { thread: thread }, true, own, object);
+        let turn = turn_with(changed, Event::Step { thread }, true, own, object);
         let ownafter = turn.own;
         let objectafter = turn.object;
         let work = turn.work;
@@ -66,16 +66,16 @@ pub fn run_scripts(
         let took = is_step(number);
         let entry = trace_entry(thread, begun, reply, turn.commits, unparked);
         put_entry(trace, steps, took, entry);
-        steps = steps + one_if(took);
+        steps += usize::from(took);
         position = next_position(threads, quantum, position, took, goes_on(number));
     }
     let dispatched = Dispatched {
         table: changed,
-        answer: answer,
+        answer,
         steps: steps as u64,
     };
     ScriptRun {
         cursors: moved,
-        dispatched: dispatched,
+        dispatched,
     }
 }

@@ -1,6 +1,6 @@
 // The operations of a script, and what the next one makes of its thread's record and cursor.
-ghost use Rattle.std.specs.Prelude.{◌≡◌, ◌+◌, get_or};
-ghost use Rattle.dispatch_rules.specs.Script.{operation_at, object_of, begins};
+ghost use Rattle.std.specs.Prelude.{◌≡◌, ◌+◌, ◌*◌};
+ghost use Rattle.dispatch_rules.specs.Script.{operation_size, operation_at, object_of, begins};
 ghost use Rattle.dispatch_core.specs.Records.{record_ready, cursor_after};
 
 use dispatch_rules::ScriptCursor;
@@ -13,32 +13,25 @@ pub(crate) const OPERATION_SIZE: usize = 2;
 
 const NO_LIMIT: u32 = 0;
 
-// The byte at a place, 0 past the end.
-fn byte_at(scripts: &[u8], place: usize) -> u8
-    ensures { result ≡ get_or scripts.now place 0 }
+// Where an operation lies in the bytes.
+fn operation_place(start: u32, place: u32) -> usize
+    ensures { result ≡ (start + place) * operation_size }
 {
-    if place < scripts.len() {
-        return scripts[place];
-    }
-    0
+    (start as usize + place as usize) * OPERATION_SIZE
 }
 
 pub(crate) fn operation_at(scripts: &[u8], start: u32, place: u32) -> u8
     ensures { result ≡ operation_at scripts.now (start + place) }
 {
-    byte_at(
-        scripts,
-        ((start as usize) + (place as usize)) * OPERATION_SIZE,
-    )
+    let at = operation_place(start, place);
+    scripts.get(at).copied().unwrap_or(0)
 }
 
 pub(crate) fn object_of(scripts: &[u8], start: u32, place: u32) -> u8
     ensures { result ≡ object_of scripts.now (start + place) }
 {
-    byte_at(
-        scripts,
-        ((start as usize) + (place as usize)) * OPERATION_SIZE + 1,
-    )
+    let at = operation_place(start, place) + 1;
+    scripts.get(at).copied().unwrap_or(0)
 }
 
 // Whether the thread is idle and its cursor is before its script's end, so that it begins the next operation.
@@ -46,11 +39,7 @@ pub(crate) fn object_of(scripts: &[u8], start: u32, place: u32) -> u8
 pub(crate) fn begins(status: ThreadStatus, cursor: ScriptCursor) -> bool
     ensures { result ≡ begins status cursor }
 {
-    match status {
-        ThreadStatus::Idle => cursor.cursor < cursor.length,
-        ThreadStatus::Ready => false,
-        ThreadStatus::Parked => false,
-    }
+    matches!(status, ThreadStatus::Idle) && cursor.cursor < cursor.length
 }
 
 // The thread's record when it may take a step.
@@ -76,15 +65,11 @@ pub(crate) fn record_ready(
 pub(crate) fn cursor_after(begins: bool, cursor: ScriptCursor) -> ScriptCursor
     ensures { result ≡ cursor_after begins cursor }
 {
-    if begins {
-        if cursor.cursor < cursor.length {
-            return ScriptCursor {
-                start: cursor.start,
-                length: cursor.length,
-                cursor: cursor.cursor + 1,
-            };
-        }
-        return cursor;
+    if begins && cursor.cursor < cursor.length {
+        return ScriptCursor {
+            cursor: cursor.cursor + 1,
+            ..cursor
+        };
     }
     cursor
 }

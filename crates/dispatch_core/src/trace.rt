@@ -24,19 +24,14 @@ pub(crate) fn trace_entry(
     ensures { result ≡ trace_entry thread begun reply commits unparked }
 {
     let answer = packed(returned(reply), woken(reply), commits, unparked);
-    if begun {
-        return answer + BEGUN_UNIT + (thread as u64) * THREAD_UNIT;
-    }
-    answer + (thread as u64) * THREAD_UNIT
+    answer + u64::from(begun) * BEGUN_UNIT + u64::from(thread) * THREAD_UNIT
 }
 
 // A place past the end is not set.
 pub(crate) fn put_entry(trace: &mut [u64], place: usize, took: bool, entry: u64)
     ensures { trace.new ≡ pick took (set trace.old place entry) trace.old }
 {
-    if took {
-        if place < trace.len() {
-            trace[place] = entry;
-        }
+    if took && place < trace.len() {
+        trace[place] = entry;
     }
 }

@@ -15,10 +15,9 @@ use Rattle.round_robin.proofs.Machine.{Ending}
 use Rattle.round_robin.proofs.Fairness.{run_spent, run_last_still, run_ends}
 use Rattle.dispatch_rules.specs.Script.{operation_at, object_of, cursor_at, next_place}
 use Rattle.dispatch_rules.specs.Attempt.{begins_in, begin_next, attempt}
-use Rattle.dispatch_rules.specs.Dispatch.{step_weight, quantum_limit, operations_left, most_steps, rounds_of, run_answered}
+use Rattle.dispatch_rules.specs.Dispatch.{step_weight, quantum_limit, operations_left, most_steps, rounds_of, run_answered, DispatchAnswer}
 use Rattle.dispatch_rules.specs.Claims.{RunInput, given_world, given_run, Accepted, RunsEnd}
 use Rattle.dispatch_rules.specs.Script.{Scripted}
-use Rattle.dispatch_rules.specs.declared.DispatchAnswer.{DispatchAnswer}
 use Rattle.dispatch_rules.proofs.Cursors.{begins_says, moved_less}
 use Rattle.dispatch_rules.proofs.Good.{Good, good_first, few_threads, begin_accepted, good_begin, good_attempt, attempt_same}
 

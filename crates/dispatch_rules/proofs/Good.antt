@@ -33,7 +33,7 @@ use Rattle.dispatch_rules.specs.Attempt.{begins_in, begin_next, attempt}
 use Rattle.dispatch_rules.specs.Dispatch.{quantum_limit, scripted, scripts_known, first_answer, dispatch_answer}
 use Rattle.dispatch_rules.specs.declared.ScriptCursor.{ScriptCursor}
 use Rattle.dispatch_rules.specs.Script.{Scripted}
-use Rattle.dispatch_rules.specs.declared.DispatchAnswer.TheVariants.{Ended}
+use Rattle.std.proofs.Common.{Ok}
 use Rattle.dispatch_rules.proofs.Cursors.{begins_says, next_known, moved_known, cursor_set_same, cursor_set_other}
 use Rattle.dispatch_rules.proofs.Events.{no_step_leaves, sizes_kept, MayBegin, begin_taken, begun_steps}
 
@@ -47,7 +47,7 @@ pub record Good (scripts : List ℕ) (threads objects : ℕ) (w : Scripted) : Ty
   pub known : (n : ℕ) → 1 ≤ n → n ≤ threads → script_known scripts objects (cursor_at w.cursors n) ≡ true
 
 -- what the answer 0 says
-first_says : (issound isquantum areknown : Bool) → first_answer issound isquantum areknown ≡ Ended → (issound ≡ true) × (isquantum ≡ true) × (areknown ≡ true)
+first_says : (issound isquantum areknown : Bool) → first_answer issound isquantum areknown ≡ Ok tt → (issound ≡ true) × (isquantum ≡ true) × (areknown ≡ true)
 first_says true true true e = (refl, refl, refl)
 first_says true true false e = (refl, refl, cc)
 first_says true false areknown e = (refl, cc, cc)
@@ -55,7 +55,7 @@ first_says false isquantum areknown e = (cc, cc, cc)
 
 -- the world that nothing refuses
 pub good_first : (scripts : List ℕ) (quantum lent : ℕ) (w : Scripted) → WellTyped w.table → length w.cursors ≡ thread_limit
-    → dispatch_answer scripts quantum lent w ≡ Ended
+    → dispatch_answer scripts quantum lent w ≡ Ok tt
     → Good scripts w.table.threadcount w.table.objectcount w × ((1 ≤ quantum) × (quantum ≤ quantum_limit)) × (lent ≡ w.table.threadcount)
 good_first scripts quantum lent w typed long ended =
     let threads = w.table.threadcount in

@@ -18,11 +18,10 @@ use Rattle.round_robin.specs.Dispatch.{Step}
 use Rattle.round_robin.proofs.Machine.{Along}
 use Rattle.round_robin.proofs.Runs.{run_along}
 use Rattle.dispatch_rules.specs.Attempt.{Shown, begins_in, begun_in, attempt}
-use Rattle.dispatch_rules.specs.Dispatch.{most_steps, dispatch_answer, run_answered}
+use Rattle.dispatch_rules.specs.Dispatch.{DispatchAnswer, most_steps, dispatch_answer, run_answered}
+use Rattle.std.proofs.Common.{Ok, Err}
 use Rattle.dispatch_rules.specs.Claims.{RunInput, given_world, given_run, events_of, RunsAreSchedules, RunsClaim}
 use Rattle.dispatch_rules.specs.Script.{Scripted}
-use Rattle.dispatch_rules.specs.declared.DispatchAnswer.{DispatchAnswer}
-use Rattle.dispatch_rules.specs.declared.DispatchAnswer.TheVariants.{Ended, NotSound, QuantumOutOfRange, ScriptUnknown}
 use Rattle.dispatch_rules.proofs.Good.{Good, good_attempt, attempt_same}
 use Rattle.dispatch_rules.proofs.Ends.{first_good, runs}
 
@@ -90,7 +89,5 @@ unstepped_same given table typed none = by_answer (dispatch_answer given.scripts
   where
     by_answer : (answer : DispatchAnswer) → dispatch_answer given.scripts given.quantum given.lent (given_world given table) ≡ answer
         → (given_run given table).world.table ≡ table
-    by_answer Ended is = runs_are_schedules given table typed is ∙ ap (final_of table) (no_events (given_run given table).steps none)
-    by_answer NotSound is = rw is refl
-    by_answer QuantumOutOfRange is = rw is refl
-    by_answer ScriptUnknown is = rw is refl
+    by_answer (Ok ended) is = runs_are_schedules given table typed is ∙ ap (final_of table) (no_events (given_run given table).steps none)
+    by_answer (Err refusal) is = rw is refl

@@ -1,5 +1,5 @@
 -- What is claimed of runs: they end, they are fair, and they are schedules of the same engine (document 02, L6).
-use Rattle.std.specs.Prelude.{ℕ, ◌≤◌, ◌≡◌, true, false, List, [], ◌∷◌, ◌++◌, length}
+use Rattle.std.specs.Prelude.{ℕ, ◌≤◌, ◌≡◌, true, false, List, [], ◌∷◌, ◌++◌, Ok, length}
 use Rattle.lock_rules.specs.declared.event.Event.{Event}
 use Rattle.lock_rules.specs.declared.event.Event.TheVariants.{Step as StepOf}
 use Rattle.lock_table.specs.Limits.{thread_limit}
@@ -17,7 +17,6 @@ use Rattle.dispatch_rules.specs.Attempt.{Shown, attempt, ready_in}
 use Rattle.dispatch_rules.specs.Dispatch.{scripted, most_steps, dispatch_answer, dispatched}
 use Rattle.dispatch_rules.specs.declared.ScriptCursor.{ScriptCursor}
 use Rattle.dispatch_rules.specs.Script.{Scripted}
-use Rattle.dispatch_rules.specs.declared.DispatchAnswer.TheVariants.{Ended}
 
 -- What a run is given, beside a table: the scripts, q, how many records were lent, and the cursors, as many as a table can have threads.
 pub record RunInput : Type 0 where
@@ -35,7 +34,7 @@ given_run given table = dispatched given.scripts given.quantum given.lent (given
 
 -- nothing refuses it
 abbrev pub Accepted : RunInput → Table → Type 0
-Accepted given table = dispatch_answer given.scripts given.quantum given.lent (given_world given table) ≡ Ended
+Accepted given table = dispatch_answer given.scripts given.quantum given.lent (given_world given table) ≡ Ok tt
 
 -- "The run ends .. after a round without a step": on every sound table the last round, and no other, took none, another would take none either, and this many
 -- steps are enough.

@@ -1,5 +1,5 @@
 -- A run of the scripts, what refuses it, and what it gives back.
-use Rattle.std.specs.Prelude.{ℕ, zero, suc, ◌+◌, ◌*◌, ◌-◌, Bool, true, false, List, [], ◌∷◌, eqb, length, set}
+use Rattle.std.specs.Prelude.{ℕ, zero, suc, ◌+◌, ◌*◌, ◌-◌, Bool, true, false, List, [], ◌∷◌, Result, Ok, Err, eqb, length, set}
 use Rattle.laws.specs.Choice.{pick, both, within}
 use Rattle.laws.specs.Every.{all_up_to}
 use Rattle.event_bytes.specs.Answer.{free_unit, packed_of}
@@ -14,9 +14,13 @@ use Rattle.dispatch_rules.specs.Script.{cursor_at, script_known}
 use Rattle.dispatch_rules.specs.Attempt.{Shown, attempt}
 use Rattle.dispatch_rules.specs.declared.ScriptCursor.{ScriptCursor}
 use Rattle.dispatch_rules.specs.Script.{Scripted}
-use Rattle.dispatch_rules.specs.declared.DispatchAnswer.{DispatchAnswer}
-use Rattle.dispatch_rules.specs.declared.DispatchAnswer.TheVariants.{Ended, NotSound, QuantumOutOfRange, ScriptUnknown}
+use Rattle.dispatch_rules.specs.declared.DispatchRefusal.{DispatchRefusal}
+use Rattle.dispatch_rules.specs.declared.DispatchRefusal.TheVariants.{NotSound, QuantumOutOfRange, ScriptUnknown}
 use Rattle.dispatch_rules.specs.declared.ScriptRun.{ScriptRun}
+
+-- a run goes on to its end, or is refused
+abbrev pub DispatchAnswer : Type 0
+DispatchAnswer = Result (Unit {0}) DispatchRefusal
 
 -- "25 when q is not 1 to 100"
 abbrev pub quantum_limit : ℕ
@@ -55,7 +59,8 @@ scripts_known scripts lent table cursors =
 
 -- "Before anything runs .. : 11, then 25 .., then 26"
 abbrev pub first_answer : Bool → Bool → Bool → DispatchAnswer
-first_answer issound isquantum areknown = pick issound (pick isquantum (pick areknown Ended ScriptUnknown) QuantumOutOfRange) NotSound
+first_answer issound isquantum areknown =
+    pick issound (pick isquantum (pick areknown (Ok tt) (Err ScriptUnknown)) (Err QuantumOutOfRange)) (Err NotSound)
 
 abbrev pub dispatch_answer : List ℕ → ℕ → ℕ → Scripted → DispatchAnswer
 dispatch_answer scripts quantum lent world =
@@ -63,17 +68,15 @@ dispatch_answer scripts quantum lent world =
 
 -- document 02's number for the answer
 unfoldable pub dispatch_returned : DispatchAnswer → ℕ
-dispatch_returned Ended = 0
-dispatch_returned NotSound = refusal_number UnsoundTable
-dispatch_returned QuantumOutOfRange = 25
-dispatch_returned ScriptUnknown = 26
+dispatch_returned (Ok ended) = 0
+dispatch_returned (Err NotSound) = refusal_number UnsoundTable
+dispatch_returned (Err QuantumOutOfRange) = 25
+dispatch_returned (Err ScriptUnknown) = 26
 
 -- refused, nothing runs
 unfoldable pub run_answered : DispatchAnswer → List ℕ → ℕ → Scripted → Ran Scripted Shown
-run_answered Ended scripts quantum world = rounds_of scripts quantum world
-run_answered NotSound scripts quantum world = still world
-run_answered QuantumOutOfRange scripts quantum world = still world
-run_answered ScriptUnknown scripts quantum world = still world
+run_answered (Ok ended) scripts quantum world = rounds_of scripts quantum world
+run_answered (Err refusal) scripts quantum world = still world
 
 -- a run by `lent` records, of which those of the threads are the cursors
 abbrev pub dispatched : List ℕ → ℕ → ℕ → Scripted → Ran Scripted Shown

@@ -1,5 +1,5 @@
 -- Examples of the dispatcher's definitions: what counts as a step, what ends a turn, what refuses a run, which scripts are known, and an entry of the trace.
-use Rattle.std.specs.Prelude.{◌≡◌, true, false, List, [], ◌∷◌, ℕ}
+use Rattle.std.specs.Prelude.{◌≡◌, true, false, List, [], ◌∷◌, ℕ, Ok, Err}
 use Rattle.laws.specs.Choice.{within}
 use Rattle.lock_rules.specs.declared.Answer.TheVariants.{Parked}
 use Rattle.lock_engine.specs.Outcome.{reply_returned}
@@ -9,7 +9,7 @@ use Rattle.dispatch_rules.specs.Script.{Scripted, script_known}
 use Rattle.dispatch_rules.specs.Attempt.{attempt, goes_on}
 use Rattle.dispatch_rules.specs.Dispatch.{quantum_limit, first_answer, dispatch_returned, trace_entry}
 use Rattle.dispatch_rules.specs.declared.ScriptCursor.{ScriptCursor}
-use Rattle.dispatch_rules.specs.declared.DispatchAnswer.TheVariants.{Ended, NotSound, QuantumOutOfRange, ScriptUnknown}
+use Rattle.dispatch_rules.specs.declared.DispatchRefusal.TheVariants.{NotSound, QuantumOutOfRange, ScriptUnknown}
 
 abbrev pub cursor_of : ℕ → ℕ → ℕ → ScriptCursor
 cursor_of start length cursor = record { start = start; length = length; cursor = cursor }
@@ -29,10 +29,12 @@ pub record Examples : Type 0 where
   pub park_ends : goes_on 2 ≡ false
   pub refusal_goes_on : goes_on 18 ≡ true
   -- 11, then 25, then 26
-  pub sound_first : first_answer false false false ≡ NotSound
-  pub quantum_second : first_answer true false false ≡ QuantumOutOfRange
-  pub scripts_third : first_answer true true false ≡ ScriptUnknown
-  pub numbers : (dispatch_returned Ended ≡ 0) × (dispatch_returned NotSound ≡ 11) × (dispatch_returned QuantumOutOfRange ≡ 25) × (dispatch_returned ScriptUnknown ≡ 26)
+  pub sound_first : first_answer false false false ≡ Err NotSound
+  pub quantum_second : first_answer true false false ≡ Err QuantumOutOfRange
+  pub scripts_third : first_answer true true false ≡ Err ScriptUnknown
+  pub numbers :
+      (dispatch_returned (Ok tt) ≡ 0) × (dispatch_returned (Err NotSound) ≡ 11) × (dispatch_returned (Err QuantumOutOfRange) ≡ 25)
+      × (dispatch_returned (Err ScriptUnknown) ≡ 26)
   pub quanta : (within 1 quantum_limit 0 ≡ false) × (within 1 quantum_limit 1 ≡ true) × (within 1 quantum_limit 100 ≡ true) × (within 1 quantum_limit 101 ≡ false)
   -- a cursor may be at its script's end, and not past it
   pub at_end : script_known two_operations 1 (cursor_of 0 2 2) ≡ true

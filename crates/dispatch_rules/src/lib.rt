@@ -15,23 +15,19 @@ pub struct ScriptCursor {
     pub cursor: u32,
 }
 
+// Why a run is refused.
 #[derive(Clone, Copy)]
-pub enum DispatchAnswer {
-    // 0
-    Ended,
-    // 11
-    NotSound,
-    // 25
-    QuantumOutOfRange,
-    // 26
-    ScriptUnknown,
+pub enum DispatchRefusal {
+    NotSound,          // 11
+    QuantumOutOfRange, // 25
+    ScriptUnknown,     // 26
 }
 
-// What a run gives back: the table that it came to, its answer, and how many steps it took.
+// What a run gives back: the table that it came to, whether it ran, and how many steps it took.
 #[derive(Clone, Copy)]
 pub struct Dispatched {
     pub table: Table,
-    pub answer: DispatchAnswer,
+    pub answer: Result<(), DispatchRefusal>,
     pub steps: u64,
 }
 

@@ -6,19 +6,16 @@ use mathlib.Core.List.{List}
 use lib.ListN.{length}
 use Rattle.round_robin.specs.Dispatch.{Ran, still}
 use Rattle.dispatch_rules.specs.Attempt.{Shown}
-use Rattle.dispatch_rules.specs.Dispatch.{run_answered, dispatch_answer, dispatched, traced}
-use Rattle.dispatch_rules.specs.declared.DispatchAnswer.{DispatchAnswer}
-use Rattle.dispatch_rules.specs.declared.DispatchAnswer.TheVariants.{Ended, NotSound, QuantumOutOfRange, ScriptUnknown}
+use Rattle.dispatch_rules.specs.Dispatch.{DispatchAnswer, run_answered, dispatch_answer, dispatched, traced}
+use Rattle.std.proofs.Common.{Ok, Err}
 use Rattle.dispatch_rules.specs.Script.{Scripted}
 use Rattle.lock_dispatch.specs.Lent.{fitting, no_cursors, lent_world, stored, RefusedLeavesSlice}
 use Rattle.lock_dispatch.proofs.Copied.{copied_back, fitting_fits}
 
-refused_still : (answer : DispatchAnswer) (scripts : List ℕ) (quantum : ℕ) (world : Scripted) → answer ≢ Ended → run_answered answer scripts quantum world ≡ still world
+refused_still : (answer : DispatchAnswer) (scripts : List ℕ) (quantum : ℕ) (world : Scripted) → answer ≢ Ok tt → run_answered answer scripts quantum world ≡ still world
 unfolding run_answered
-refused_still Ended scripts quantum world refused = absurd (refused refl)
-refused_still NotSound scripts quantum world refused = refl
-refused_still QuantumOutOfRange scripts quantum world refused = refl
-refused_still ScriptUnknown scripts quantum world refused = refl
+refused_still (Ok ended) scripts quantum world refused = absurd (refused refl)
+refused_still (Err refusal) scripts quantum world refused = refl
 
 pub refused_leaves_slice : RefusedLeavesSlice
 unfolding traced

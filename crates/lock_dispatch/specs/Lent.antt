@@ -1,12 +1,11 @@
 -- Records that are lent: copied into an array for a run, and back after it.
-use Rattle.std.specs.Prelude.{ℕ, zero, suc, ◌≡◌, ◌≢◌, List, nat_lt, length, replicate, slice_index_or, slice_set}
+use Rattle.std.specs.Prelude.{ℕ, zero, suc, ◌≡◌, ◌≢◌, List, Ok, nat_lt, length, replicate, slice_index_or, slice_set}
 use Rattle.laws.specs.Choice.{pick}
 use Rattle.lock_table.specs.Limits.{thread_limit}
 use Rattle.lock_table.specs.declared.record.Table.{Table}
 use Rattle.dispatch_rules.specs.declared.ScriptCursor.{ScriptCursor}
 use Rattle.dispatch_rules.specs.Script.{Scripted}
 use Rattle.dispatch_rules.specs.declared.Dispatched.{Dispatched}
-use Rattle.dispatch_rules.specs.declared.DispatchAnswer.TheVariants.{Ended}
 use Rattle.dispatch_rules.specs.Script.{no_cursor}
 use Rattle.dispatch_rules.specs.Dispatch.{scripted, dispatched, run_scripts, traced}
 
@@ -48,5 +47,5 @@ abbrev pub RefusedLeavesSlice : Type 0
 RefusedLeavesSlice =
     (table : Table) (quantum : ℕ) (scripts : List ℕ) (lent : List ScriptCursor) (trace : List ℕ)
     → let done = dispatch table quantum scripts lent in
-    done.answer ≢ Ended
+    done.answer ≢ Ok tt
     → (done.table ≡ table) × (done.steps ≡ 0) × (cursors_after table quantum scripts lent ≡ lent) × (trace_after table quantum scripts lent trace ≡ trace)

@@ -19,11 +19,11 @@ use Rattle.table_bytes.specs.Writing.{bytes_of}
 use Rattle.table_bytes.proofs.SameBytes.{bytes_back}
 use Rattle.table_bytes.proofs.Written.{kept_is, table_long}
 use Rattle.dispatch_rules.specs.Claims.{RunInput}
-use Rattle.dispatch_rules.specs.Dispatch.{dispatch_returned}
+use Rattle.dispatch_rules.specs.Dispatch.{DispatchAnswer, dispatch_returned}
 use Rattle.dispatch_rules.specs.declared.ScriptCursor.{ScriptCursor}
 use Rattle.dispatch_rules.specs.declared.Dispatched.{Dispatched}
-use Rattle.dispatch_rules.specs.declared.DispatchAnswer.{DispatchAnswer}
-use Rattle.dispatch_rules.specs.declared.DispatchAnswer.TheVariants.{Ended, NotSound}
+use Rattle.dispatch_rules.specs.declared.DispatchRefusal.TheVariants.{NotSound}
+use Rattle.std.proofs.Common.{Ok, Err}
 use Rattle.dispatch_rules.proofs.Schedules.{unstepped_same}
 use Rattle.lock_dispatch.specs.Lent.{fitting, no_cursors, loaded, dispatch, cursors_after, trace_after}
 use Rattle.lock_dispatch.proofs.Refused.{refused_leaves_slice}
@@ -33,7 +33,7 @@ use Rattle.lock_engine_c.specs.Dispatch.{steps_unit, run_answer, dispatched_answ
 use Rattle.lock_engine_c.proofs.RefusedBytes.{read_well_typed}
 
 -- a run that ended returns 0
-zero_returned : (done : Dispatched) → done.answer ≡ Ended → returned_in (run_answer done) ≡ 0
+zero_returned : (done : Dispatched) → done.answer ≡ Ok tt → returned_in (run_answer done) ≡ 0
 unfolding dispatch_returned
 zero_returned done ended =
     ap (λ (answer : DispatchAnswer). (dispatch_returned answer + done.steps * steps_unit) % 256) ended
@@ -74,11 +74,11 @@ module _ (bytes : List ℕ) (quantum : ℕ) (scripts : List ℕ) (lent : List Sc
   table_gives small known = rw known (refl, table_stored small known, refl, refl)
 
   -- a table without threads is refused
-  empty_refused : (run_of empty).answer ≡ NotSound
+  empty_refused : (run_of empty).answer ≡ Err NotSound
   unfolding sound_of sizes_fit
   empty_refused = refl
 
-  not_ended : (run_of empty).answer ≢ Ended
+  not_ended : (run_of empty).answer ≢ Ok tt
   unfolding dispatch_returned refusal_number
   not_ended ended = let numbers = ap dispatch_returned (sym empty_refused ∙ ended) in omega (arith, numbers)
 
@@ -105,7 +105,7 @@ module _ (bytes : List ℕ) (quantum : ℕ) (scripts : List ℕ) (lent : List Sc
   call_gives small read ran moved traced answered kept =
       let (a, b, c, d) = gives small read in (answered ∙ ap run_answer ran ∙ a, kept ∙ ap stored_by ran ∙ b, moved ∙ c, traced ∙ d)
 
-  ended_zero : is_table bytes ≡ true → (run_of (table_of bytes)).answer ≡ Ended → returned_in (dispatched_answer bytes quantum scripts lent) ≡ 0
+  ended_zero : is_table bytes ≡ true → (run_of (table_of bytes)).answer ≡ Ok tt → returned_in (dispatched_answer bytes quantum scripts lent) ≡ 0
   ended_zero known ended =
       ap (λ (b : Bool). returned_in (pick b (run_answer (run_of (table_of bytes))) not_sound)) known ∙ zero_returned (run_of (table_of bytes)) ended
 

@@ -1,5 +1,5 @@
 -- Examples of what the library for C stores of a reply and says of a lock word and of a parked thread, and of what the replay prints of an outcome.
-use Rattle.std.specs.Prelude.{ℕ, ◌≡◌, true, false}
+use Rattle.std.specs.Prelude.{ℕ, ◌≡◌, true, false, Ok, Err}
 use Rattle.lock_word.specs.Read.{read_word}
 use Rattle.lock_rules.specs.declared.event.Refusal.{Refusal}
 use Rattle.lock_rules.specs.declared.event.Refusal.TheVariants.{NotSound}
@@ -8,7 +8,7 @@ use Rattle.lock_engine.specs.declared.outcome.Outcome.{Outcome}
 use Rattle.lock_engine.specs.declared.outcome.Reply.{Reply}
 use Rattle.lock_engine.specs.declared.outcome.Reply.TheVariants.{Accepted, Refused}
 use Rattle.event_bytes.specs.Answer.{packed_of}
-use Rattle.dispatch_rules.specs.declared.DispatchAnswer.TheVariants.{Ended, QuantumOutOfRange}
+use Rattle.dispatch_rules.specs.declared.DispatchRefusal.TheVariants.{QuantumOutOfRange}
 use Rattle.lock_table.specs.Access.{object_at, set_object}
 use Rattle.lock_table.specs.Fresh.{sized_request, table_of}
 use Rattle.lock_table.specs.Record.{with_word}
@@ -37,8 +37,8 @@ pub record OutcomeExamples : Type 0 where
   -- an answer for C has the set from bit 32 on: here thread 1 and thread 32
   pub answered : packed_of 2 0 true 0x80000001 ≡ 0x8000000100010002
   -- a run's answer for C has its steps from bit 8 on: here three steps, and a refused run
-  pub ran : (table : Table) → run_answer (record { table = table; answer = Ended; steps = 3 }) ≡ 0x300
-  pub run_refused : (table : Table) → run_answer (record { table = table; answer = QuantumOutOfRange; steps = 0 }) ≡ 25
+  pub ran : (table : Table) → run_answer (record { table = table; answer = Ok tt; steps = 3 }) ≡ 0x300
+  pub run_refused : (table : Table) → run_answer (record { table = table; answer = Err QuantumOutOfRange; steps = 0 }) ≡ 25
   -- a word that is reserved for thread 3 names it, though nobody owns the object; and a word that is none has a kind of its own
   pub reserved_kind : kind_number (read_word 0x000302) ≡ 3
   pub reserved_named : named_thread (read_word 0x000302) ≡ 3

@@ -1,13 +1,8 @@
--- What is left to test decides.
-use Rattle.std.proofs.Common.{◌≡◌}
+-- The scripts of the threads passed are known.
+use Rattle.std.proofs.Common.{◌≡◌, true}
 use Rattle.laws.specs.Every.{all_up_to}
 use Rattle.dispatch_rules.specs.Script.{script_known, cursor_at}
 use Rattle.dispatch_core.proofs.checking.each_known.Given as goal
 
-abbrev pub invariant-loop-left : goal.invariant-loop-left
-invariant-loop-left l =
-    all_up_to l.threads (λ n. script_known l.scripts l.objects (cursor_at l.cursors n))
-    ≡ all_up_to l.left (λ n. script_known l.scripts l.objects (cursor_at l.cursors n))
-
-abbrev pub decreases-loop-left : goal.decreases-loop-left
-decreases-loop-left l = l.left
+abbrev pub invariant-loop-place : goal.invariant-loop-place
+invariant-loop-place l = all_up_to l.place (λ n. script_known l.scripts l.objects (cursor_at l.cursors n)) ≡ true

@@ -1,12 +1,8 @@
--- What is left to test decides.
-use Rattle.std.proofs.Common.{◌≡◌, ◌+◌}
+-- The operations passed are known.
+use Rattle.std.proofs.Common.{◌≡◌, ◌+◌, true}
 use Rattle.laws.specs.Every.{all_below}
 use Rattle.dispatch_rules.specs.Script.{operation_known}
 use Rattle.dispatch_core.proofs.checking.operations_known.Given as goal
 
-abbrev pub invariant-loop-left : goal.invariant-loop-left
-invariant-loop-left l =
-    all_below l.length (λ i. operation_known l.scripts l.objects (l.start + i)) ≡ all_below l.left (λ i. operation_known l.scripts l.objects (l.start + i))
-
-abbrev pub decreases-loop-left : goal.decreases-loop-left
-decreases-loop-left l = l.left
+abbrev pub invariant-loop-place : goal.invariant-loop-place
+invariant-loop-place l = all_below l.place (λ i. operation_known l.scripts l.objects (l.start + i)) ≡ true

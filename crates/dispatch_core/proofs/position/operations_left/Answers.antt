@@ -1,17 +1,14 @@
--- A thread's part is added, and there is room for it; nothing is left to add at the end.
-use Rattle.std.proofs.Common.{arith}
-use Rattle.dispatch_core.proofs.OperationsLeft.{left_step, left_end}
+-- A thread's part is added, and there is room for it.
+use native.Mathlib.Omega.{arith}
+use Rattle.dispatch_core.proofs.OperationsLeft.{left_next, left_none}
 use Rattle.dispatch_core.proofs.position.operations_left.Goals as goal
 
-pub loop-left-preserved : goal.loop-left-preserved
-loop-left-preserved c =
-    let (sum, few, small) = c.loop-left.invariant in
-    let step = left_step c.loop-left-test.true c.args.cursors in (
-      omega (arith, sum, step, rw c.thread_place-place.ensures at c.left_of.ensures),
-      omega (arith, few),
-      omega (arith, small, few, c.loop-left-test.true, c.left_of.type_inv),
-    )
+pub loop-place-init : goal.loop-place-init
+loop-place-init c = (left_none c.args.cursors, omega arith)
 
-pub returns-clause-value : goal.returns-clause-value
-returns-clause-value c =
-    let (sum, few, small) = c.loop-left.invariant in omega (arith, sum, left_end c.loop-left-test.false c.args.cursors)
+pub loop-place-preserved : goal.loop-place-preserved
+loop-place-preserved c =
+    let (sum, small) = c.loop-place.invariant in
+    let step = left_next c.loop-place.place c.args.cursors in
+    let part = rw c.thread_place.ensures at c.saturating_sub.ensures in
+    (omega (arith, sum, step, part, c.from-total.ensures), omega (arith, small, c.from-total.ensures, c.saturating_sub.type_inv))

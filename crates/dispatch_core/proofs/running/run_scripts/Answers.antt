@@ -1,7 +1,9 @@
 -- What was done and what is left to run give what the whole run gives: before the loop, after a thread might take its step, and at the end.
-use Rattle.std.proofs.Common.{ℕ, ◌+◌, ◌∙◌, refl, ap, set, arith}
+use Rattle.std.proofs.Common.{ℕ, Bool, true, false, ◌≡◌, ◌+◌, ◌∙◌, refl, ap, set, arith}
 use mathlib.Core.Logic.{inl, inr}
+use Rattle.std.specs.Int.{from_bool}
 use Rattle.laws.specs.Choice.{pick}
+use Rattle.laws.specs.Count.{one_if}
 use Rattle.lock_table.proofs.OwnedTables.{owned_well_typed}
 use Rattle.lock_engine.specs.declared.outcome.Outcome.{Outcome}
 use Rattle.step_bounds.specs.SixSteps.{is_step}
@@ -12,6 +14,11 @@ use Rattle.dispatch_core.specs.Position.{next_position}
 use Rattle.dispatch_core.proofs.InPlace.{Readied, started_so, ready_so, stepped_so, goes_round, goes_less, run_over, counts_fit, run_begins, run_few}
 use Rattle.dispatch_core.proofs.running.run_scripts.Goals as goal
 use Rattle.dispatch_core.proofs.running.run_scripts.Goals.{then-work_stays, else-work_stays}
+
+-- one more step, or none
+counted : (took : Bool) → from_bool took ≡ one_if took
+counted true = refl
+counted false = refl
 
 pub loop-position-init : goal.loop-position-init
 loop-position-init c =
@@ -25,7 +32,7 @@ loop-position-init c =
 pub overflow_add-steps : goal.overflow_add-steps
 overflow_add-steps c =
     let fits = counts_fit c.loop-position.invariant c.loop-position-test.true c.is_step-took.result in
-    omega (arith, fits, c.one_if-steps.ensures)
+    omega (arith, fits, c.from-steps.ensures, counted c.is_step-took.result)
 
 pub loop-position-smaller : goal.loop-position-smaller
 loop-position-smaller c =
@@ -60,7 +67,7 @@ loop-position-preserved c =
     (ap (λ (x : Scripted). scripted outcome.table x.cursors) (ready_so _ _ _ _ _ _ _ _ ready))
     (c.is_step-took.ensures ∙ ap is_step answer)
     (c.put_entry.ensures ∙ ap (λ (n : ℕ). pick took (set loop.trace loop.steps n) loop.trace) c.trace_entry-entry.ensures)
-    (ap (λ (n : ℕ). loop.steps + n) c.one_if-steps.ensures)
+    (ap (λ (n : ℕ). loop.steps + n) (c.from-steps.ensures ∙ counted took))
     (c.next_position-position.ensures ∙ ap (next_position _ _ loop.position took) (c.goes_on.ensures ∙ ap goes_on answer))
 
 pub returns-clause-value : goal.returns-clause-value
