@@ -1,2 +1,3 @@
 -- The laws of events in bytes.
 pub mod Encoding
+pub mod Chunks

@@ -1,19 +1,16 @@
--- A run of scripts over bytes as its calls carry it out: the table that is stored is that of the bytes after it, and a table without threads, in place of
--- none, is refused.
+-- A run of scripts over bytes as its calls carry it out: the table that is stored is that of the bytes after it.
 use Prim.Native.Nat.{ℕ, ◌+◌, ◌*◌, ◌%◌}
-use mathlib.Core.Path.{◌≡◌, refl, sym, ap, subst, ◌∙◌}
+use mathlib.Core.Path.{◌≡◌, refl, sym, ap, ◌∙◌}
 use mathlib.Core.Logic.{◌≢◌}
-use mathlib.Core.Bool.{Bool, true, false}
+use mathlib.Core.Bool.{Bool, true}
 use mathlib.Core.List.{List}
 use native.Mathlib.Omega.{arith}
 use lib.Dec.{ltb}
 use lib.ListN.{length}
 use Rattle.laws.specs.Choice.{pick}
 use Rattle.laws.proofs.Choice.{split, by_below}
-use Rattle.lock_rules.specs.Numbers.{refusal_number}
 use Rattle.event_bytes.specs.Answer.{returned_in}
 use Rattle.lock_table.specs.declared.record.Table.{Table}
-use Rattle.lock_soundness.specs.Sound.{sizes_fit, sound_of}
 use Rattle.table_bytes.specs.Reading.{AreBytes, is_table, table_of}
 use Rattle.table_bytes.specs.Writing.{bytes_of}
 use Rattle.table_bytes.proofs.SameBytes.{bytes_back}
@@ -22,14 +19,13 @@ use Rattle.dispatch_rules.specs.Claims.{RunInput}
 use Rattle.dispatch_rules.specs.Dispatch.{DispatchAnswer, dispatch_returned}
 use Rattle.dispatch_rules.specs.declared.ScriptCursor.{ScriptCursor}
 use Rattle.dispatch_rules.specs.declared.Dispatched.{Dispatched}
-use Rattle.dispatch_rules.specs.declared.DispatchRefusal.TheVariants.{NotSound}
-use Rattle.std.proofs.Common.{Ok, Err}
+use Rattle.std.proofs.Common.{Ok}
 use Rattle.dispatch_rules.proofs.Schedules.{unstepped_same}
 use Rattle.lock_dispatch.specs.Lent.{fitting, no_cursors, loaded, dispatch, cursors_after, trace_after}
 use Rattle.lock_dispatch.proofs.Refused.{refused_leaves_slice}
 use Rattle.lock_dispatch.proofs.Copied.{length_copied}
 use Rattle.lock_engine_c.specs.Calls.{not_sound, stored_over}
-use Rattle.lock_engine_c.specs.Dispatch.{steps_unit, run_answer, dispatched_answer, dispatched_bytes, dispatched_cursors, dispatched_trace, no_threads, table_or_none, RefusedRunLeaves}
+use Rattle.lock_engine_c.specs.Dispatch.{steps_unit, run_answer, dispatched_answer, dispatched_bytes, dispatched_cursors, dispatched_trace, RefusedRunLeaves}
 use Rattle.lock_engine_c.proofs.RefusedBytes.{read_well_typed}
 
 -- a run that ended returns 0
@@ -40,9 +36,6 @@ zero_returned done ended =
     ∙ (let whole : (0 + done.steps * steps_unit) % 256 ≡ 0 = omega arith in whole)
 
 module _ (bytes : List ℕ) (quantum : ℕ) (scripts : List ℕ) (lent : List ScriptCursor) (trace : List ℕ) where
-  abbrev empty : Table
-  empty = no_threads (table_of bytes)
-
   -- what the call answers, and the slices after it
   abbrev pub CallGives : ℕ → List ℕ → List ScriptCursor → List ℕ → Type 0
   CallGives answer stored cursors entries =
@@ -73,37 +66,13 @@ module _ (bytes : List ℕ) (quantum : ℕ) (scripts : List ℕ) (lent : List Sc
   table_gives : AreBytes bytes → is_table bytes ≡ true → RunGives (table_of bytes)
   table_gives small known = rw known (refl, table_stored small known, refl, refl)
 
-  -- a table without threads is refused
-  empty_refused : (run_of empty).answer ≡ Err NotSound
-  unfolding sound_of sizes_fit
-  empty_refused = refl
-
-  not_ended : (run_of empty).answer ≢ Ok tt
-  unfolding dispatch_returned refusal_number
-  not_ended ended = let numbers = ap dispatch_returned (sym empty_refused ∙ ended) in omega (arith, numbers)
-
-  empty_gives : is_table bytes ≡ false → RunGives empty
-  unfolding dispatch_returned refusal_number stored_over
-  empty_gives unknown =
-      let (same, none, cursors, entries) = refused_leaves_slice empty quantum scripts lent trace not_ended in
-      rw unknown (
-        λ j. dispatch_returned (empty_refused j) + none j * steps_unit,
-        ap (λ (steps : ℕ). stored_over (ltb 0 steps) bytes (run_of empty).table) none,
-        cursors,
-        entries,
-      )
-
-  gives : AreBytes bytes → {table : Table} → table ≡ table_or_none bytes → RunGives table
-  gives small read =
-      split (is_table bytes) (λ known. subst RunGives (sym (read ∙ ap (λ (b : Bool). pick b (table_of bytes) empty) known)) (table_gives small known))
-      (λ unknown. subst RunGives (sym (read ∙ ap (λ (b : Bool). pick b (table_of bytes) empty) unknown)) (empty_gives unknown))
-
-  -- what the three calls give, together
-  pub call_gives : AreBytes bytes → {table : Table} {done : Dispatched} {answer : ℕ} {stored : List ℕ} {cursors : List ScriptCursor} {entries : List ℕ}
-      → table ≡ table_or_none bytes → done ≡ run_of table → cursors ≡ cursors_after table quantum scripts lent → entries ≡ trace_after table quantum scripts lent trace
+  -- what the calls give, together
+  pub call_gives : AreBytes bytes → is_table bytes ≡ true
+      → {done : Dispatched} {answer : ℕ} {stored : List ℕ} {cursors : List ScriptCursor} {entries : List ℕ}
+      → done ≡ run_of (table_of bytes) → cursors ≡ cursors_after (table_of bytes) quantum scripts lent → entries ≡ trace_after (table_of bytes) quantum scripts lent trace
       → answer ≡ run_answer done → stored ≡ stored_by done → CallGives answer stored cursors entries
-  call_gives small read ran moved traced answered kept =
-      let (a, b, c, d) = gives small read in (answered ∙ ap run_answer ran ∙ a, kept ∙ ap stored_by ran ∙ b, moved ∙ c, traced ∙ d)
+  call_gives small known ran moved traced answered kept =
+      let (a, b, c, d) = table_gives small known in (answered ∙ ap run_answer ran ∙ a, kept ∙ ap stored_by ran ∙ b, moved ∙ c, traced ∙ d)
 
   ended_zero : is_table bytes ≡ true → (run_of (table_of bytes)).answer ≡ Ok tt → returned_in (dispatched_answer bytes quantum scripts lent) ≡ 0
   ended_zero known ended =

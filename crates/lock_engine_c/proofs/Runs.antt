@@ -5,6 +5,7 @@ use mathlib.Core.Bool.{Bool, true, false}
 use mathlib.Core.List.{List, [], ◌∷◌, append_assoc}
 use native.Mathlib.Omega.{arith}
 use native.Mathlib.Numerals.{add-one}
+use Rattle.std.specs.Prelude.{min}
 use lib.Dec.{ltb}
 use lib.ListN.{length, set, take, drop}
 use lib.Seq.{set_split, paste-zero}
@@ -34,14 +35,13 @@ use Rattle.lock_engine_c.specs.Run.{run_count, run_events, handle_answer, handle
 use Rattle.lock_engine_c.proofs.RefusedBytes.{read_well_typed, unchanged_same}
 
 -- there are as many events and as much room
-pub count_fits : (events answers : ℕ) → (run_count events answers ≤ answers) × (run_count events answers * event_size ≤ events)
+pub count_is : (events answers : ℕ) → min (events / event_size) answers ≡ run_count events answers
 unfolding run_count
-count_fits events answers = at (ltb answers (events / event_size)) (below answers (events / event_size))
+count_is events answers = at (ltb answers (events / event_size)) (below answers (events / event_size))
   where
-    at : (less : Bool) → Below less answers (events / event_size)
-        → let count = pick less answers (events / event_size) in (count ≤ answers) × (count * event_size ≤ events)
-    at true b = (omega arith, omega (arith, b))
-    at false b = (omega (arith, b), omega arith)
+    at : (less : Bool) → Below less answers (events / event_size) → min (events / event_size) answers ≡ pick less answers (events / event_size)
+    at true less = omega (arith, less)
+    at false more = omega (arith, more)
 
 -- an answer stored
 answer_stored : (done answer : ℕ) (rest answers : List ℕ) → done < length answers
@@ -140,21 +140,21 @@ module _ (bytes : List ℕ) where
     count = run_count (length events) (length first)
 
     -- the events that are left, from the bytes as they would be now, give what the whole run gives
-    pub record Running (issound : Bool) (table : Table) (changed : Bool) (at done : ℕ) (answers : List ℕ) : Type 0 where
+    pub record Running (issound : Bool) (table : Table) (changed : Bool) (done : ℕ) (answers : List ℕ) : Type 0 where
       pub typed : WellTyped table
       pub sound_is : issound ≡ both (is_table bytes) (sound_of table)
       pub unchanged : changed ≡ false → table ≡ table_of bytes
       pub no_table : is_table bytes ≡ false → changed ≡ false
-      pub bytes_left : run_bytes bytes (run_events events first) ≡ run_bytes (bytes_now table) (events_from (count - done) events at)
+      pub bytes_left : run_bytes bytes (run_events events first) ≡ run_bytes (bytes_now table) (events_from (count - done) events (done * event_size))
       pub answers_left : overwritten 0 (run_answers bytes (run_events events first)) first
-          ≡ overwritten done (run_answers (bytes_now table) (events_from (count - done) events at)) answers
+          ≡ overwritten done (run_answers (bytes_now table) (events_from (count - done) events (done * event_size))) answers
 
     first_bytes : AreBytes bytes → bytes ≡ bytes_now (table_of bytes)
     first_bytes small =
         split (is_table bytes) (λ known. sym (table_now (table_of bytes) known ∙ bytes_back bytes small known)) (λ unknown. sym (same_now (table_of bytes) unknown))
 
     pub run_starts : {issound : Bool} {table : Table} → AreBytes bytes → table ≡ table_of bytes → issound ≡ both (is_table bytes) (sound_of table)
-        → Running issound table false 0 0 first
+        → Running issound table false 0 first
     run_starts {issound} {table} small read sound =
         let all : count ≡ count - 0 = omega arith in
         let bytes_same : bytes ≡ bytes_now table = first_bytes small ∙ ap bytes_now (sym read) in
@@ -167,19 +167,20 @@ module _ (bytes : List ℕ) where
           answers_left = λ j. overwritten 0 (run_answers (bytes_same j) (events_from (all j) events 0)) first;
         }
 
-    module _ {issound : Bool} {table : Table} {changed : Bool} {at done : ℕ} {answers : List ℕ}
-        (running : Running issound table changed at done answers) where
+    module _ {issound : Bool} {table : Table} {changed : Bool} {done : ℕ} {answers : List ℕ}
+        (running : Running issound table changed done answers) where
       pub run_goes_on : {event : Event} {outcome : Outcome} {answer : ℕ} {changes : Bool} → done < count → done < length answers
-          → event ≡ event_at events at → outcome ≡ handle_trusting table event issound → answer ≡ outcome_answer outcome
+          → event ≡ event_at events (done * event_size) → outcome ≡ handle_trusting table event issound → answer ≡ outcome_answer outcome
           → changes ≡ either changed (reply_changes outcome.reply)
-          → Running issound outcome.table changes (at + event_size) (done + 1) (set answers done answer)
+          → Running issound outcome.table changes (done + 1) (set answers done answer)
       unfolding run_bytes run_answers
       run_goes_on {event} {outcome} {answer} {changes} more room is gave answered changes_are =
           let before = running.typed in
           let same : outcome ≡ handle_trusting table event (both (is_table bytes) (sound_of table)) = gave ∙ ap (handle_trusting table event) running.sound_is in
           let fewer : count - done - 1 ≡ count - (done + 1) = omega arith in
-          let next : events_from (count - done) events at ≡ event ∷ events_from (count - (done + 1)) events (at + event_size) =
-          events_next (omega (arith, more)) events at ∙ λ j. sym is j ∷ events_from (fewer j) events (at + event_size) in
+          let after_it : done * event_size + event_size ≡ (done + 1) * event_size = omega arith in
+          let next : events_from (count - done) events (done * event_size) ≡ event ∷ events_from (count - (done + 1)) events ((done + 1) * event_size) =
+          events_next (omega (arith, more)) events (done * event_size) ∙ λ j. sym is j ∷ events_from (fewer j) events (after_it j) in
           let after : handle_bytes (bytes_now table) event ≡ bytes_now outcome.table =
           sym (bytes_are table before event) ∙ ap (λ (o : Outcome). bytes_now o.table) (sym same) in
           let said : handle_answer (bytes_now table) event ≡ answer =
@@ -191,10 +192,10 @@ module _ (bytes : List ℕ) where
             no_table = λ unknown. changes_are
                 ∙ (λ j. either (running.no_table unknown j) ((ap (λ (o : Outcome). reply_changes o.reply) same ∙ none_changes table before event unknown) j));
             bytes_left = running.bytes_left ∙ ap (run_bytes (bytes_now table)) next
-                ∙ ap (λ (b : List ℕ). run_bytes b (events_from (count - (done + 1)) events (at + event_size))) after;
+                ∙ ap (λ (b : List ℕ). run_bytes b (events_from (count - (done + 1)) events ((done + 1) * event_size))) after;
             answers_left = running.answers_left ∙ ap (λ (es : List Event). overwritten done (run_answers (bytes_now table) es) answers) next
-                ∙ (λ j. overwritten done (said j ∷ run_answers (after j) (events_from (count - (done + 1)) events (at + event_size))) answers)
-                ∙ answer_stored done answer (run_answers (bytes_now outcome.table) (events_from (count - (done + 1)) events (at + event_size))) answers room;
+                ∙ (λ j. overwritten done (said j ∷ run_answers (after j) (events_from (count - (done + 1)) events ((done + 1) * event_size))) answers)
+                ∙ answer_stored done answer (run_answers (bytes_now outcome.table) (events_from (count - (done + 1)) events ((done + 1) * event_size))) answers room;
           }
         where
           stays : outcome ≡ handle_trusting table event (both (is_table bytes) (sound_of table)) → changes ≡ either changed (reply_changes outcome.reply)
@@ -212,7 +213,7 @@ module _ (bytes : List ℕ) where
           × (answers ≡ overwritten 0 (run_answers bytes (run_events events first)) first)
       unfolding run_bytes run_answers stored_over
       run_ends small all =
-          let none : events_from (count - done) events at ≡ [] = events_end (omega (arith, all)) events at in
+          let none : events_from (count - done) events (done * event_size) ≡ [] = events_end (omega (arith, all)) events (done * event_size) in
           let now : bytes_now table ≡ run_bytes bytes (run_events events first) = sym (running.bytes_left ∙ ap (run_bytes (bytes_now table)) none) in (
             bytes_stored ∙ now,
             paste-zero answers done [] ∙ sym (running.answers_left ∙ ap (λ (es : List Event). overwritten done (run_answers (bytes_now table) es) answers) none),

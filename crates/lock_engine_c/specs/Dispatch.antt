@@ -1,7 +1,6 @@
 -- A run of scripts over a table in bytes: the dispatcher's on the table that the bytes say. On bytes that are no table it is 11, and all stays.
 use Rattle.std.specs.Prelude.{ℕ, ◌+◌, ◌*◌, ◌≡◌, ◌≢◌, List}
 use Rattle.laws.specs.Choice.{pick}
-use Rattle.lock_table.specs.declared.record.Table.{Table}
 use Rattle.event_bytes.specs.Answer.{returned_in}
 use Rattle.table_bytes.specs.Reading.{AreBytes, is_table, table_of}
 use Rattle.table_bytes.specs.Writing.{bytes_of}
@@ -31,13 +30,6 @@ dispatched_cursors bytes quantum scripts lent = pick (is_table bytes) (cursors_a
 
 abbrev pub dispatched_trace : List ℕ → ℕ → List ℕ → List ScriptCursor → List ℕ → List ℕ
 dispatched_trace bytes quantum scripts lent trace = pick (is_table bytes) (trace_after (table_of bytes) quantum scripts lent trace) trace
-
--- the table that the code runs: where the bytes are none, one without threads, which is not sound and so refused with 11
-abbrev pub no_threads : Table → Table
-no_threads table = record { threadcount = 0; objectcount = table.objectcount; threads = table.threads; objects = table.objects }
-
-abbrev pub table_or_none : List ℕ → Table
-table_or_none bytes = pick (is_table bytes) (table_of bytes) (no_threads (table_of bytes))
 
 -- A call that returns another number than 0 leaves every byte of the table, every record and the trace.
 abbrev pub RefusedRunLeaves : Type 0

@@ -27,14 +27,7 @@ const NO_LIMIT: u32 = 0;
 fn answer_changes(answer: Answer) -> bool
     ensures { result ≡ answer_changes answer }
 {
-    match answer {
-        Answer::GoneOn => true,
-        Answer::Finished(_) => true,
-        Answer::Parked => true,
-        Answer::NotOwner => true,
-        Answer::TooDeep => true,
-        Answer::NoRule => false,
-    }
+    !matches!(answer, Answer::NoRule)
 }
 
 #[tactic(auto, unfolding(crate::specs::Calls::reply_changes))]
@@ -90,7 +83,7 @@ fn handle_if_table(bytes: &mut [u8], event: Event, istable: bool) -> u64
         }
         return packed(returned(reply), woken(reply), turn.commits, unparked);
     }
-    refusal_number(Refusal::NotSound) as u64
+    refusal_number(Refusal::NotSound).into()
 }
 
 // With the right number of bytes, a fresh table as asked.
@@ -103,12 +96,12 @@ pub(crate) fn fresh_if_sized(bytes: &mut [u8], request: FreshRequest, fits: bool
         return match fresh(request) {
             Ok(table) => {
                 write_table(bytes, table);
-                fresh_returned(Ok(())) as u32
+                fresh_returned(Ok(())).into()
             }
-            Err(refusal) => fresh_returned(Err(refusal)) as u32,
+            Err(refusal) => fresh_returned(Err(refusal)).into(),
         };
     }
-    refusal_number(Refusal::NotSound) as u32
+    refusal_number(Refusal::NotSound).into()
 }
 
 // How many bytes a table has.
@@ -126,8 +119,8 @@ pub fn duskclamp_fresh(bytes: &mut [u8], threads: u32, objects: u32, reserved: u
 {
     let fits = bytes.len() == TABLE_SIZE;
     let request = sized_request(
-        narrow(threads) as u16,
-        narrow(objects) as u16,
+        narrow(threads).into(),
+        narrow(objects).into(),
         reserved != 0,
     );
     fresh_if_sized(bytes, request, fits)
@@ -163,7 +156,7 @@ pub fn duskclamp_timed_wait(bytes: &mut [u8], thread: u32, object: u32, limit: u
         operation: TIMED_WAIT,
         thread: narrow(thread),
         object: narrow(object),
-        limit: limit,
+        limit,
     };
     handle_if_table(bytes, event, istable)
 }

@@ -1,5 +1,5 @@
 // A fresh table with what its threads are given (document 02, L8).
-ghost use Rattle.std.specs.Prelude.{◌≡◌, get_or};
+ghost use Rattle.std.specs.Prelude.{◌≡◌};
 ghost use Rattle.lock_engine_c.specs.Calls.{has_size, fresh_answer, fresh_bytes};
 ghost use Rattle.lock_engine_c.specs.Given.{given_from, threads_from, fresh_given_on};
 
@@ -7,22 +7,12 @@ use crate::calls::fresh_if_sized;
 use lock_table::{FreshRequest, ThreadGiven, narrow, no_thread_given};
 use table_bytes::TABLE_SIZE;
 
-// The byte at a place, 0 where there is none.
-fn byte_at(bytes: &[u8], place: usize) -> u8
-    ensures { result ≡ get_or bytes.now place 0 }
-{
-    if place < bytes.len() {
-        return bytes[place];
-    }
-    0
-}
-
 // What the thread at a place is given.
 fn given_from(bytes: &[u8], place: usize) -> ThreadGiven
     ensures { result ≡ given_from bytes.now place }
 {
     ThreadGiven {
-        rank: byte_at(bytes, place),
+        rank: bytes.get(place).copied().unwrap_or(0),
     }
 }
 
@@ -30,10 +20,8 @@ fn threads_from(bytes: &[u8]) -> [ThreadGiven; 32]
     ensures { result ≡ threads_from bytes.now }
 {
     let mut given = [no_thread_given(); 32];
-    let mut place: usize = 0;
-    while place < 32 {
-        given[place] = given_from(bytes, place);
-        place = place + 1;
+    for (place, thread) in given.iter_mut().enumerate() {
+        *thread = given_from(bytes, place);
     }
     given
 }
@@ -52,8 +40,8 @@ pub fn duskclamp_fresh_given(
 {
     let fits = bytes.len() == TABLE_SIZE;
     let request = FreshRequest {
-        threads: narrow(threads) as u16,
-        objects: narrow(objects) as u16,
+        threads: narrow(threads).into(),
+        objects: narrow(objects).into(),
         reserved: reserved != 0,
         tothreads: threads_from(given),
     };

@@ -1,11 +1,14 @@
 -- What is still to run gives what the whole run gives: before the loop, after an event, and at the end.
-use Rattle.std.proofs.Common.{◌∙◌, refl, length, arith, rules}
+use Rattle.std.proofs.Common.{ℕ, List, [], get_or, ◌/◌, ◌≡◌, ◌∙◌, ap, length, arith, rules}
+use Rattle.event_bytes.specs.Encoding.{event_size, event_at}
+use Rattle.event_bytes.proofs.Chunks.{chunk_event}
+use Rattle.lock_engine_c.specs.Run.{run_count}
 use mathlib.Core.Logic.{inl, inr}
 use Rattle.laws.specs.Choice.{both, either}
 use Rattle.lock_engine.specs.declared.outcome.Outcome.{Outcome}
 use Rattle.table_bytes.specs.Reading.{AreBytes}
 use Rattle.lock_engine.proofs.InPlace.{came_so}
-use Rattle.lock_engine_c.proofs.Runs.{count_fits, run_starts, run_goes_on, run_ends}
+use Rattle.lock_engine_c.proofs.Runs.{count_is, run_starts, run_goes_on, run_ends}
 use Rattle.lock_engine_c.proofs.running.duskclamp_run.Goals as goal
 use Rattle.lock_engine_c.proofs.running.duskclamp_run.Goals.{then-work_stays, else-work_stays}
 
@@ -13,15 +16,12 @@ pub loop-done-init : goal.loop-done-init
 loop-done-init c =
     let given = c.args in
     let small : AreBytes given.bytes.now = search rules in
-    let (room, enough) = count_fits (length given.events.now) (length given.answers.now) in
-    let count = c.run_count-count.ensures in
+    let count : c.min-count.result ≡ run_count (length given.events.now) (length given.answers.now) =
+    (rw c.as_chunks.ensures.front_len at c.min-count.ensures) ∙ count_is (length given.events.now) (length given.answers.now) in
     record {
       small = small;
       count_is = count;
-      enough = omega (arith, count, enough);
-      room = omega (arith, count, room);
-      few = omega arith;
-      at_is = refl;
+      room = omega (arith, c.min-count.ensures);
       running = run_starts given.bytes.now given.events.now given.answers.now small c.read_table-table.ensures
           (λ j. both (c.is_table-istable.ensures j) (c.sound.ensures j));
     }
@@ -37,12 +37,10 @@ loop-done-preserved c =
     record {
       small = kept.small;
       count_is = kept.count_is;
-      enough = kept.enough;
       room = kept.room;
-      few = omega (arith, test);
-      at_is = omega (arith, kept.at_is);
       running = run_goes_on _ _ _ kept.running {outcome = outcome} (omega (arith, kept.count_is, test)) (omega (arith, kept.room, loop.auto.answers, test))
-          c.event_at-event.ensures
+          (c.event_of-event.ensures ∙ ap (λ (chunks : List (List ℕ)). event_at (get_or chunks loop.done []) 0) c.as_chunks.ensures.front
+          ∙ chunk_event (length c.args.events.now / event_size) c.args.events.now loop.done [] (omega (arith, test, rw c.as_chunks.ensures.front_len at c.min-count.ensures)))
           (came_so
           (record {
             thread_is = c.event_thread-thread.ensures;

@@ -1,6 +1,5 @@
 -- What is still to run gives what the whole run gives.
-use Rattle.std.proofs.Common.{◌≡◌, ◌≤◌, ◌-◌, ◌*◌, length}
-use Rattle.event_bytes.specs.Encoding.{event_size}
+use Rattle.std.proofs.Common.{◌≡◌, ◌≤◌, length}
 use Rattle.table_bytes.specs.Reading.{AreBytes}
 use Rattle.lock_engine_c.specs.Run.{run_count}
 use Rattle.lock_engine_c.proofs.Runs.{Running}
@@ -11,12 +10,6 @@ invariant-loop-done l =
     record {
       small : AreBytes l.bytes;
       count_is : l.count ≡ run_count (length l.events) (length l.initial.answers);
-      enough : l.count * event_size ≤ length l.events;
       room : l.count ≤ length l.initial.answers;
-      few : l.done ≤ l.count;
-      at_is : l.at ≡ l.done * event_size;
-      running : Running l.bytes l.events l.initial.answers l.issound l.table l.changed l.at l.done l.answers;
+      running : Running l.bytes l.events l.initial.answers l.issound l.table l.changed l.done l.answers;
     }
-
-abbrev pub decreases-loop-done : goal.decreases-loop-done
-decreases-loop-done l = l.count - l.done
