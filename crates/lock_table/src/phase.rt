@@ -3,7 +3,7 @@ ghost use Rattle.std.specs.Prelude.{◌≡◌};
 ghost use Rattle.lock_table.specs.Phase.{phase_number, onward_number, carried_number, onward_phase};
 
 // What a queued thread goes on with when it becomes the monitor's holder.
-#[derive(Clone, Copy)]
+#[derive(Clone, Copy, PartialEq, Eq)]
 pub enum Onward {
     ToCheck = 6,
     ToTell = 10,
@@ -11,7 +11,7 @@ pub enum Onward {
     ToResume = 15,
 }
 
-#[derive(Clone, Copy)]
+#[derive(Clone, Copy, PartialEq, Eq)]
 pub enum Phase {
     // 0
     Idle,

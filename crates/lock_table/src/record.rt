@@ -16,7 +16,7 @@ pub const OBJECTS: u8 = 64;
 // The highest rank.
 pub const RANKS: u8 = 3;
 
-#[derive(Clone, Copy)]
+#[derive(Clone, Copy, PartialEq, Eq)]
 pub struct ThreadRecord {
     // the reserved word read in phase 1 and about to be stored in phase 2
     pub kept: u32,
@@ -43,7 +43,7 @@ pub struct Activity {
     pub phase: Phase,
 }
 
-#[derive(Clone, Copy)]
+#[derive(Clone, Copy, PartialEq, Eq)]
 pub struct Monitor {
     pub depth: Depth,
     pub holder: u8,
@@ -53,7 +53,7 @@ pub struct Monitor {
     pub waiting: u8,
 }
 
-#[derive(Clone, Copy)]
+#[derive(Clone, Copy, PartialEq, Eq)]
 pub struct ObjectRecord {
     pub word: u32,
     pub monitor: Monitor,

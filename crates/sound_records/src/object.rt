@@ -1,9 +1,9 @@
 // What soundness asks of one object's record.
 ghost use Rattle.std.specs.Prelude.{◌≡◌};
-ghost use Rattle.sound_records.specs.Records.{word_fits, unheld_fits, used_object_fits, empty_monitor, empty_object};
+ghost use Rattle.sound_records.specs.Records.{word_fits, unheld_fits, used_object_fits, empty_object};
 
 use crate::choice::implies;
-use lock_table::{Monitor, ObjectRecord};
+use lock_table::{Monitor, ObjectRecord, no_object};
 use lock_word::LockWord;
 
 // A valid word, with its thread at most `threads`; a fat word names its own object.
@@ -41,17 +41,9 @@ pub fn used_object_fits(threads: u8, number: u8, object: ObjectRecord) -> bool
     word & holder & unheld
 }
 
-#[tactic(auto, unfolding(crate::specs::Records::empty_monitor))]
-fn empty_monitor(monitor: Monitor) -> bool
-    ensures { result ≡ empty_monitor monitor }
-{
-    let chains = (monitor.entry == 0) & (monitor.contention == 0) & (monitor.waiting == 0);
-    (monitor.depth == 0) & (monitor.holder == 0) & chains
-}
-
-#[tactic(auto, unfolding(crate::specs::Records::empty_object))]
+#[tactic(auto, using(crate::proofs::Same::and_both, crate::proofs::Same::flag_down), unfolding(crate::specs::Records::empty_object, crate::specs::Records::empty_monitor))]
 pub fn empty_object(object: ObjectRecord) -> bool
     ensures { result ≡ empty_object object }
 {
-    (object.word == 0) & !object.flag & empty_monitor(object.monitor)
+    object == no_object()
 }

@@ -8,7 +8,9 @@ ghost use Rattle.sound_records.specs.OnePass.{chain_number, rank_there, member_p
 
 use crate::choice::{implies, within};
 use chains::Chain;
-use lock_table::{Operation, Phase, RANKS, ThreadRecord, carried_number, is_thread, phase_number};
+use lock_table::{
+    Operation, Phase, RANKS, ThreadRecord, carried_number, is_thread, no_thread, phase_number,
+};
 use lock_word::{COUNT_LIMIT, DEPTH_LIMIT, LockWord, TICK_LIMIT};
 
 // The largest counts of a kept word: storing it adds one for enter and takes one off for exit.
@@ -215,18 +217,11 @@ fn used_thread_fits(objects: u8, number: u8, phase: u8, carried: u8, thread: Thr
     ranked & operation & kept & saved & ticks & unused
 }
 
-#[tactic(auto, unfolding(crate::specs::Records::empty_thread, lock_table::specs::Operation::operation_number, lock_table::specs::Phase::phase_number))]
+#[tactic(auto, using(crate::proofs::Same::and_both), unfolding(crate::specs::Records::empty_thread, lock_table::specs::Operation::operation_number, lock_table::specs::Phase::phase_number))]
 fn empty_thread(thread: ThreadRecord) -> bool
     ensures { result ≡ empty_thread thread }
 {
-    let idle = matches!(thread.operation, Operation::Idle) & matches!(thread.phase, Phase::Idle);
-    (thread.kept == 0)
-        & (thread.saved == 0)
-        & (thread.ticks == 0)
-        & (thread.object == 0)
-        & (thread.next == 0)
-        & (thread.rank == 0)
-        & idle
+    thread == no_thread()
 }
 
 // An empty record passes at once, and most are. Any other is one of a thread in use, which was met in a walk if it is parked.
