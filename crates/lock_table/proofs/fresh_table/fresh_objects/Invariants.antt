@@ -1,5 +1,5 @@
 -- The places passed are filled.
-use Rattle.std.proofs.Common.{◌≡◌, ◌-◌, ◌≤◌}
+use Rattle.std.proofs.Common.{◌≡◌}
 use lib.ListN.{replicate}
 use Rattle.laws.specs.Sequence.{patched}
 use Rattle.lock_table.specs.Fresh.{object_from}
