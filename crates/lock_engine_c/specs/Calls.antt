@@ -123,6 +123,3 @@ fresh_bytes fits bytes made = pick fits (made_bytes bytes made) bytes
 unfoldable pub keep_made : List ℕ → Result Table FreshRefusal → List ℕ
 keep_made bytes (Ok table) = kept_over bytes table
 keep_made bytes (Err refusal) = bytes
-
-abbrev pub fresh_if_sized : Bool → List ℕ → Result Table FreshRefusal → List ℕ
-fresh_if_sized fits bytes made = pick fits (keep_made bytes made) bytes

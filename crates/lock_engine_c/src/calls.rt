@@ -7,7 +7,7 @@ ghost use Rattle.table_bytes.specs.Layout.{table_size};
 ghost use Rattle.table_bytes.specs.Reading.{is_table, table_of};
 ghost use Rattle.lock_engine_c.specs.Calls.{event_answer, event_bytes, RefusedTo, RefusedLeaves};
 ghost use Rattle.lock_engine_c.specs.Calls.{answer_changes, reply_changes, stored_over, store_turn, event_over};
-ghost use Rattle.lock_engine_c.specs.Calls.{begun_on, stepped_on, ticked_on, fresh_on, has_size, fresh_answer, fresh_bytes, fresh_if_sized};
+ghost use Rattle.lock_engine_c.specs.Calls.{begun_on, stepped_on, ticked_on, fresh_on, has_size, fresh_answer, fresh_bytes};
 
 use event_bytes::packed;
 use lock_engine::{Reply, refusal_number, returned, turn_with, woken};
@@ -54,54 +54,54 @@ pub(crate) fn store(bytes: &mut [u8], table: Table, changed: bool)
 // work, can be tried on memory that may only be read; and no more than the two records where there is no more work. These are read from the bytes: to
 // read them from the table would copy it.
 #[tactic(auto, using(laws::proofs::Choice::either_way, crate::proofs::EventTurns::turn_answers, crate::proofs::EventTurns::turn_stores), unfolding(crate::specs::Calls::store_turn))]
-fn handle_if_table(bytes: &mut [u8], event: Event, istable: bool) -> u64
-    ensures value { result ≡ event_answer istable (handle (table_of bytes.old) event) }
-    ensures bytes_after { bytes.new ≡ event_over istable bytes.old (table_of bytes.old) event }
+fn handle_event(bytes: &mut [u8], event: Event) -> u64
+    ensures value { result ≡ event_answer (is_table bytes.old) (handle (table_of bytes.old) event) }
+    ensures bytes_after { bytes.new ≡ event_over (is_table bytes.old) bytes.old (table_of bytes.old) event }
 {
-    if istable {
-        let table = read_table(bytes);
-        let issound = sound(table);
-        let thread = event_thread(event);
-        let own = read_thread(bytes, thread);
-        let number = event_object(event, own.object);
-        let object = read_object(bytes, number);
-        let turn = turn_with(table, event, issound, own, object);
-        let ownafter = turn.own;
-        let objectafter = turn.object;
-        let work = turn.work;
-        let reply = turn.reply;
-        let mut unparked: u32 = 0;
-        if work_stays(work) {
-            if reply_changes(reply) {
-                write_thread(bytes, thread, ownafter);
-                write_object(bytes, number, objectafter);
-            }
-        } else {
-            let done = work_done(table, thread, number, ownafter, objectafter, work);
-            unparked = done.unparked;
-            write_table(bytes, done.table);
-        }
-        return packed(returned(reply), woken(reply), turn.commits, unparked);
+    if !is_table(bytes) {
+        return refusal_number(Refusal::NotSound).into();
     }
-    refusal_number(Refusal::NotSound).into()
+    let table = read_table(bytes);
+    let issound = sound(table);
+    let thread = event_thread(event);
+    let own = read_thread(bytes, thread);
+    let number = event_object(event, own.object);
+    let object = read_object(bytes, number);
+    let turn = turn_with(table, event, issound, own, object);
+    let ownafter = turn.own;
+    let objectafter = turn.object;
+    let work = turn.work;
+    let reply = turn.reply;
+    let mut unparked: u32 = 0;
+    if work_stays(work) {
+        if reply_changes(reply) {
+            write_thread(bytes, thread, ownafter);
+            write_object(bytes, number, objectafter);
+        }
+    } else {
+        let done = work_done(table, thread, number, ownafter, objectafter, work);
+        unparked = done.unparked;
+        write_table(bytes, done.table);
+    }
+    packed(returned(reply), woken(reply), turn.commits, unparked)
 }
 
-// With the right number of bytes, a fresh table as asked.
-#[tactic(auto, using(laws::proofs::Choice::either_way), unfolding(crate::specs::Calls::keep_made, lock_table::specs::Fresh::fresh_returned))]
-pub(crate) fn fresh_if_sized(bytes: &mut [u8], request: FreshRequest, fits: bool) -> u32
-    ensures value { result ≡ fresh_answer fits (fresh_of request) }
-    ensures bytes_after { bytes.new ≡ fresh_if_sized fits bytes.old (fresh_of request) }
+// On as many bytes as a table has, a fresh table as asked.
+#[tactic(auto, using(laws::proofs::Choice::either_way, crate::proofs::FreshWritten::fresh_written), unfolding(crate::specs::Calls::keep_made, lock_table::specs::Fresh::fresh_returned))]
+pub(crate) fn make_fresh(bytes: &mut [u8], request: FreshRequest) -> u32
+    ensures value { result ≡ fresh_answer (has_size bytes.old) (fresh_of request) }
+    ensures bytes_after { bytes.new ≡ fresh_bytes (has_size bytes.old) bytes.old (fresh_of request) }
 {
-    if fits {
-        return match fresh(request) {
-            Ok(table) => {
-                write_table(bytes, table);
-                fresh_returned(Ok(())).into()
-            }
-            Err(refusal) => fresh_returned(Err(refusal)).into(),
-        };
+    if bytes.len() != TABLE_SIZE {
+        return refusal_number(Refusal::NotSound).into();
     }
-    refusal_number(Refusal::NotSound).into()
+    match fresh(request) {
+        Ok(table) => {
+            write_table(bytes, table);
+            fresh_returned(Ok(())).into()
+        }
+        Err(refusal) => fresh_returned(Err(refusal)).into(),
+    }
 }
 
 // How many bytes a table has.
@@ -112,18 +112,17 @@ pub fn duskclamp_table_size() -> usize
 }
 
 // A fresh table with every word free, or with `reserved` not 0 anonymously reserved: 0, or 11 or 22 and the bytes stay.
-#[tactic(auto, using(lock_table::proofs::Narrowed::narrow_fresh, crate::proofs::FreshWritten::fresh_written))]
+#[tactic(auto, using(lock_table::proofs::Narrowed::narrow_fresh))]
 pub fn duskclamp_fresh(bytes: &mut [u8], threads: u32, objects: u32, reserved: u32) -> u32
     ensures value { result ≡ fresh_answer (has_size bytes.old) (fresh_on threads objects reserved) }
     ensures bytes_after { bytes.new ≡ fresh_bytes (has_size bytes.old) bytes.old (fresh_on threads objects reserved) }
 {
-    let fits = bytes.len() == TABLE_SIZE;
     let request = sized_request(
         narrow(threads).into(),
         narrow(objects).into(),
         reserved != 0,
     );
-    fresh_if_sized(bytes, request, fits)
+    make_fresh(bytes, request)
 }
 
 // The thread begins the operation with this number on the object, without a limit. Refused, it leaves every byte, and its answer
@@ -134,14 +133,13 @@ pub fn duskclamp_begin(bytes: &mut [u8], thread: u32, operation: u32, object: u3
     ensures bytes_after { bytes.new ≡ event_bytes (is_table bytes.old) bytes.old (begun_on bytes.old thread operation object 0) }
     ensures refused_to { RefusedTo bytes.old bytes.new result }
 {
-    let istable = is_table(bytes);
     let event = Event::Begin {
         operation: narrow(operation),
         thread: narrow(thread),
         object: narrow(object),
         limit: NO_LIMIT,
     };
-    handle_if_table(bytes, event, istable)
+    handle_event(bytes, event)
 }
 
 // The thread begins a timed wait on the object, with this limit in ticks. Refused, it leaves every byte, and its answer carries no set.
@@ -151,14 +149,13 @@ pub fn duskclamp_timed_wait(bytes: &mut [u8], thread: u32, object: u32, limit: u
     ensures bytes_after { bytes.new ≡ event_bytes (is_table bytes.old) bytes.old (begun_on bytes.old thread timed_wait object limit) }
     ensures refused_to { RefusedTo bytes.old bytes.new result }
 {
-    let istable = is_table(bytes);
     let event = Event::Begin {
         operation: TIMED_WAIT,
         thread: narrow(thread),
         object: narrow(object),
         limit,
     };
-    handle_if_table(bytes, event, istable)
+    handle_event(bytes, event)
 }
 
 // The thread takes one step. Refused, it leaves every byte, and its answer carries no set; with 18 and 19, every byte but those of the thread's record.
@@ -168,11 +165,10 @@ pub fn duskclamp_step(bytes: &mut [u8], thread: u32) -> u64
     ensures bytes_after { bytes.new ≡ event_bytes (is_table bytes.old) bytes.old (stepped_on bytes.old thread) }
     ensures refused_leaves { RefusedLeaves bytes.old thread bytes.new result }
 {
-    let istable = is_table(bytes);
     let event = Event::Step {
         thread: narrow(thread),
     };
-    handle_if_table(bytes, event, istable)
+    handle_event(bytes, event)
 }
 
 // One tick of the clock. Refused, it leaves every byte, and its answer carries no set.
@@ -182,6 +178,5 @@ pub fn duskclamp_tick(bytes: &mut [u8]) -> u64
     ensures bytes_after { bytes.new ≡ event_bytes (is_table bytes.old) bytes.old (ticked_on bytes.old) }
     ensures refused_to { RefusedTo bytes.old bytes.new result }
 {
-    let istable = is_table(bytes);
-    handle_if_table(bytes, Event::Tick, istable)
+    handle_event(bytes, Event::Tick)
 }

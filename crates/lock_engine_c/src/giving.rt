@@ -3,9 +3,8 @@ ghost use Rattle.std.specs.Prelude.{◌≡◌};
 ghost use Rattle.lock_engine_c.specs.Calls.{has_size, fresh_answer, fresh_bytes};
 ghost use Rattle.lock_engine_c.specs.Given.{given_from, threads_from, fresh_given_on};
 
-use crate::calls::fresh_if_sized;
+use crate::calls::make_fresh;
 use lock_table::{FreshRequest, ThreadGiven, narrow, no_thread_given};
-use table_bytes::TABLE_SIZE;
 
 // What the thread at a place is given.
 fn given_from(bytes: &[u8], place: usize) -> ThreadGiven
@@ -27,7 +26,7 @@ fn threads_from(bytes: &[u8]) -> [ThreadGiven; 32]
 }
 
 // A fresh table whose threads are given this: 11, 22 or 27 where there is none, and the bytes are left.
-#[tactic(auto, using(lock_table::proofs::Narrowed::narrow_fresh, crate::proofs::FreshWritten::fresh_written))]
+#[tactic(auto, using(lock_table::proofs::Narrowed::narrow_fresh))]
 pub fn duskclamp_fresh_given(
     bytes: &mut [u8],
     threads: u32,
@@ -38,12 +37,11 @@ pub fn duskclamp_fresh_given(
     ensures value { result ≡ fresh_answer (has_size bytes.old) (fresh_given_on threads objects reserved given.now) }
     ensures bytes_after { bytes.new ≡ fresh_bytes (has_size bytes.old) bytes.old (fresh_given_on threads objects reserved given.now) }
 {
-    let fits = bytes.len() == TABLE_SIZE;
     let request = FreshRequest {
         threads: narrow(threads).into(),
         objects: narrow(objects).into(),
         reserved: reserved != 0,
         tothreads: threads_from(given),
     };
-    fresh_if_sized(bytes, request, fits)
+    make_fresh(bytes, request)
 }

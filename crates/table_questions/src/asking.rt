@@ -65,15 +65,13 @@ const HOLDER_MARK: u32 = 65536;
 fn kind_number(decoded: Option<LockWord>) -> u32
     ensures { result ≡ kind_number decoded }
 {
-    let Some(meaning) = decoded else {
-        return 5;
-    };
-    match meaning {
-        LockWord::Free => 0,
-        LockWord::Flat(_, _) => 1,
-        LockWord::Anonymous => 2,
-        LockWord::Reserved(_, _) => 3,
-        LockWord::Fat(_) => 4,
+    match decoded {
+        None => 5,
+        Some(LockWord::Free) => 0,
+        Some(LockWord::Flat(..)) => 1,
+        Some(LockWord::Anonymous) => 2,
+        Some(LockWord::Reserved(..)) => 3,
+        Some(LockWord::Fat(_)) => 4,
     }
 }
 
@@ -82,15 +80,9 @@ fn kind_number(decoded: Option<LockWord>) -> u32
 fn named_thread(decoded: Option<LockWord>) -> u32
     ensures { result ≡ named_thread decoded }
 {
-    let Some(meaning) = decoded else {
-        return 0;
-    };
-    match meaning {
-        LockWord::Free => 0,
-        LockWord::Flat(thread, _) => thread.value() as u32,
-        LockWord::Anonymous => 0,
-        LockWord::Reserved(thread, _) => thread.value() as u32,
-        LockWord::Fat(_) => 0,
+    match decoded {
+        Some(LockWord::Flat(thread, _) | LockWord::Reserved(thread, _)) => thread.value().into(),
+        _ => 0,
     }
 }
 

@@ -13,13 +13,13 @@ returns c =
     let given = c.args in
     let small : AreBytes given.bytes.now = search rules in
     let narrowed = narrow_begin (table_of given.bytes.now) given.thread timed_wait given.object given.limit in
-    let answers = c.handle_if_table.ensures in
+    let answers = c.handle_event.ensures in
     let (bytes, refused) =
     begin_promised given.bytes.now small given.thread timed_wait given.object given.limit _ _
-    (simp (answers.value, c.narrow-2.ensures, c.narrow.ensures, c.is_table-istable.ensures))
-    (simp (answers.bytes_after, c.narrow-2.ensures, c.narrow.ensures, c.is_table-istable.ensures)) in
+    (simp (answers.value, c.narrow-2.ensures, c.narrow.ensures))
+    (simp (answers.bytes_after, c.narrow-2.ensures, c.narrow.ensures)) in
     record {
-      value = simp (answers.value, c.narrow-2.ensures, c.narrow.ensures, c.is_table-istable.ensures, narrowed);
+      value = simp (answers.value, c.narrow-2.ensures, c.narrow.ensures, narrowed);
       bytes_after = bytes;
       refused_to = refused;
     }
