@@ -3,6 +3,7 @@ use Prim.Native.Nat.{ℕ, zero, suc, ◌+◌, ◌-◌, ◌*◌, ◌/◌, ◌%◌
 use mathlib.Core.Path.{◌≡◌, refl, sym, ap, ◌∙◌, subst}
 use mathlib.Core.Logic.{◌≢◌}
 use mathlib.Core.Bool.{true, false}
+use Rattle.std.specs.Prelude.{Option, Some, None}
 use mathlib.Core.List.{List, [], ◌∷◌, ◌++◌, append_assoc, append-nil}
 use native.Mathlib.Omega.{arith}
 use native.Mathlib.Nat.{div-add-mod', mod-lt}
@@ -14,9 +15,8 @@ use Rattle.replay_text.specs.Digits.{digit_byte, digits, places_from, places_of,
 use Rattle.replay_text.specs.Bytes.{digit_zero}
 use Rattle.replay_text.proofs.{Stores.digits_length, Lengths.places_most}
 use Rattle.replay_lines.specs.Bytes.{digit_nine}
-use Rattle.replay_lines.specs.Number.{number_limit, is_digit, appended, read_digits, read_number}
+use Rattle.replay_lines.specs.Number.{number_limit, is_digit, appended, found, read_digits, read_number}
 use Rattle.replay_lines.specs.declared.number.Number.{Number}
-use Rattle.replay_lines.specs.declared.number.Number.TheVariants.{Found, Absent}
 use Rattle.replay_lines.proofs.Fields.{digit_low, digit_high}
 
 -- one digit more makes ten times as much
@@ -63,23 +63,24 @@ number_fits number fits =
     omega (arith, digits_length 10 (places_of number) number, count, places_most 4 10 number)
 
 -- what a number found at the start of a text says of it, given the decimal of the digits before: the rest of its digits stand there
-abbrev Continues : List ℕ → ℕ → List ℕ → Number → Type 0
-Continues before at text (Found value end) = (value ≤ number_limit) × (at ≤ end) × (decimal value ≡ before ++ take (end - at) text)
-Continues before at text Absent = Unit
+abbrev Continues : List ℕ → ℕ → List ℕ → Option Number → Type 0
+Continues before at text (Some number) =
+    (number.value ≤ number_limit) × (at ≤ number.length) × (decimal number.value ≡ before ++ take (number.length - at) text)
+Continues before at text None = Unit
 
-continues_here : (value at : ℕ) (text : List ℕ) → value ≤ number_limit → Continues (decimal value) at text (Found value at)
+continues_here : (value at : ℕ) (text : List ℕ) → value ≤ number_limit → Continues (decimal value) at text (found value at)
 continues_here value at text fits =
     (fits, omega arith, sym (ap (λ (n : ℕ). decimal value ++ take n text) (let none : at - at ≡ 0 = omega arith in none) ∙ append-nil (decimal value)))
 
-continues_further : (number : Number) (before : List ℕ) (at byte : ℕ) (text : List ℕ)
+continues_further : (number : Option Number) (before : List ℕ) (at byte : ℕ) (text : List ℕ)
     → Continues (before ++ (byte ∷ [])) (at + 1) text number → Continues before at (byte ∷ text) number
-continues_further (Found value end) before at byte text (fits, within, same) =
-    let further : end - at ≡ suc (end - (at + 1)) = omega arith in (
+continues_further (Some number) before at byte text (fits, within, same) =
+    let further : number.length - at ≡ suc (number.length - (at + 1)) = omega arith in (
       fits,
       omega arith,
-      same ∙ append_assoc before (byte ∷ []) (take (end - (at + 1)) text) ∙ ap (λ (n : ℕ). before ++ take n (byte ∷ text)) (sym further),
+      same ∙ append_assoc before (byte ∷ []) (take (number.length - (at + 1)) text) ∙ ap (λ (n : ℕ). before ++ take n (byte ∷ text)) (sym further),
     )
-continues_further Absent before at byte text none = none
+continues_further None before at byte text none = none
 
 digits_continue : (value at : ℕ) (text : List ℕ) → 1 ≤ value → value ≤ number_limit → Continues (decimal value) at text (read_digits value at text)
 unfolding read_digits
@@ -100,19 +101,22 @@ digits_continue value at (byte ∷ text) some fits =
     (λ other. continues_here value at (byte ∷ text) fits)
 
 -- a number at the start of a text is its decimal
-abbrev pub Starts : List ℕ → Number → Type 0
-Starts text (Found value end) = (value ≤ number_limit) × (text ≡ decimal value ++ drop end text)
-Starts text Absent = Unit
+abbrev pub Starts : List ℕ → Option Number → Type 0
+Starts text (Some number) = (number.value ≤ number_limit) × (text ≡ decimal number.value ++ drop number.length text)
+Starts text None = Unit
 
-starts_continued : (number : Number) (byte : ℕ) (text : List ℕ) → Continues (byte ∷ []) 1 text number → Starts (byte ∷ text) number
-starts_continued (Found value zero) byte text (fits, within, same) = absurd (omega arith)
-starts_continued (Found value (suc end)) byte text (fits, within, same) =
+starts_at : (value end byte : ℕ) (text : List ℕ) → Continues (byte ∷ []) 1 text (found value end) → Starts (byte ∷ text) (found value end)
+starts_at value zero byte text (fits, within, same) = absurd (omega arith)
+starts_at value (suc end) byte text (fits, within, same) =
     let count : suc end - 1 ≡ end = omega arith in (
       fits,
       sym (ap (λ (x : List ℕ). x ++ drop end text) (same ∙ ap (λ (n : ℕ). byte ∷ take n text) count)
           ∙ ap (λ (x : List ℕ). byte ∷ x) (lib.ListN.take-append-drop end text)),
     )
-starts_continued Absent byte text none = none
+
+starts_continued : (number : Option Number) (byte : ℕ) (text : List ℕ) → Continues (byte ∷ []) 1 text number → Starts (byte ∷ text) number
+starts_continued (Some number) byte text continues = starts_at number.value number.length byte text continues
+starts_continued None byte text none = none
 
 pub number_starts : (text : List ℕ) → Starts text (read_number text)
 unfolding read_number
@@ -169,13 +173,13 @@ abbrev pub NoDigit : List ℕ → Type 0
 NoDigit [] = Unit
 NoDigit (byte ∷ text) = is_digit byte ≡ false
 
-digits_none : (value at : ℕ) (rest : List ℕ) → NoDigit rest → read_digits value at rest ≡ Found value at
+digits_none : (value at : ℕ) (rest : List ℕ) → NoDigit rest → read_digits value at rest ≡ found value at
 unfolding read_digits
 digits_none value at [] none = refl
 digits_none value at (byte ∷ rest) none = rw none refl
 
 pub number_read : (number : ℕ) (rest : List ℕ) → number ≤ number_limit → NoDigit rest
-    → read_number (decimal number ++ rest) ≡ Found number (length (decimal number))
+    → read_number (decimal number ++ rest) ≡ found number (length (decimal number))
 unfolding read_number
 number_read zero rest fits none = rw (decimal_digit 0 (omega arith)) refl
 number_read (suc number) rest fits none =

@@ -1,21 +1,22 @@
 -- Numbers and fields, as their readers go through them: from one digit to the next, and how many bytes they take.
 use Prim.Native.Nat.{ℕ, suc, ◌+◌, ◌-◌, ◌≤◌, ◌<◌}
-use mathlib.Core.Path.{◌≡◌, refl, sym, ap, ◌∙◌}
+use mathlib.Core.Path.{◌≡◌, refl, ap}
 use mathlib.Core.Bool.{Bool, true, false}
+use Rattle.std.specs.Prelude.{Option, Some, None}
+use Rattle.std.specs.Char.{is_ascii_digit}
 use mathlib.Core.List.{List, [], ◌∷◌}
 use native.Mathlib.Numerals.{add-one}
 use native.Mathlib.Omega.{arith}
 use lib.Dec.{eqb, leb, ltb}
 use lib.ListN.{length, get_or, take, drop, length-drop}
 use lib.Seq.{drop-cons, take_all}
-use borrow.Author.Tests.{lt-ltb, le-ltb, leb-true}
+use borrow.Author.Tests.{ne_eqb, lt-ltb, le-ltb, leb-true}
 use Rattle.laws.specs.Choice.{pick}
 use Rattle.laws.proofs.Choice.{both_first, both_second}
 use Rattle.replay_text.specs.Bytes.{space, digit_zero}
 use Rattle.replay_lines.specs.Bytes.{digit_nine}
-use Rattle.replay_lines.specs.Number.{number_limit, is_digit, appended, read_digits, read_number, one_byte_more, read_field}
+use Rattle.replay_lines.specs.Number.{number_limit, is_digit, appended, read_digits, found, read_number, one_byte_more, read_field}
 use Rattle.replay_lines.specs.declared.number.Number.{Number}
-use Rattle.replay_lines.specs.declared.number.Number.TheVariants.{Found, Absent}
 
 -- the part of a slice from `at` to its end
 pub rest_of : (at : ℕ) (text : List ℕ) → take (length text - at) (drop at text) ≡ drop at text
@@ -39,38 +40,53 @@ module _ (byte : ℕ) (digit : is_digit byte ≡ true) where
   unfolding is_digit
   digit_high = leb-true byte digit_nine (both_second (leb digit_zero byte) (leb byte digit_nine) digit)
 
--- the digits from `at` on: the text ends, a byte is no digit, the number becomes too large, or goes on
-pub digits_end : (value at : ℕ) (text : List ℕ) → length text ≤ at → read_digits value at (drop at text) ≡ Found value at
+-- the digits from a place on: the text ends, a byte is no digit, the number becomes too large, or goes on
+pub digits_end : (value length' place : ℕ) (text : List ℕ) → length text ≤ place → read_digits value length' (drop place text) ≡ found value length'
 unfolding read_digits
-digits_end value at text past = rw (lib.ListN.drop_of_length-le text past)
+digits_end value length' place text past = rw (lib.ListN.drop_of_length-le text past)
 
-module _ (value at : ℕ) (text : List ℕ) (inside : at < length text) where
-  pub digits_stop : is_digit (get_or text at 0) ≡ false → read_digits value at (drop at text) ≡ Found value at
+module _ (value length' place : ℕ) (text : List ℕ) (inside : place < length text) where
+  pub digits_stop : is_digit (get_or text place 0) ≡ false → read_digits value length' (drop place text) ≡ found value length'
   unfolding read_digits
-  digits_stop other = rw (drop-cons text at 0) (simp other)
+  digits_stop other = rw (drop-cons text place 0) (simp other)
 
-  module _ (digit : is_digit (get_or text at 0) ≡ true) where
-    pub digits_over : number_limit < appended value (get_or text at 0) → read_digits value at (drop at text) ≡ Absent
+  module _ (digit : is_digit (get_or text place 0) ≡ true) where
+    pub digits_over : number_limit < appended value (get_or text place 0) → read_digits value length' (drop place text) ≡ None
     unfolding read_digits
-    digits_over over = rw (drop-cons text at 0) (simp (digit, lt-ltb _ _ over))
+    digits_over over = rw (drop-cons text place 0) (simp (digit, lt-ltb _ _ over))
 
-    pub digits_more : appended value (get_or text at 0) ≤ number_limit
-        → read_digits value at (drop at text) ≡ read_digits (appended value (get_or text at 0)) (at + 1) (drop (at + 1) text)
+    pub digits_more : appended value (get_or text place 0) ≤ number_limit
+        → read_digits value length' (drop place text) ≡ read_digits (appended value (get_or text place 0)) (length' + 1) (drop (place + 1) text)
     unfolding read_digits
-    digits_more fits = rw (drop-cons text at 0, add-one) (simp (digit, le-ltb _ _ fits))
+    digits_more fits = rw (drop-cons text place 0, add-one place) (simp (digit, le-ltb _ _ fits))
+
+-- a digit, as the code tests it
+pub tested : (byte : ℕ) {answer : Bool} → is_ascii_digit byte ≡ answer → is_digit byte ≡ answer
+unfolding is_digit
+tested byte same = same
+
+-- a number that begins with this byte, as the code tests it
+module _ {first : ℕ} {rest text : List ℕ} (parted : text ≡ first ∷ rest) (some : first ≡ digit_zero → ⊥) where
+  pub number_none : is_ascii_digit first ≡ false → None ≡ read_number text
+  unfolding read_number is_digit
+  number_none other = rw parted (simp (ne_eqb first digit_zero some, other) refl)
+
+  pub number_more : is_ascii_digit first ≡ true → read_digits (first - digit_zero) 1 rest ≡ read_number text
+  unfolding read_number is_digit
+  number_more digit = rw parted (simp (ne_eqb first digit_zero some, digit) refl)
 
 -- how many bytes a number takes
-abbrev pub size : Number → ℕ
-size (Found value length) = length
-size Absent = 0
+abbrev pub size : Option Number → ℕ
+size (Some number) = number.length
+size None = 0
 
-pub size_pick : (test : Bool) (a b : Number) (n : ℕ) → size a ≤ n → size b ≤ n → size (pick test a b) ≤ n
+pub size_pick : (test : Bool) (a b : Option Number) (n : ℕ) → size a ≤ n → size b ≤ n → size (pick test a b) ≤ n
 size_pick true a b n first second = first
 size_pick false a b n first second = second
 
-pub size_more : (number : Number) (n : ℕ) → size number ≤ n → size (one_byte_more number) ≤ suc n
-size_more (Found value length) n h = omega arith
-size_more Absent n h = omega arith
+pub size_more : (number : Option Number) (n : ℕ) → size number ≤ n → size (one_byte_more number) ≤ suc n
+size_more (Some number) n h = omega arith
+size_more None n h = omega arith
 
 digits_within : (value at : ℕ) (text : List ℕ) → size (read_digits value at text) ≤ at + length text
 unfolding read_digits
@@ -94,5 +110,5 @@ field_within (byte ∷ text) =
     size_pick (eqb byte space) _ _ (suc (length text)) (size_more (read_number text) (length text) (number_within text)) (omega arith)
 
 -- a number that was found at the start of a text lies within it
-pub found_within : {number definition : Number} {value n m : ℕ} → number ≡ Found value n → number ≡ definition → size definition ≤ m → n ≤ m
-found_within found defined within = omega (arith, ap size (sym found ∙ defined), within)
+pub found_within : {number : Number} {read : Option Number} {m : ℕ} → Some number ≡ read → size read ≤ m → number.length ≤ m
+found_within same within = omega (arith, ap size same, within)

@@ -1,21 +1,23 @@
--- The end of the first line, looked for from byte to byte.
-use Prim.Native.Nat.{ℕ, zero, suc, ◌+◌, ◌≤◌, ◌<◌}
-use mathlib.Core.Path.{◌≡◌, refl, ap, ◌∙◌}
-use mathlib.Core.List.{List}
-use native.Mathlib.Numerals.{add-one}
+-- The end of the first line, from where the first newline stands.
+use Prim.Native.Nat.{ℕ, zero, suc, ◌+◌}
+use mathlib.Core.Path.{◌≡◌, refl, sym, ◌∙◌}
+use mathlib.Core.Bool.{Bool}
+use mathlib.Core.List.{List, [], ◌∷◌}
 use native.Mathlib.Omega.{arith}
-use lib.ListN.{length, get_or, drop}
-use lib.Seq.{drop-cons}
-use borrow.Author.Tests.{eq-eqb, ne_eqb}
+use lib.Dec.{eqb}
+use Rattle.std.specs.Prelude.{Option, Some, None, position}
+use Rattle.std.specs.List.{position_from}
+use Rattle.std.proofs.lemmas.Iterator.Adapters.{position_from-zero}
+use Rattle.laws.proofs.Choice.{split}
 use Rattle.replay_text.specs.Bytes.{newline}
 use Rattle.replay_lines.specs.Cutting.{line_end, one_further}
 
 -- an end that is found from `at` on, counted from the start
-abbrev pub counted_from : ℕ → ℕ → ℕ
+abbrev counted_from : ℕ → ℕ → ℕ
 counted_from at zero = 0
 counted_from at (suc n) = at + suc n
 
-pub counted_first : (n : ℕ) → n ≡ counted_from 0 n
+counted_first : (n : ℕ) → counted_from 0 n ≡ n
 counted_first zero = refl
 counted_first (suc n) = omega arith
 
@@ -23,18 +25,20 @@ counted_further : (at n : ℕ) → counted_from at (one_further n) ≡ counted_f
 counted_further at zero = refl
 counted_further at (suc n) = omega arith
 
-pub end_none : (at : ℕ) (input : List ℕ) → length input ≤ at → counted_from at (line_end (drop at input)) ≡ 0
+-- the place behind a byte
+abbrev behind : Option ℕ → ℕ
+behind (Some at) = at + 1
+behind None = 0
+
+abbrev is_newline : ℕ → Bool
+is_newline byte = eqb byte newline
+
+end_from : (at : ℕ) (input : List ℕ) → behind (position_from is_newline at input) ≡ counted_from at (line_end input)
 unfolding line_end
-end_none at input past = rw (lib.ListN.drop_of_length-le input past)
+end_from at [] = refl
+end_from at (byte ∷ input) =
+    split (is_newline byte) (λ here. rw here refl)
+    (λ later. rw later (end_from (at + 1) input ∙ sym (counted_further at (line_end input))))
 
-module _ (at : ℕ) (input : List ℕ) (inside : at < length input) where
-  pub end_here : get_or input at 0 ≡ newline → counted_from at (line_end (drop at input)) ≡ at + 1
-  unfolding line_end
-  end_here found = rw (drop-cons input at 0) (simp (eq-eqb _ _ found))
-
-  end_further : (get_or input at 0 ≡ newline → ⊥) → line_end (drop at input) ≡ one_further (line_end (drop (at + 1) input))
-  unfolding line_end
-  end_further other = rw (drop-cons input at 0, add-one) (simp (ne_eqb _ _ other))
-
-  pub end_later : (get_or input at 0 ≡ newline → ⊥) → counted_from at (line_end (drop at input)) ≡ counted_from (at + 1) (line_end (drop (at + 1) input))
-  end_later other = ap (counted_from at) (end_further other) ∙ counted_further at (line_end (drop (at + 1) input))
+pub end_position : (input : List ℕ) (place : Option ℕ) → place ≡ position is_newline input → behind place ≡ line_end input
+end_position input place found = rw (found, position_from-zero is_newline input) (end_from 0 input ∙ counted_first (line_end input))

@@ -6,6 +6,7 @@ use mathlib.Core.Bool.{Bool, true, false}
 use mathlib.Core.List.{List, [], ◌∷◌, ◌++◌}
 use native.Mathlib.Omega.{arith}
 use native.Mathlib.Numerals.{add-one}
+use Rattle.std.specs.Prelude.{Option, Some, None, unwrap_or, option_and_then}
 use lib.Dec.{eqb, ltb}
 use lib.ListN.{length, drop}
 use lib.Seq.{drop-append_seam}
@@ -17,16 +18,15 @@ use Rattle.replay_text.specs.Bytes.{newline, space}
 use Rattle.replay_lines.specs.Bytes.{letter_C, letter_L, letter_S, letter_V}
 use Rattle.replay_lines.specs.Number.{number_limit, is_digit, read_number, one_byte_more, read_field}
 use Rattle.replay_lines.specs.Grammar.{number_then, field_then, end_line, read_step, timed_wait, read_begin_limit, read_begin_object, read_begin}
-use Rattle.replay_lines.specs.Grammar.{read_header_reserved, read_header_objects, read_header, header_or_bad, operation_of, read_line}
+use Rattle.replay_lines.specs.Grammar.{read_header_reserved, read_header_objects, read_header, header_or_bad, operation_of, read_event, read_line}
 use Rattle.replay_lines.specs.LineText.{spaced, line_break, Letter, Writes}
 use Rattle.replay_lines.specs.declared.number.Number.{Number}
-use Rattle.replay_lines.specs.declared.number.Number.TheVariants.{Found, Absent}
 use Rattle.replay_lines.specs.declared.reading.Line.{Line}
 use Rattle.replay_lines.specs.declared.reading.Line.TheVariants.{Header, Begin, Step, Tick, BadHeader, Malformed}
 use Rattle.replay_lines.proofs.Decimal.{NoDigit, number_read, Starts, number_starts}
 
 -- a field that is written is read, up to what stands behind it
-field_read : (number : ℕ) (rest : List ℕ) (next : ℕ → List ℕ → Line) → number ≤ number_limit → NoDigit rest
+field_read : (number : ℕ) (rest : List ℕ) (next : ℕ → List ℕ → Option Line) → number ≤ number_limit → NoDigit rest
     → field_then (spaced number rest) next ≡ next number rest
 unfolding read_field
 field_read number rest next fits none =
@@ -40,44 +40,43 @@ no_digit_break : NoDigit line_break
 unfolding is_digit
 no_digit_break = refl
 
-end_read : (line : Line) → end_line line_break line ≡ line
+end_read : (line : Line) → end_line line_break line ≡ Some line
 unfolding end_line
 end_read line = refl
 
-step_read : (thread : ℕ) → thread ≤ number_limit → read_step (spaced thread line_break) ≡ Step thread
+step_read : (thread : ℕ) → thread ≤ number_limit → read_step (spaced thread line_break) ≡ Some (Step thread)
 unfolding read_step
 step_read thread fits = field_read thread line_break _ fits no_digit_break ∙ end_read (Step thread)
 
 -- thread and object of any operation, up to what stands behind them
-begin_read : (operation thread object : ℕ) (rest : List ℕ) → eqb operation 0 ≡ false → thread ≤ number_limit → object ≤ number_limit → NoDigit rest
+begin_read : (operation thread object : ℕ) (rest : List ℕ) → thread ≤ number_limit → object ≤ number_limit → NoDigit rest
     → read_begin operation (spaced thread (spaced object rest)) ≡ read_begin_limit operation thread object rest
 unfolding read_begin read_begin_object
-begin_read operation thread object rest some fits fits' none =
-    rw some
-    (field_read thread (spaced object rest) (read_begin_object operation) fits (no_digit_space (decimal object ++ rest))
-    ∙ field_read object rest (read_begin_limit operation thread) fits' none)
+begin_read operation thread object rest fits fits' none =
+    field_read thread (spaced object rest) (read_begin_object operation) fits (no_digit_space (decimal object ++ rest))
+    ∙ field_read object rest (read_begin_limit operation thread) fits' none
 
-plain_read : (operation thread object : ℕ) → eqb operation 0 ≡ false → eqb operation timed_wait ≡ false → thread ≤ number_limit → object ≤ number_limit
-    → read_begin operation (spaced thread (spaced object line_break)) ≡ Begin operation thread object 0
+plain_read : (operation thread object : ℕ) → eqb operation timed_wait ≡ false → thread ≤ number_limit → object ≤ number_limit
+    → read_begin operation (spaced thread (spaced object line_break)) ≡ Some (Begin operation thread object 0)
 unfolding read_begin_limit
-plain_read operation thread object some plain fits fits' =
-    begin_read operation thread object line_break some fits fits' no_digit_break ∙ rw plain (end_read (Begin operation thread object 0))
+plain_read operation thread object plain fits fits' =
+    begin_read operation thread object line_break fits fits' no_digit_break ∙ rw plain (end_read (Begin operation thread object 0))
 
 timed_read : (thread object limit : ℕ) → thread ≤ number_limit → object ≤ number_limit → limit ≤ number_limit
-    → read_begin timed_wait (spaced thread (spaced object (spaced limit line_break))) ≡ Begin timed_wait thread object limit
+    → read_begin timed_wait (spaced thread (spaced object (spaced limit line_break))) ≡ Some (Begin timed_wait thread object limit)
 unfolding read_begin_limit
 timed_read thread object limit fits fits' fits'' =
-    begin_read timed_wait thread object (spaced limit line_break) refl fits fits' (no_digit_space (decimal limit ++ line_break))
+    begin_read timed_wait thread object (spaced limit line_break) fits fits' (no_digit_space (decimal limit ++ line_break))
     ∙ field_read limit line_break _ fits'' no_digit_break ∙ end_read (Begin timed_wait thread object limit)
 
 header_reserved_read : (threads objects : ℕ) (reserved : Bool)
-    → read_header_reserved threads objects (spaced (one_if reserved) line_break) ≡ Header threads objects reserved
+    → read_header_reserved threads objects (spaced (one_if reserved) line_break) ≡ Some (Header threads objects reserved)
 unfolding read_header_reserved
 header_reserved_read threads objects true = field_read 1 line_break _ (omega arith) no_digit_break ∙ end_read (Header threads objects true)
 header_reserved_read threads objects false = field_read 0 line_break _ (omega arith) no_digit_break ∙ end_read (Header threads objects false)
 
 header_read : (threads objects : ℕ) (reserved : Bool) → threads ≤ number_limit → objects ≤ number_limit
-    → read_header (spaced threads (spaced objects (spaced (one_if reserved) line_break))) ≡ Header threads objects reserved
+    → read_header (spaced threads (spaced objects (spaced (one_if reserved) line_break))) ≡ Some (Header threads objects reserved)
 unfolding read_header read_header_objects
 header_read threads objects reserved fits fits' =
     let last = spaced (one_if reserved) line_break in
@@ -85,29 +84,32 @@ header_read threads objects reserved fits fits' =
     ∙ field_read objects last (read_header_reserved threads) fits' (no_digit_space (decimal (one_if reserved) ++ line_break))
     ∙ header_reserved_read threads objects reserved
 
+or_malformed : {read : Option Line} {line : Line} → read ≡ Some line → unwrap_or read Malformed ≡ line
+or_malformed same = ap (λ read. unwrap_or read Malformed) same
+
 -- EACH LINE OF DOCUMENT 01 AND REQUEST L1 IS READ
 pub written_read : {line : Line} {text : List ℕ} → Writes line text → read_line text ≡ line
 unfolding read_line operation_of header_or_bad
 written_read (Writes.header {threads} {objects} {reserved} fits fits') = ap header_or_bad (header_read threads objects reserved fits fits')
-written_read (Writes.begin {thread = thread} {object} Letter.enter fits fits') = plain_read 1 thread object refl refl fits fits'
-written_read (Writes.begin {thread = thread} {object} Letter.exit fits fits') = plain_read 2 thread object refl refl fits fits'
-written_read (Writes.begin {thread = thread} {object} Letter.wait fits fits') = plain_read 3 thread object refl refl fits fits'
-written_read (Writes.begin {thread = thread} {object} Letter.notify fits fits') = plain_read 4 thread object refl refl fits fits'
-written_read (Writes.begin {thread = thread} {object} Letter.notify_all fits fits') = plain_read 5 thread object refl refl fits fits'
-written_read (Writes.timed_wait {thread} {object} {limit} fits fits' fits'') = timed_read thread object limit fits fits' fits''
-written_read (Writes.step {thread} fits) = step_read thread fits
-written_read Writes.tick = end_read Tick
+written_read (Writes.begin {thread = thread} {object} Letter.enter fits fits') = or_malformed (plain_read 1 thread object refl fits fits')
+written_read (Writes.begin {thread = thread} {object} Letter.exit fits fits') = or_malformed (plain_read 2 thread object refl fits fits')
+written_read (Writes.begin {thread = thread} {object} Letter.wait fits fits') = or_malformed (plain_read 3 thread object refl fits fits')
+written_read (Writes.begin {thread = thread} {object} Letter.notify fits fits') = or_malformed (plain_read 4 thread object refl fits fits')
+written_read (Writes.begin {thread = thread} {object} Letter.notify_all fits fits') = or_malformed (plain_read 5 thread object refl fits fits')
+written_read (Writes.timed_wait {thread} {object} {limit} fits fits' fits'') = or_malformed (timed_read thread object limit fits fits' fits'')
+written_read (Writes.step {thread} fits) = or_malformed (step_read thread fits)
+written_read Writes.tick = or_malformed (end_read Tick)
 
--- what is read of a field is written there: what holds of malformed lines and behind each written field holds behind the field
-number_form : (number : Number) (byte : ℕ) (text : List ℕ) (next : ℕ → List ℕ → Line) (P : Line → Type 0) → byte ≡ space → Starts text number
-    → P Malformed → ((value : ℕ) (rest : List ℕ) → value ≤ number_limit → byte ∷ text ≡ spaced value rest → P (next value rest))
+-- what is read of a field is written there: what holds where there is no line and behind each written field holds behind the field
+number_form : (number : Option Number) (byte : ℕ) (text : List ℕ) (next : ℕ → List ℕ → Option Line) (P : Option Line → Type 0) → byte ≡ space
+    → Starts text number → P None → ((value : ℕ) (rest : List ℕ) → value ≤ number_limit → byte ∷ text ≡ spaced value rest → P (next value rest))
     → P (number_then (one_byte_more number) (byte ∷ text) next)
-number_form (Found value end) byte text next P gap (fits, same) none some =
-    subst (λ (n : ℕ). P (next value (drop n (byte ∷ text)))) (sym (add-one end))
-    (some value (drop end text) fits (ap (λ (x : ℕ). x ∷ text) gap ∙ ap (λ (x : List ℕ). space ∷ x) same))
-number_form Absent byte text next P gap starts none some = none
+number_form (Some number) byte text next P gap (fits, same) none some =
+    subst (λ (n : ℕ). P (next number.value (drop n (byte ∷ text)))) (sym (add-one number.length))
+    (some number.value (drop number.length text) fits (ap (λ (x : ℕ). x ∷ text) gap ∙ ap (λ (x : List ℕ). space ∷ x) same))
+number_form None byte text next P gap starts none some = none
 
-field_form : (text : List ℕ) (next : ℕ → List ℕ → Line) (P : Line → Type 0) → P Malformed
+field_form : (text : List ℕ) (next : ℕ → List ℕ → Option Line) (P : Option Line → Type 0) → P None
     → ((value : ℕ) (rest : List ℕ) → value ≤ number_limit → text ≡ spaced value rest → P (next value rest)) → P (field_then text next)
 unfolding read_field
 field_form [] next P none some = none
@@ -116,18 +118,19 @@ field_form (byte ∷ text) next P none some =
     (λ gap. number_form (read_number text) byte text next P (eqb-true byte space gap) (number_starts text) none some)
     (λ other. none)
 
-end_form : (text : List ℕ) (line : Line) (P : Line → Type 0) → P Malformed → (text ≡ line_break → P line) → P (end_line text line)
+end_form : (text : List ℕ) (line : Line) (P : Option Line → Type 0) → P None → (text ≡ line_break → P (Some line)) → P (end_line text line)
 unfolding end_line
 end_form [] line P none some = none
 end_form (byte ∷ []) line P none some = by_test P (eqb byte newline) (λ last. some (ap (λ (x : ℕ). x ∷ []) (eqb-true byte newline last))) (λ other. none)
 end_form (byte ∷ more ∷ text) line P none some = none
 
--- no line of a form, or written like this
+-- no line of a form, or written like this; and the same of a reader
 abbrev pub Says : Line → List ℕ → Line → Type 0
 Says none text line = (line ≡ none) ⊎ Writes line text
 
-abbrev Form : List ℕ → Line → Type 0
-Form text line = Says Malformed text line
+abbrev Form : List ℕ → Option Line → Type 0
+Form text (Some line) = Writes line text
+Form text None = Unit
 
 -- the letters that begin an operation: those with no limit, and that of the timed wait
 data Opens : ℕ → ℕ → Type 0 where
@@ -146,42 +149,46 @@ limit_form : {operation letter : ℕ} (text : List ℕ) (thread object : ℕ) (r
 unfolding read_begin_limit
 limit_form {operation} {letter} text thread object rest (Opens.plain named) fits fits' same =
     rw (no_limit named)
-    (end_form rest (Begin operation thread object 0) (Form (letter ∷ text)) (inl refl) (λ last.
+    (end_form rest (Begin operation thread object 0) (Form (letter ∷ text)) tt (λ last.
     let whole = same ∙ ap (λ (x : List ℕ). spaced thread (spaced object x)) last in
-    inr (subst (λ (x : List ℕ). Writes (Begin operation thread object 0) (letter ∷ x)) (sym whole) (Writes.begin named fits fits'))))
+    subst (λ (x : List ℕ). Writes (Begin operation thread object 0) (letter ∷ x)) (sym whole) (Writes.begin named fits fits')))
 limit_form text thread object rest Opens.timed fits fits' same =
-    field_form rest _ (Form (letter_V ∷ text)) (inl refl) (λ limit end fits'' third.
-    end_form end (Begin timed_wait thread object limit) (Form (letter_V ∷ text)) (inl refl) (λ last.
+    field_form rest _ (Form (letter_V ∷ text)) tt (λ limit end fits'' third.
+    end_form end (Begin timed_wait thread object limit) (Form (letter_V ∷ text)) tt (λ last.
     let whole = same ∙ ap (λ (x : List ℕ). spaced thread (spaced object x)) (third ∙ ap (spaced limit) last) in
-    inr (subst (λ (x : List ℕ). Writes (Begin timed_wait thread object limit) (letter_V ∷ x)) (sym whole) (Writes.timed_wait fits fits' fits''))))
+    subst (λ (x : List ℕ). Writes (Begin timed_wait thread object limit) (letter_V ∷ x)) (sym whole) (Writes.timed_wait fits fits' fits'')))
+
+-- an operation's number, if the letter has one
+abbrev Named : ℕ → Option ℕ → Type 0
+Named letter (Some operation) = Opens operation letter
+Named letter None = Unit
 
 module _ (letter : ℕ) (text : List ℕ) where
   tick_form : letter ≡ letter_C → Form (letter ∷ text) (end_line text Tick)
   tick_form same =
-      end_form text Tick (Form (letter ∷ text)) (inl refl) (λ last.
+      end_form text Tick (Form (letter ∷ text)) tt (λ last.
       let whole : letter ∷ text ≡ letter_C ∷ line_break = ap (λ (x : ℕ). x ∷ text) same ∙ ap (λ (x : List ℕ). letter_C ∷ x) last in
-      inr (subst (λ (x : List ℕ). Writes Tick x) (sym whole) Writes.tick))
+      subst (λ (x : List ℕ). Writes Tick x) (sym whole) Writes.tick)
 
   step_form : letter ≡ letter_S → Form (letter ∷ text) (read_step text)
   unfolding read_step
   step_form same =
-      field_form text _ (Form (letter ∷ text)) (inl refl) (λ thread rest fits first.
-      end_form rest (Step thread) (Form (letter ∷ text)) (inl refl) (λ last.
+      field_form text _ (Form (letter ∷ text)) tt (λ thread rest fits first.
+      end_form rest (Step thread) (Form (letter ∷ text)) tt (λ last.
       let whole : letter ∷ text ≡ letter_S ∷ spaced thread line_break =
       ap (λ (x : ℕ). x ∷ text) same ∙ ap (λ (x : List ℕ). letter_S ∷ x) (first ∙ ap (spaced thread) last) in
-      inr (subst (λ (x : List ℕ). Writes (Step thread) x) (sym whole) (Writes.step fits))))
+      subst (λ (x : List ℕ). Writes (Step thread) x) (sym whole) (Writes.step fits)))
 
-  begin_form : (operation : ℕ) → (operation ≡ 0) ⊎ Opens operation letter → Form (letter ∷ text) (read_begin operation text)
+  begin_form : (operation : Option ℕ) → Named letter operation → Form (letter ∷ text) (option_and_then (λ number. read_begin number text) operation)
   unfolding read_begin read_begin_object
-  begin_form operation (inl none) = rw none (inl refl)
-  begin_form operation (inr opens) =
-      by_test (Form (letter ∷ text)) (eqb operation 0) (λ zero_number. inl refl)
-      (λ some. field_form text _ (Form (letter ∷ text)) (inl refl) (λ thread rest fits first.
-      field_form rest _ (Form (letter ∷ text)) (inl refl) (λ object end fits' second.
-      limit_form text thread object end opens fits fits' (first ∙ ap (spaced thread) second))))
+  begin_form None none = tt
+  begin_form (Some operation) opens =
+      field_form text _ (Form (letter ∷ text)) tt (λ thread rest fits first.
+      field_form rest _ (Form (letter ∷ text)) tt (λ object end fits' second.
+      limit_form text thread object end opens fits fits' (first ∙ ap (spaced thread) second)))
 
   -- a header that is not of its form is a bad one
-  abbrev Headed : Line → Type 0
+  abbrev Headed : Option Line → Type 0
   Headed line = Says BadHeader (letter ∷ text) (header_or_bad line)
 
   header_form : letter ≡ letter_L → Headed (read_header text)
@@ -204,20 +211,27 @@ module _ (letter : ℕ) (text : List ℕ) where
       one_bit (suc zero) small = refl
       one_bit (suc (suc r)) small = absurd (omega arith)
 
-letter_form : (letter : ℕ) → (operation_of letter ≡ 0) ⊎ Opens (operation_of letter) letter
+letter_form : (letter : ℕ) → Named letter (operation_of letter)
 unfolding operation_of
 letter_form letter =
-    named (Opens.plain Letter.enter)
-    (named (Opens.plain Letter.exit)
-    (named (Opens.plain Letter.wait)
-    (named (Opens.plain Letter.notify)
-    (named (Opens.plain Letter.notify_all) (named Opens.timed (let none : (0 ≡ 0) ⊎ Opens 0 letter = inl refl in none))))))
+    named _ (Opens.plain Letter.enter)
+    (named _ (Opens.plain Letter.exit)
+    (named _ (Opens.plain Letter.wait) (named _ (Opens.plain Letter.notify) (named _ (Opens.plain Letter.notify_all) (named None Opens.timed tt)))))
   where
-    named : {operation byte other : ℕ} → Opens operation byte → (other ≡ 0) ⊎ Opens other letter
-        → (pick (eqb letter byte) operation other ≡ 0) ⊎ Opens (pick (eqb letter byte) operation other) letter
-    named {operation} {byte} is rest =
-        by_test (λ n. (n ≡ 0) ⊎ Opens n letter) (eqb letter byte)
-        (λ same. inr (subst (λ (l : ℕ). Opens operation l) (sym (eqb-true letter byte same)) is)) (λ away. rest)
+    named : {operation byte : ℕ} (other : Option ℕ) → Opens operation byte → Named letter other
+        → Named letter (pick (eqb letter byte) (Some operation) other)
+    named {operation} {byte} other is rest =
+        by_test (Named letter) (eqb letter byte) (λ same. subst (λ (l : ℕ). Opens operation l) (sym (eqb-true letter byte same)) is) (λ away. rest)
+
+event_form : (letter : ℕ) (text : List ℕ) → Form (letter ∷ text) (read_event letter text)
+event_form letter text =
+    by_test (Form (letter ∷ text)) (eqb letter letter_S) (λ same. step_form letter text (eqb-true letter letter_S same))
+    (λ away. by_test (Form (letter ∷ text)) (eqb letter letter_C) (λ same. tick_form letter text (eqb-true letter letter_C same))
+    (λ none. begin_form letter text (operation_of letter) (letter_form letter)))
+
+said : (text : List ℕ) (read : Option Line) → Form text read → Says Malformed text (unwrap_or read Malformed)
+said text (Some line) written = inr written
+said text None none = inl refl
 
 -- A LINE THAT IS READ IS ONE OF DOCUMENT 01 OR REQUEST L1; a bad header begins with L, and other malformed lines do not
 pub read_written : (letter : ℕ) (text : List ℕ) → Says (pick (eqb letter letter_L) BadHeader Malformed) (letter ∷ text) (read_line (letter ∷ text))
@@ -225,7 +239,4 @@ unfolding read_line
 read_written letter text =
     split (eqb letter letter_L)
     (λ same. rw same (rw (eqb-true letter letter_L same) (header_form letter_L text refl)))
-    (λ other. rw other
-    (by_test (Form (letter ∷ text)) (eqb letter letter_S) (λ same. step_form letter text (eqb-true letter letter_S same))
-    (λ away. by_test (Form (letter ∷ text)) (eqb letter letter_C) (λ same. tick_form letter text (eqb-true letter letter_C same))
-    (λ none. begin_form letter text (operation_of letter) (letter_form letter)))))
+    (λ other. rw other (said (letter ∷ text) (read_event letter text) (event_form letter text)))

@@ -10,7 +10,6 @@
 // Each reader gets the part of the line that starts where it reads, and hands on the part behind what it has read.
 #![tactic(auto)]
 
-mod bytes;
 mod cutting;
 mod number;
 mod reading;

@@ -1,16 +1,15 @@
-// What a line says. The letter picks the reader; each reader takes one field and hands the rest to the next.
+// What a line says. The letter picks the reader; each reader takes its fields one behind the other, and the end of the line.
 ghost use Rattle.std.specs.Prelude.{◌≡◌};
-ghost use Rattle.replay_lines.specs.Grammar.{end_line, read_step, read_begin, read_begin_object, read_begin_limit, read_header, read_header_objects, read_header_reserved, header_or_bad, is_header, operation_of, read_line};
+ghost use Rattle.replay_lines.specs.Grammar.{end_line, read_step, read_event, read_begin, read_begin_object, read_begin_limit, read_header, read_header_objects, read_header_reserved, is_header, operation_of, read_line};
 
-use crate::bytes::{
-    LETTER_A, LETTER_C, LETTER_E, LETTER_L, LETTER_N, LETTER_S, LETTER_V, LETTER_W, LETTER_X,
-};
-use crate::number::{Number, read_field};
+use crate::number::read_field;
 use replay_text::NEWLINE;
 
 // The number of the one operation that has a limit.
 const TIMED_WAIT: u8 = 6;
 
+// What both programs are told of a line. One of no form is a line too, of two kinds: the report counts the one and takes the other for a
+// header, and the laws of both programs name them (`header_begins`, `long_line`). The readers of forms below give an `Option`.
 #[derive(Clone, Copy)]
 pub enum Line {
     Header {
@@ -38,153 +37,110 @@ pub enum Line {
 
 // The line, if the newline is all that is left of its text.
 #[tactic(auto, using(crate::proofs::Grammar::end_other, crate::proofs::Grammar::end_one))]
-fn end_line(text: &[u8], line: Line) -> Line
+fn end_line(text: &[u8], line: Line) -> Option<Line>
     ensures { result ≡ end_line text.now line }
 {
-    if text.len() != 1 {
-        return Line::Malformed;
+    match text {
+        [NEWLINE] => Some(line),
+        _ => None,
     }
-    if text[0] == NEWLINE {
-        return line;
-    }
-    Line::Malformed
 }
 
 // Behind S: the thread.
 #[tactic(auto, using(crate::proofs::Grammar::field_fits, crate::proofs::Grammar::field_next), unfolding(crate::specs::Grammar::read_step))]
-fn read_step(text: &[u8]) -> Line
+fn read_step(text: &[u8]) -> Option<Line>
     ensures { result ≡ read_step text.now }
 {
-    let Number::Found { value, length } = read_field(text) else {
-        return Line::Malformed;
-    };
-    end_line(&text[length..], Line::Step { thread: value })
+    let thread = read_field(text)?;
+    end_line(
+        &text[thread.length..],
+        Line::Step {
+            thread: thread.value,
+        },
+    )
 }
 
 // Behind the letter of an operation: the thread.
 #[tactic(auto, using(crate::proofs::Grammar::field_fits, crate::proofs::Grammar::field_next), unfolding(crate::specs::Grammar::read_begin))]
-fn read_begin(operation: u8, text: &[u8]) -> Line
+fn read_begin(operation: u8, text: &[u8]) -> Option<Line>
     ensures { result ≡ read_begin operation text.now }
 {
-    if operation == 0 {
-        return Line::Malformed;
-    }
-    let Number::Found { value, length } = read_field(text) else {
-        return Line::Malformed;
-    };
-    read_begin_object(operation, value, &text[length..])
+    let thread = read_field(text)?;
+    read_begin_object(operation, thread.value, &text[thread.length..])
 }
 
 // Behind the thread: the object.
 #[tactic(auto, using(crate::proofs::Grammar::field_fits, crate::proofs::Grammar::field_next), unfolding(crate::specs::Grammar::read_begin_object))]
-fn read_begin_object(operation: u8, thread: u16, text: &[u8]) -> Line
+fn read_begin_object(operation: u8, thread: u16, text: &[u8]) -> Option<Line>
     ensures { result ≡ read_begin_object operation thread text.now }
 {
-    let Number::Found { value, length } = read_field(text) else {
-        return Line::Malformed;
-    };
-    read_begin_limit(operation, thread, value, &text[length..])
+    let object = read_field(text)?;
+    read_begin_limit(operation, thread, object.value, &text[object.length..])
 }
 
 // Behind the object: the limit of a timed wait, or the end of the line.
 #[tactic(auto, using(crate::proofs::Grammar::field_fits, crate::proofs::Grammar::field_next), unfolding(crate::specs::Grammar::read_begin_limit))]
-fn read_begin_limit(operation: u8, thread: u16, object: u16, text: &[u8]) -> Line
+fn read_begin_limit(operation: u8, thread: u16, object: u16, text: &[u8]) -> Option<Line>
     ensures { result ≡ read_begin_limit operation thread object text.now }
 {
     if operation != TIMED_WAIT {
         return end_line(
             text,
             Line::Begin {
-                operation: operation,
-                thread: thread,
-                object: object,
+                operation,
+                thread,
+                object,
                 limit: 0,
             },
         );
     }
-    let Number::Found { value, length } = read_field(text) else {
-        return Line::Malformed;
-    };
+    let limit = read_field(text)?;
     end_line(
-        &text[length..],
+        &text[limit.length..],
         Line::Begin {
-            operation: operation,
-            thread: thread,
-            object: object,
-            limit: value,
+            operation,
+            thread,
+            object,
+            limit: limit.value,
         },
     )
 }
 
 // Behind L: how many threads.
 #[tactic(auto, using(crate::proofs::Grammar::field_fits, crate::proofs::Grammar::field_next), unfolding(crate::specs::Grammar::read_header))]
-fn read_header(text: &[u8]) -> Line
+fn read_header(text: &[u8]) -> Option<Line>
     ensures { result ≡ read_header text.now }
 {
-    let Number::Found { value, length } = read_field(text) else {
-        return Line::Malformed;
-    };
-    read_header_objects(value, &text[length..])
+    let threads = read_field(text)?;
+    read_header_objects(threads.value, &text[threads.length..])
 }
 
 // Behind the threads: how many objects.
 #[tactic(auto, using(crate::proofs::Grammar::field_fits, crate::proofs::Grammar::field_next), unfolding(crate::specs::Grammar::read_header_objects))]
-fn read_header_objects(threads: u16, text: &[u8]) -> Line
+fn read_header_objects(threads: u16, text: &[u8]) -> Option<Line>
     ensures { result ≡ read_header_objects threads text.now }
 {
-    let Number::Found { value, length } = read_field(text) else {
-        return Line::Malformed;
-    };
-    read_header_reserved(threads, value, &text[length..])
+    let objects = read_field(text)?;
+    read_header_reserved(threads, objects.value, &text[objects.length..])
 }
 
 // Behind the objects: 1 for reserved words, 0 for free ones.
 #[tactic(auto, using(crate::proofs::Fields::rest_of, crate::proofs::Grammar::field_fits), unfolding(crate::specs::Grammar::read_header_reserved))]
-fn read_header_reserved(threads: u16, objects: u16, text: &[u8]) -> Line
+fn read_header_reserved(threads: u16, objects: u16, text: &[u8]) -> Option<Line>
     ensures { result ≡ read_header_reserved threads objects text.now }
 {
-    let Number::Found { value, length } = read_field(text) else {
-        return Line::Malformed;
-    };
-    if 1 < value {
-        return Line::Malformed;
+    let reserved = read_field(text)?;
+    if 1 < reserved.value {
+        return None;
     }
     end_line(
-        &text[length..],
-        Line::Header {
-            threads: threads,
-            objects: objects,
-            reserved: value == 1,
-        },
-    )
-}
-
-// What a line says that begins with L: a header, of its form or not.
-#[tactic(auto, unfolding(crate::specs::Grammar::header_or_bad))]
-fn header_or_bad(line: Line) -> Line
-    ensures { result ≡ header_or_bad line }
-{
-    match line {
+        &text[reserved.length..],
         Line::Header {
             threads,
             objects,
-            reserved,
-        } => Line::Header {
-            threads: threads,
-            objects: objects,
-            reserved: reserved,
+            reserved: reserved.value == 1,
         },
-        Line::Begin {
-            operation: _,
-            thread: _,
-            object: _,
-            limit: _,
-        } => Line::BadHeader,
-        Line::Step { thread: _ } => Line::BadHeader,
-        Line::Tick => Line::BadHeader,
-        Line::BadHeader => Line::BadHeader,
-        Line::Malformed => Line::BadHeader,
-    }
+    )
 }
 
 // Whether a line begins with L.
@@ -192,69 +148,44 @@ fn header_or_bad(line: Line) -> Line
 pub fn is_header(line: Line) -> bool
     ensures { result ≡ is_header line }
 {
-    match line {
-        Line::Header {
-            threads: _,
-            objects: _,
-            reserved: _,
-        } => true,
-        Line::Begin {
-            operation: _,
-            thread: _,
-            object: _,
-            limit: _,
-        } => false,
-        Line::Step { thread: _ } => false,
-        Line::Tick => false,
-        Line::BadHeader => true,
-        Line::Malformed => false,
+    matches!(line, Line::Header { .. } | Line::BadHeader)
+}
+
+// The number of the operation with this letter.
+#[tactic(auto, using(laws::proofs::Choice::tests), unfolding(crate::specs::Grammar::operation_of))]
+fn operation_of(letter: u8) -> Option<u8>
+    ensures { result ≡ operation_of letter }
+{
+    match letter {
+        b'E' => Some(1),
+        b'X' => Some(2),
+        b'W' => Some(3),
+        b'N' => Some(4),
+        b'A' => Some(5),
+        b'V' => Some(TIMED_WAIT),
+        _ => None,
     }
 }
 
-// The number of the operation with this letter, 0 if there is none.
-#[tactic(auto, using(laws::proofs::Choice::tests), unfolding(crate::specs::Grammar::operation_of))]
-fn operation_of(letter: u8) -> u8
-    ensures { result ≡ operation_of letter }
+// What a whole line says that does not begin with L, by its letter and the text behind it.
+fn read_event(letter: u8, text: &[u8]) -> Option<Line>
+    ensures { result ≡ read_event letter text.now }
 {
-    if letter == LETTER_E {
-        return 1;
+    match letter {
+        b'S' => read_step(text),
+        b'C' => end_line(text, Line::Tick),
+        _ => read_begin(operation_of(letter)?, text),
     }
-    if letter == LETTER_X {
-        return 2;
-    }
-    if letter == LETTER_W {
-        return 3;
-    }
-    if letter == LETTER_N {
-        return 4;
-    }
-    if letter == LETTER_A {
-        return 5;
-    }
-    if letter == LETTER_V {
-        return TIMED_WAIT;
-    }
-    0
 }
 
 // What a whole line says, its newline with it.
-#[tactic(auto, using(crate::proofs::Fields::rest_of, crate::proofs::Fields::no_bytes, crate::proofs::Fields::first_byte), unfolding(crate::specs::Grammar::read_line))]
+#[tactic(auto, unfolding(crate::specs::Grammar::read_line, crate::specs::Grammar::header_or_bad))]
 pub fn read_line(line: &[u8]) -> Line
     ensures { result ≡ read_line line.now }
 {
-    if line.len() == 0 {
-        return Line::Malformed;
+    match line {
+        [] => Line::Malformed,
+        [b'L', text @ ..] => read_header(text).unwrap_or(Line::BadHeader),
+        [letter, text @ ..] => read_event(*letter, text).unwrap_or(Line::Malformed),
     }
-    let letter = line[0];
-    let text = &line[1..];
-    if letter == LETTER_L {
-        return header_or_bad(read_header(text));
-    }
-    if letter == LETTER_S {
-        return read_step(text);
-    }
-    if letter == LETTER_C {
-        return end_line(text, Line::Tick);
-    }
-    read_begin(operation_of(letter), text)
 }

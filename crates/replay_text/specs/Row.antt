@@ -38,6 +38,12 @@ each_of figures field =
       monitor = field figures.monitor;
     }
 
+-- the five fields as a call of each figure may give them
+abbrev pub FieldsBy : (ℕ → ℕ → Type 0) → Figures → FiveFields → Type 0
+FieldsBy gives figures five =
+    gives figures.anonymous five.anonymous × gives figures.reserved five.reserved × gives figures.free five.free × gives figures.nested five.nested
+    × gives figures.monitor five.monitor
+
 abbrev pub figure_fields : Figures → FiveFields
 figure_fields figures = each_of figures (λ figure. figure)
 

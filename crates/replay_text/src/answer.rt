@@ -6,7 +6,8 @@ ghost use Rattle.replay_text.specs.Written.{Wrote, Put};
 use crate::bytes::{NEWLINE, SPACE};
 use crate::fields::{has_room, put_field, put_hexadecimal};
 
-// What the program prints of one line of its input.
+// What the program prints of one line of its input. Nothing is one of four answers, which the laws of both programs name; an `Option` of the
+// other three would not make their definitions plainer.
 #[derive(Clone, Copy)]
 pub enum Answer {
     // of a header that opens the schedule, and of what follows the end of the run
@@ -42,7 +43,7 @@ fn put_tick(out: &mut [u8], at: usize, returned: u8, unparked: u32) -> usize
     requires { at + line_room ≤ length out.old }
     ensures { Wrote out.old out.new at result (tick_line returned unparked) }
 {
-    let second = put_field(out, at, returned as u32, SPACE);
+    let second = put_field(out, at, u32::from(returned), SPACE);
     put_hexadecimal(out, second, SET_DIGITS, unparked, NEWLINE)
 }
 
@@ -60,9 +61,9 @@ fn put_fields(
     requires { at + line_room ≤ length out.old }
     ensures { Wrote out.old out.new at result (answer_line returned phase woken word unparked) }
 {
-    let second = put_field(out, at, returned as u32, SPACE);
-    let third = put_field(out, second, phase as u32, SPACE);
-    let fourth = put_field(out, third, woken as u32, SPACE);
+    let second = put_field(out, at, u32::from(returned), SPACE);
+    let third = put_field(out, second, u32::from(phase), SPACE);
+    let fourth = put_field(out, third, u32::from(woken), SPACE);
     let fifth = put_hexadecimal(out, fourth, WORD_DIGITS, word, SPACE);
     put_hexadecimal(out, fifth, SET_DIGITS, unparked, NEWLINE)
 }
@@ -75,7 +76,7 @@ fn put_line(out: &mut [u8], at: usize, answer: Answer) -> usize
 {
     match answer {
         Answer::Silent => at,
-        Answer::Alone { number } => put_field(out, at, number as u32, NEWLINE),
+        Answer::Alone { number } => put_field(out, at, u32::from(number), NEWLINE),
         Answer::Ticked { returned, unparked } => put_tick(out, at, returned, unparked),
         Answer::Accepted {
             returned,
@@ -92,8 +93,8 @@ fn put_line(out: &mut [u8], at: usize, answer: Answer) -> usize
 pub fn put_answer(out: &mut [u8], at: usize, answer: Answer) -> usize
     ensures { Put line_room out.old out.new at result (answer_text answer) }
 {
-    if has_room(LINE_ROOM, out.len(), at) {
-        return put_line(out, at, answer);
+    if !has_room(LINE_ROOM, out.len(), at) {
+        return at;
     }
-    at
+    put_line(out, at, answer)
 }

@@ -23,12 +23,10 @@ pub(crate) fn put_digits(out: &mut [u8], at: usize, base: u32, width: usize, num
     requires { (0 < base) × (base ≤ 16) × (at + width ≤ length out.old) }
     ensures { Wrote out.old out.new at result (digits base width number) }
 {
-    let mut left = width;
     let mut rest = number;
-    while 0 < left {
-        left = left - 1;
-        out[at + left] = digit_byte(rest % base);
-        rest = rest / base;
+    for place in (0..width).rev() {
+        out[at + place] = digit_byte(rest % base);
+        rest /= base;
     }
     at + width
 }
@@ -38,34 +36,18 @@ pub(crate) fn put_digits(out: &mut [u8], at: usize, base: u32, width: usize, num
 fn places(number: u32) -> usize
     ensures { result ≡ places_of number }
 {
-    if number < 10 {
-        return 1;
+    match number {
+        0..10 => 1,
+        10..100 => 2,
+        100..1_000 => 3,
+        1_000..10_000 => 4,
+        10_000..100_000 => 5,
+        100_000..1_000_000 => 6,
+        1_000_000..10_000_000 => 7,
+        10_000_000..100_000_000 => 8,
+        100_000_000..1_000_000_000 => 9,
+        _ => 10,
     }
-    if number < 100 {
-        return 2;
-    }
-    if number < 1000 {
-        return 3;
-    }
-    if number < 10000 {
-        return 4;
-    }
-    if number < 100000 {
-        return 5;
-    }
-    if number < 1000000 {
-        return 6;
-    }
-    if number < 10000000 {
-        return 7;
-    }
-    if number < 100000000 {
-        return 8;
-    }
-    if number < 1000000000 {
-        return 9;
-    }
-    10
 }
 
 // Most numbers that are printed have one digit.

@@ -13,10 +13,7 @@ const HEXADECIMAL: u32 = 16;
 pub fn has_room(room: usize, length: usize, at: usize) -> bool
     ensures { result ≡ leb (at + room) length }
 {
-    if length < room {
-        return false;
-    }
-    at <= length - room
+    room <= length && at <= length - room
 }
 
 // A number in decimal and a byte behind it.

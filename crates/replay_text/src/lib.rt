@@ -8,7 +8,8 @@
 //
 // A line is written into bytes that the caller lends, from a place on; the place behind it comes back. Where less than
 // `LINE_ROOM` bytes are left, for a row `ROW_ROOM`, nothing is written and the place itself comes back: no line is empty, so the
-// two can be told apart.
+// two can be told apart. Bytes and place travel side by side, as `put_answer` and `put_row` take them: a writer that holds both would be made
+// and taken apart again for each line.
 #![tactic(auto)]
 
 mod answer;

@@ -1,6 +1,6 @@
 // The rows that the report program prints.
 ghost use Rattle.std.specs.Prelude.{◌≡◌, ◌+◌, ◌≤◌, length};
-ghost use Rattle.replay_text.specs.Row.{figures_sum, share, remainder, figure_fields, share_fields, remainder_fields, five_limit, five_text, row_text, row_room};
+ghost use Rattle.replay_text.specs.Row.{figures_sum, share, remainder, FieldsBy, figure_fields, share_fields, remainder_fields, five_limit, five_text, row_text, row_room};
 ghost use Rattle.replay_text.specs.Written.{Wrote, Put};
 
 use crate::bytes::{NEWLINE, SPACE};
@@ -38,67 +38,61 @@ const WHOLE_SHARE: u32 = 10000;
 fn figures_sum(figures: Figures) -> u32
     ensures { result ≡ figures_sum figures }
 {
-    figures.anonymous as u32
-        + figures.reserved as u32
-        + figures.free as u32
-        + figures.nested as u32
-        + figures.monitor as u32
+    u32::from(figures.anonymous)
+        + u32::from(figures.reserved)
+        + u32::from(figures.free)
+        + u32::from(figures.nested)
+        + u32::from(figures.monitor)
 }
 
 #[tactic(auto, unfolding(crate::specs::Row::share))]
 fn share(figure: u16, sum: u32) -> u32
     ensures { result ≡ share figure sum }
 {
-    if sum == 0 {
-        return 0;
-    }
-    (WHOLE_SHARE * figure as u32) / sum
+    (WHOLE_SHARE * u32::from(figure))
+        .checked_div(sum)
+        .unwrap_or(0)
 }
 
 #[tactic(auto, unfolding(crate::specs::Row::remainder))]
 fn remainder(figure: u16, sum: u32) -> u32
     ensures { result ≡ remainder figure sum }
 {
-    if sum == 0 {
-        return 0;
+    (WHOLE_SHARE * u32::from(figure))
+        .checked_rem(sum)
+        .unwrap_or(0)
+}
+
+// A field for each of the five.
+fn each_of<F: Fn(u16) -> u32>(figures: Figures, field: F) -> FiveFields
+    requires { F.IsAlwaysCallable field }
+    ensures { FieldsBy (F.post field) figures result }
+{
+    FiveFields {
+        anonymous: field(figures.anonymous),
+        reserved: field(figures.reserved),
+        free: field(figures.free),
+        nested: field(figures.nested),
+        monitor: field(figures.monitor),
     }
-    (WHOLE_SHARE * figure as u32) % sum
 }
 
 fn figure_fields(figures: Figures) -> FiveFields
     ensures { result ≡ figure_fields figures }
 {
-    FiveFields {
-        anonymous: figures.anonymous as u32,
-        reserved: figures.reserved as u32,
-        free: figures.free as u32,
-        nested: figures.nested as u32,
-        monitor: figures.monitor as u32,
-    }
+    each_of(figures, |figure| u32::from(figure))
 }
 
 fn share_fields(figures: Figures, sum: u32) -> FiveFields
     ensures { result ≡ share_fields figures sum }
 {
-    FiveFields {
-        anonymous: share(figures.anonymous, sum),
-        reserved: share(figures.reserved, sum),
-        free: share(figures.free, sum),
-        nested: share(figures.nested, sum),
-        monitor: share(figures.monitor, sum),
-    }
+    each_of(figures, |figure| share(figure, sum))
 }
 
 fn remainder_fields(figures: Figures, sum: u32) -> FiveFields
     ensures { result ≡ remainder_fields figures sum }
 {
-    FiveFields {
-        anonymous: remainder(figures.anonymous, sum),
-        reserved: remainder(figures.reserved, sum),
-        free: remainder(figures.free, sum),
-        nested: remainder(figures.nested, sum),
-        monitor: remainder(figures.monitor, sum),
-    }
+    each_of(figures, |figure| remainder(figure, sum))
 }
 
 // Five fields, and a byte behind the last.
@@ -120,7 +114,7 @@ fn put_row_text(out: &mut [u8], at: usize, number: u8, figures: Figures) -> usiz
     ensures { Wrote out.old out.new at result (row_text number figures) }
 {
     let sum = figures_sum(figures);
-    let first = put_field(out, at, number as u32, SPACE);
+    let first = put_field(out, at, u32::from(number), SPACE);
     let shares = put_five(out, first, figure_fields(figures), SPACE);
     let remainders = put_five(out, shares, share_fields(figures, sum), SPACE);
     put_five(out, remainders, remainder_fields(figures, sum), NEWLINE)
@@ -131,8 +125,8 @@ fn put_row_text(out: &mut [u8], at: usize, number: u8, figures: Figures) -> usiz
 pub fn put_row(out: &mut [u8], at: usize, number: u8, figures: Figures) -> usize
     ensures { Put row_room out.old out.new at result (row_text number figures) }
 {
-    if has_room(ROW_ROOM, out.len(), at) {
-        return put_row_text(out, at, number, figures);
+    if !has_room(ROW_ROOM, out.len(), at) {
+        return at;
     }
-    at
+    put_row_text(out, at, number, figures)
 }

@@ -1,44 +1,42 @@
-use Rattle.std.proofs.Common.{sym, ◌∙◌, arith, get_or}
-use Rattle.replay_lines.proofs.Fields.{digit_low, digit_high, digits_end, digits_stop, digits_over, digits_more}
+use Rattle.std.proofs.Common.{ℕ, ◌+◌, ◌≡◌, sym, ap, ◌∙◌, arith, get_or, drop, length}
+use Rattle.replay_lines.specs.Number.{appended, read_digits}
+use Rattle.replay_lines.proofs.Fields.{digits_end, digits_stop, digits_over, digits_more, tested}
 use Rattle.replay_lines.proofs.number.read_digits.Goals as goal
 
-pub overflow_sub-byte : goal.overflow_sub-byte
-overflow_sub-byte c =
-    let byte = get_or c.args.text.now c.loop-length.length 0 in
-    omega (arith, digit_low byte (sym c.is_digit.ensures ∙ c.if-is_digit.true))
+pub returns-then-not-is_ascii_digit : goal.returns-then-not-is_ascii_digit
+returns-then-not-is_ascii_digit c =
+    let loop = c.loop-index in
+    sym (digits_stop loop.value (loop.index + 1) loop.index c.args.text.now c.loop-index-test.true (tested _ (sym c.if-not-is_ascii_digit.ensures.value)))
+    ∙ loop.invariant
 
-pub overflow_add-next : goal.overflow_add-next
-overflow_add-next c =
-    let byte = get_or c.args.text.now c.loop-length.length 0 in
-    omega (arith, digit_high byte (sym c.is_digit.ensures ∙ c.if-is_digit.true), c.widen.ensures, c.loop-length.invariant.in_range)
+pub returns-in_err-checked_mul : goal.returns-in_err-checked_mul
+returns-in_err-checked_mul c =
+    let loop = c.loop-index in
+    c.from_residual.ensures
+    ∙ sym (digits_over loop.value (loop.index + 1) loop.index c.args.text.now c.loop-index-test.true (tested _ (sym c.if-not-is_ascii_digit.ensures.value))
+    (omega (arith, c.in_err-checked_mul.ensures)))
+    ∙ loop.invariant
 
-pub loop-length-preserved : goal.loop-length-preserved
-loop-length-preserved c =
-    let loop = c.loop-length in
-    let text = c.args.text.now in
-    let digit = sym c.is_digit.ensures ∙ c.if-is_digit.true in
-    let fits = rw c.widen.ensures at c.if-next-gt-NUMBER_LIMIT.false in
-    record {
-      in_range = c.if-next-gt-NUMBER_LIMIT.false;
-      rest_read = rw c.widen.ensures (sym (digits_more loop.value loop.length text c.loop-length-test.true digit fits) ∙ loop.invariant.rest_read);
-    }
+pub returns-in_err-value : goal.returns-in_err-value
+returns-in_err-value c =
+    let loop = c.loop-index in
+    c.from_residual-in_err-value.ensures
+    ∙ sym (digits_over loop.value (loop.index + 1) loop.index c.args.text.now c.loop-index-test.true (tested _ (sym c.if-not-is_ascii_digit.ensures.value))
+    (omega (arith, c.in_err-value.ensures, c.from.ensures, c.in_ok-checked_mul.ensures.1)))
+    ∙ loop.invariant
 
-pub returns-then-next-gt-NUMBER_LIMIT : goal.returns-then-next-gt-NUMBER_LIMIT
-returns-then-next-gt-NUMBER_LIMIT c =
-    let loop = c.loop-length in
-    let text = c.args.text.now in
-    let digit = sym c.is_digit.ensures ∙ c.if-is_digit.true in
-    let over = rw c.widen.ensures at c.if-next-gt-NUMBER_LIMIT.true in
-    sym (digits_over loop.value loop.length text c.loop-length-test.true digit over) ∙ loop.invariant.rest_read
-
-pub returns-else-is_digit : goal.returns-else-is_digit
-returns-else-is_digit c =
-    let loop = c.loop-length in
-    let text = c.args.text.now in
-    let other = sym c.is_digit.ensures ∙ c.if-is_digit.false in
-    sym (digits_stop loop.value loop.length text c.loop-length-test.true other) ∙ loop.invariant.rest_read
+pub loop-index-preserved : goal.loop-index-preserved
+loop-index-preserved c =
+    let loop = c.loop-index in
+    let byte = get_or c.args.text.now loop.index 0 in
+    let next : c.in_ok-value.value ≡ appended loop.value byte = omega (arith, c.in_ok-value.ensures.1, c.from.ensures, c.in_ok-checked_mul.ensures.1) in
+    ap (λ (n : ℕ). read_digits n (loop.index + 1 + 1) (drop (loop.index + 1) c.args.text.now)) next
+    ∙ sym (digits_more loop.value (loop.index + 1) loop.index c.args.text.now c.loop-index-test.true (tested _ (sym c.if-not-is_ascii_digit.ensures.value))
+    (omega (arith, c.in_ok-value.ensures.0, next, c.in_ok-value.ensures.1)))
+    ∙ loop.invariant
 
 pub returns : goal.returns
 returns c =
-    let loop = c.loop-length in
-    sym (digits_end loop.value loop.length c.args.text.now c.loop-length-test.false) ∙ loop.invariant.rest_read
+    let loop = c.loop-index in
+    let all : loop.index ≡ length c.args.text.now = omega (arith, loop.auto.index-end, c.loop-index-test.false) in
+    rw (← all) (sym (digits_end loop.value (loop.index + 1) loop.index c.args.text.now c.loop-index-test.false) ∙ loop.invariant)

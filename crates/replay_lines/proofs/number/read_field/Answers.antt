@@ -1,10 +1,8 @@
-use Rattle.std.proofs.Common.{drop, arith, length-drop}
-use Rattle.replay_lines.proofs.Fields.{rest_of, number_within, found_within}
+use Rattle.std.proofs.Common.{sym, ◌∙◌, arith}
+use Rattle.replay_lines.proofs.Fields.{number_within, found_within}
 use Rattle.replay_lines.proofs.number.read_field.Goals as goal
 
 pub overflow_add-result : goal.overflow_add-result
 overflow_add-result c =
-    let text = c.args.text.now in
-    let number = rw (rest_of 1 text) at c.read_number.ensures in
-    let fits = found_within c.in-Found.is number (number_within (drop 1 text)) in
-    omega (arith, fits, length-drop 1 text, c.well_formed)
+    let fits = found_within (sym c.in_ok-number.was ∙ c.read_number.ensures) (number_within c.in_ok-first.rest.now) in
+    omega (arith, fits, c.in_ok-first.ensures.cases.1, c.well_formed)

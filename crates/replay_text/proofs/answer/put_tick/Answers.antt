@@ -4,4 +4,4 @@ use Rattle.replay_text.proofs.answer.put_tick.Goals as goal
 
 pub returns : goal.returns
 unfolding tick_line
-returns c = wrote_both c.put_field-second.ensures.wrote c.put_hexadecimal.ensures
+returns c = rw (← c.from.ensures) (wrote_both c.put_field-second.ensures.wrote c.put_hexadecimal.ensures)

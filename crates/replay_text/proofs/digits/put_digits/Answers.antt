@@ -4,20 +4,17 @@ use Rattle.replay_text.proofs.Stores.{digits_length, digits_turn, digits_done}
 use Rattle.replay_text.proofs.digits.put_digits.Goals as goal
 
 pub digit_byte-requires : goal.digit_byte-requires
-digit_byte-requires c = omega (arith, mod-lt c.loop-left.rest {m = c.args.base} c.requires.0)
+digit_byte-requires c = omega (arith, mod-lt c.loop-place.rest {m = c.args.base} c.requires.0)
 
-pub loop-left-preserved : goal.loop-left-preserved
-loop-left-preserved c =
-    let loop = c.loop-left in
-    record {
-      in_range = omega arith;
-      rest_stored = rw c.digit_byte.ensures (sym (digits_turn loop.left c.args.at c.args.base loop.rest loop.out c.loop-left-test.true) ∙ loop.invariant.rest_stored);
-    }
+pub loop-place-preserved : goal.loop-place-preserved
+loop-place-preserved c =
+    let loop = c.loop-place in
+    rw c.digit_byte.ensures (sym (digits_turn loop.place c.args.at c.args.base loop.rest loop.out c.loop-place-test.true) ∙ loop.invariant)
 
 pub returns : goal.returns
 returns c =
-    let loop = c.loop-left in
+    let loop = c.loop-place in
     record {
       place = ap (λ (n : ℕ). c.args.at + n) (sym (digits_length c.args.base c.args.width c.args.number));
-      bytes = sym (digits_done loop.left c.args.at c.args.base loop.rest loop.out c.loop-left-test.false) ∙ loop.invariant.rest_stored;
+      bytes = sym (digits_done loop.place c.args.at c.args.base loop.rest loop.out c.loop-place-test.false) ∙ loop.invariant;
     }

@@ -6,6 +6,7 @@ pub returns : goal.returns
 unfolding row_text
 returns c =
     rw (
+      ← c.from.ensures,
       ← c.figures_sum-sum.ensures,
       ← c.figure_fields.ensures,
       ← c.share_fields.ensures,
