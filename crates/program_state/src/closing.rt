@@ -15,10 +15,7 @@ fn put_report_end(out: &mut [u8], at: usize, tally: Tally) -> usize
     requires { at + report_room ≤ length out.old }
     ensures { Wrote out.old out.new at result (report_end tally) }
 {
-    if tally.printed {
-        return at;
-    }
-    if MOST_LINES < tally.lines {
+    if tally.printed || MOST_LINES < tally.lines {
         return at;
     }
     put_report(out, at, tally)
@@ -30,13 +27,9 @@ fn put_end(out: &mut [u8], at: usize, state: State) -> usize
     ensures { Wrote out.old out.new at result (closing_text state) }
 {
     if state.reporting {
-        let tally = state.tally;
-        return put_report_end(out, at, tally);
+        return put_report_end(out, at, state.tally);
     }
-    let session = state.session;
-    let reaction = closing(session);
-    let answer = reaction.answer;
-    put_answer(out, at, answer)
+    put_answer(out, at, closing(state.session).answer)
 }
 
 // What the end of the input prints, where there is room for any.
@@ -44,10 +37,10 @@ fn put_end(out: &mut [u8], at: usize, state: State) -> usize
 pub fn put_closing(out: &mut [u8], at: usize, state: State) -> usize
     ensures { Put report_room out.old out.new at result (closing_text state) }
 {
-    if has_room(REPORT_ROOM, out.len(), at) {
-        return put_end(out, at, state);
+    if !has_room(REPORT_ROOM, out.len(), at) {
+        return at;
     }
-    at
+    put_end(out, at, state)
 }
 
 // The state after it.
@@ -56,20 +49,16 @@ pub fn closed_state(state: State) -> State
     ensures { result ≡ closed_state state }
 {
     if state.reporting {
-        let tally = state.tally;
         return State {
             tally: Tally {
                 printed: true,
-                ..tally
+                ..state.tally
             },
             ..state
         };
     }
-    let session = state.session;
-    let reaction = closing(session);
-    let next = reaction.session;
     State {
-        session: next,
+        session: closing(state.session).session,
         ..state
     }
 }

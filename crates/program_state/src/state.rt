@@ -22,11 +22,9 @@ pub struct State {
 fn no_schedule() -> Session
     ensures { result ≡ no_schedule }
 {
-    let fresh = fresh_session();
-    let table = fresh.table;
     Session {
         stage: Stage::Over,
-        table: table,
+        ..fresh_session()
     }
 }
 
@@ -34,16 +32,17 @@ fn first_session(reporting: bool) -> Session
     ensures { result ≡ pick reporting no_schedule fresh_session }
 {
     if reporting {
-        return no_schedule();
+        no_schedule()
+    } else {
+        fresh_session()
     }
-    fresh_session()
 }
 
 pub fn fresh_state(reporting: bool) -> State
     ensures { result ≡ fresh_state reporting }
 {
     State {
-        reporting: reporting,
+        reporting,
         session: first_session(reporting),
         tally: fresh_tally(),
     }
@@ -57,6 +56,5 @@ pub fn state_over(state: State) -> bool
     if state.reporting {
         return MOST_LINES < state.tally.lines;
     }
-    let session = state.session;
-    session_over(session)
+    session_over(state.session)
 }

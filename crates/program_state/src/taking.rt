@@ -1,7 +1,7 @@
 // What a line does to the state, for a caller that knows whether the session's table is sound. The tally's rows are left to the caller: only an event
-// of a thread in a running session counts there, and that is carried out in place.
-ghost use Rattle.std.specs.Prelude.{◌≡◌, ltb};
-ghost use Rattle.laws.specs.Choice.{pick};
+// of a thread in a running session counts there, and that is carried out in place. So `reporting` and the tally's two numbers are passed one by one:
+// a tally handed to these functions would be copied for each line.
+ghost use Rattle.std.specs.Prelude.{◌≡◌};
 ghost use Rattle.program_state.specs.Take.{excess_answer};
 ghost use Rattle.program_state.specs.Trusting.{line_reaction, line_answer, one_further, lines_after, largest_after, runs_in_place, sound_after};
 
@@ -38,19 +38,13 @@ pub fn line_reaction(
 ) -> Reaction
     ensures { result ≡ line_reaction reporting lines stage table line issound }
 {
-    let session = Session {
-        stage: stage,
-        table: table,
-    };
-    if reporting {
-        if is_header(line) {
-            return react_trusting(fresh_session(), line, issound);
-        }
-        if lines < MOST_LINES {
-            return react_trusting(session, line, issound);
-        }
+    if reporting && is_header(line) {
+        return react_trusting(fresh_session(), line, issound);
+    }
+    let session = Session { stage, table };
+    if reporting && MOST_LINES <= lines {
         return Reaction {
-            session: session,
+            session,
             answer: Answer::Silent,
         };
     }
@@ -62,16 +56,13 @@ pub fn line_reaction(
 pub fn line_answer(reporting: bool, lines: u16, line: Line, answer: Answer) -> Answer
     ensures { result ≡ line_answer reporting lines line answer }
 {
-    if reporting {
-        if is_header(line) {
-            return Answer::Silent;
-        }
-        if lines < MOST_LINES {
-            return Answer::Silent;
-        }
-        return excess_answer(lines);
+    if !reporting {
+        return answer;
     }
-    answer
+    if is_header(line) || lines < MOST_LINES {
+        return Answer::Silent;
+    }
+    excess_answer(lines)
 }
 
 // The counter stops one line behind the most that a run may hold.
@@ -79,10 +70,7 @@ pub fn line_answer(reporting: bool, lines: u16, line: Line, answer: Answer) -> A
 fn one_further(lines: u16) -> u16
     ensures { result ≡ one_further lines }
 {
-    if lines < MOST_LINES {
-        return lines + 1;
-    }
-    MOST_LINES + 1
+    lines.min(MOST_LINES) + 1
 }
 
 // The report counts the lines that are no headers.
@@ -90,22 +78,10 @@ fn one_further(lines: u16) -> u16
 pub fn lines_after(reporting: bool, lines: u16, line: Line) -> u16
     ensures { result ≡ lines_after reporting lines line }
 {
-    if reporting {
-        if is_header(line) {
-            return lines;
-        }
+    if reporting && !is_header(line) {
         return one_further(lines);
     }
     lines
-}
-
-fn larger(first: u8, second: u8) -> u8
-    ensures { result ≡ pick (ltb first second) second first }
-{
-    if first < second {
-        return second;
-    }
-    first
 }
 
 // And keeps the most objects that a header's table has: a bad header's has none.
@@ -113,11 +89,8 @@ fn larger(first: u8, second: u8) -> u8
 pub fn largest_after(reporting: bool, largest: u8, line: Line, objects: u8) -> u8
     ensures { result ≡ largest_after reporting largest line objects }
 {
-    if reporting {
-        if is_header(line) {
-            return larger(largest, objects);
-        }
-        return largest;
+    if reporting && is_header(line) {
+        return largest.max(objects);
     }
     largest
 }
@@ -128,7 +101,7 @@ pub fn sound_after(reporting: bool, line: Line, issound: bool) -> bool
     ensures { result ≡ sound_after reporting line issound }
 {
     if reporting {
-        return issound | is_header(line);
+        return issound || is_header(line);
     }
     issound
 }
@@ -139,8 +112,5 @@ pub fn sound_after(reporting: bool, line: Line, issound: bool) -> bool
 pub fn runs_in_place(reporting: bool, lines: u16, stage: Stage, line: Line) -> bool
     ensures { result ≡ runs_in_place reporting lines stage line }
 {
-    if reporting {
-        return (lines < MOST_LINES) & runs_thread_event(stage, line);
-    }
-    runs_thread_event(stage, line)
+    (!reporting || lines < MOST_LINES) && runs_thread_event(stage, line)
 }

@@ -3,5 +3,4 @@ pub mod Turn
 pub mod Taken
 pub mod Passing
 pub mod AnySplit
-pub mod MovedDown
 pub mod Kept

@@ -27,11 +27,8 @@ fn stay(stage: Stage, table: Table, answer: Answer) -> Reaction
     ensures { result ≡ staying stage table answer }
 {
     Reaction {
-        session: Session {
-            stage: stage,
-            table: table,
-        },
-        answer: answer,
+        session: Session { stage, table },
+        answer,
     }
 }
 
@@ -62,32 +59,20 @@ fn open_by(table: Table, line: Line) -> Reaction
             objects,
             reserved,
         } => opened(fresh(sized_request(threads, objects, reserved))),
-        Line::Begin {
-            operation: _,
-            thread: _,
-            object: _,
-            limit: _,
-        } => stay(Stage::Over, table, Answer::Alone { number: MALFORMED }),
-        Line::Step { thread: _ } => stay(Stage::Over, table, Answer::Alone { number: MALFORMED }),
-        Line::Tick => stay(Stage::Over, table, Answer::Alone { number: MALFORMED }),
-        Line::BadHeader => stay(Stage::Over, table, Answer::Alone { number: MALFORMED }),
-        Line::Malformed => stay(Stage::Over, table, Answer::Alone { number: MALFORMED }),
+        _ => stay(Stage::Over, table, Answer::Alone { number: MALFORMED }),
     }
 }
 
 fn phase_of(table: Table, thread: u8) -> u8
     ensures { result ≡ phase_of table thread }
 {
-    let own = thread_at(table, thread);
-    let phase = own.phase;
-    phase_number(phase)
+    phase_number(thread_at(table, thread).phase)
 }
 
 fn word_of(table: Table, object: u8) -> u32
     ensures { result ≡ word_of table object }
 {
-    let kept = object_at(table, object);
-    kept.word
+    object_at(table, object).word
 }
 
 // Numbers from this one on are refusals, which print alone.
@@ -105,7 +90,7 @@ fn answer_from(first: u8, number: u8, accepted: Answer) -> Answer
 {
     if first <= number {
         return Answer::Alone {
-            number: number as u16,
+            number: u16::from(number),
         };
     }
     accepted
@@ -119,10 +104,10 @@ fn answer_with(number: u8, phase: u8, woken: u8, word: u32, unparked: u32) -> An
         number,
         Answer::Accepted {
             returned: number,
-            phase: phase,
-            woken: woken,
-            word: word,
-            unparked: unparked,
+            phase,
+            woken,
+            word,
+            unparked,
         },
     )
 }
@@ -135,7 +120,7 @@ fn tick_answer(number: u8, unparked: u32) -> Answer
         number,
         Answer::Ticked {
             returned: number,
-            unparked: unparked,
+            unparked,
         },
     )
 }
@@ -179,41 +164,14 @@ fn after_tick(outcome: Outcome) -> Reaction
 }
 
 // A line behind a good header.
-#[tactic(auto, unfolding(crate::specs::Trusting::run_by))]
+#[tactic(auto, unfolding(crate::specs::Trusting::run_by, crate::specs::Trusting::line_event))]
 fn run_by(table: Table, line: Line, issound: bool) -> Reaction
     ensures { result ≡ run_by table line issound }
 {
     match line {
-        Line::Header {
-            threads: _,
-            objects: _,
-            reserved: _,
-        } => stay(Stage::Running, table, Answer::Alone { number: MALFORMED }),
-        Line::Begin {
-            operation,
-            thread,
-            object,
-            limit,
-        } => event_by(
-            table,
-            Event::Begin {
-                operation: operation,
-                thread: narrow(thread as u32),
-                object: narrow(object as u32),
-                limit: limit as u32,
-            },
-            issound,
-        ),
-        Line::Step { thread } => event_by(
-            table,
-            Event::Step {
-                thread: narrow(thread as u32),
-            },
-            issound,
-        ),
+        Line::Begin { .. } | Line::Step { .. } => event_by(table, line_event(line), issound),
         Line::Tick => after_tick(handle_trusting(table, Event::Tick, issound)),
-        Line::BadHeader => stay(Stage::Running, table, Answer::Alone { number: MALFORMED }),
-        Line::Malformed => stay(Stage::Running, table, Answer::Alone { number: MALFORMED }),
+        _ => stay(Stage::Running, table, Answer::Alone { number: MALFORMED }),
     }
 }
 
@@ -233,9 +191,7 @@ fn react_by(stage: Stage, table: Table, line: Line, issound: bool) -> Reaction
 pub fn react_trusting(session: Session, line: Line, issound: bool) -> Reaction
     ensures { result ≡ react_trusting session line issound }
 {
-    let stage = session.stage;
-    let table = session.table;
-    react_by(stage, table, line, issound)
+    react_by(session.stage, session.table, line, issound)
 }
 
 // The event of a thread that a line asks for; of other lines the answer is not used.
@@ -244,28 +200,21 @@ pub fn line_event(line: Line) -> Event
     ensures { result ≡ line_event line }
 {
     match line {
-        Line::Header {
-            threads: _,
-            objects: _,
-            reserved: _,
-        } => Event::Step { thread: 0 },
         Line::Begin {
             operation,
             thread,
             object,
             limit,
         } => Event::Begin {
-            operation: operation,
-            thread: narrow(thread as u32),
-            object: narrow(object as u32),
-            limit: limit as u32,
+            operation,
+            thread: narrow(u32::from(thread)),
+            object: narrow(u32::from(object)),
+            limit: u32::from(limit),
         },
         Line::Step { thread } => Event::Step {
-            thread: narrow(thread as u32),
+            thread: narrow(u32::from(thread)),
         },
-        Line::Tick => Event::Step { thread: 0 },
-        Line::BadHeader => Event::Step { thread: 0 },
-        Line::Malformed => Event::Step { thread: 0 },
+        _ => Event::Step { thread: 0 },
     }
 }
 
@@ -273,23 +222,7 @@ pub fn line_event(line: Line) -> Event
 fn is_thread_event(line: Line) -> bool
     ensures { result ≡ is_thread_event line }
 {
-    match line {
-        Line::Header {
-            threads: _,
-            objects: _,
-            reserved: _,
-        } => false,
-        Line::Begin {
-            operation: _,
-            thread: _,
-            object: _,
-            limit: _,
-        } => true,
-        Line::Step { thread: _ } => true,
-        Line::Tick => false,
-        Line::BadHeader => false,
-        Line::Malformed => false,
-    }
+    matches!(line, Line::Begin { .. } | Line::Step { .. })
 }
 
 // Whether a line is an event of a thread in a running session, which a caller may carry out in place. A tick, which touches every object, is left to
@@ -298,11 +231,7 @@ fn is_thread_event(line: Line) -> bool
 pub fn runs_thread_event(stage: Stage, line: Line) -> bool
     ensures { result ≡ runs_thread_event stage line }
 {
-    match stage {
-        Stage::Opening => false,
-        Stage::Running => is_thread_event(line),
-        Stage::Over => false,
-    }
+    matches!(stage, Stage::Running) && is_thread_event(line)
 }
 
 // What an event prints, by its reply, its thread's phase, its object's word and whom it unparked.
@@ -333,7 +262,5 @@ fn closing_by(stage: Stage, table: Table) -> Reaction
 pub fn closing(session: Session) -> Reaction
     ensures { result ≡ closing_of session }
 {
-    let stage = session.stage;
-    let table = session.table;
-    closing_by(stage, table)
+    closing_by(session.stage, session.table)
 }

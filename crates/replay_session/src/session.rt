@@ -35,9 +35,8 @@ fn sound_by(stage: Stage, table: Table) -> bool
     ensures { result ≡ sound_by stage table }
 {
     match stage {
-        Stage::Opening => true,
         Stage::Running => lock_soundness::sound(table),
-        Stage::Over => true,
+        Stage::Opening | Stage::Over => true,
     }
 }
 
@@ -45,26 +44,19 @@ fn sound_by(stage: Stage, table: Table) -> bool
 pub fn session_sound(session: Session) -> bool
     ensures { result ≡ session_sound session }
 {
-    let stage = session.stage;
-    let table = session.table;
-    sound_by(stage, table)
+    sound_by(session.stage, session.table)
 }
 
 #[tactic(auto, unfolding(crate::specs::Session::over_by))]
 fn over_by(stage: Stage) -> bool
     ensures { result ≡ over_by stage }
 {
-    match stage {
-        Stage::Opening => false,
-        Stage::Running => false,
-        Stage::Over => true,
-    }
+    matches!(stage, Stage::Over)
 }
 
 // Whether a bad header has ended the run: whatever comes, nothing more is printed (replay_session/proofs/Over.antt).
 pub fn session_over(session: Session) -> bool
     ensures { result ≡ session_over session }
 {
-    let stage = session.stage;
-    over_by(stage)
+    over_by(session.stage)
 }

@@ -13,10 +13,7 @@ use replay_text::{Figures, REPORT_ROOM, has_room, put_row};
 fn row_count(largest: u8) -> u8
     ensures { result ≡ row_count largest }
 {
-    if OBJECTS < largest {
-        return OBJECTS;
-    }
-    largest
+    largest.min(OBJECTS)
 }
 
 // The rows of the objects, up to the largest number that a good header gave.
@@ -25,13 +22,9 @@ fn put_rows(out: &mut [u8], at: usize, largest: u8, objects: [Figures; 64]) -> u
     ensures wrote { Wrote out.old out.new at result (rows_text objects (row_count largest)) }
     ensures upper_bound { result ≤ at + 64 * row_room }
 {
-    let count = row_count(largest);
-    let mut number: u8 = 0;
     let mut end = at;
-    while number < count {
-        let figures = objects[number as usize];
-        number = number + 1;
-        end = put_row(out, end, number, figures);
+    for place in 0..row_count(largest) {
+        end = put_row(out, end, place + 1, objects[usize::from(place)]);
     }
     end
 }
@@ -41,8 +34,7 @@ fn put_report_text(out: &mut [u8], at: usize, tally: Tally) -> usize
     requires { at + report_room ≤ length out.old }
     ensures { Wrote out.old out.new at result (report_text tally) }
 {
-    let objects = tally.objects;
-    let end = put_rows(out, at, tally.largest, objects);
+    let end = put_rows(out, at, tally.largest, tally.objects);
     put_row(out, end, 0, tally.all)
 }
 
@@ -51,8 +43,8 @@ fn put_report_text(out: &mut [u8], at: usize, tally: Tally) -> usize
 pub fn put_report(out: &mut [u8], at: usize, tally: Tally) -> usize
     ensures { Put report_room out.old out.new at result (report_text tally) }
 {
-    if has_room(REPORT_ROOM, out.len(), at) {
-        return put_report_text(out, at, tally);
+    if !has_room(REPORT_ROOM, out.len(), at) {
+        return at;
     }
-    at
+    put_report_text(out, at, tally)
 }

@@ -50,9 +50,10 @@ fn one_more(figure: u16) -> u16
     ensures { result ≡ one_more figure }
 {
     if figure < MOST_LINES {
-        return figure + 1;
+        figure + 1
+    } else {
+        figure
     }
-    figure
 }
 
 // The figures with one enter more that finished this way.

@@ -35,15 +35,7 @@ fn finished() -> u16
 fn is_enter(operation: Operation) -> bool
     ensures { result ≡ is_enter operation }
 {
-    match operation {
-        Operation::Idle => false,
-        Operation::Enter => true,
-        Operation::Exit => false,
-        Operation::Wait => false,
-        Operation::Notify => false,
-        Operation::NotifyAll => false,
-        Operation::TimedWait => false,
-    }
+    matches!(operation, Operation::Enter)
 }
 
 // Whether an event is a step that finishes an enter, by the operation that its thread was in and the number returned.
@@ -51,16 +43,7 @@ fn is_enter(operation: Operation) -> bool
 fn finishes_enter(event: Event, operation: Operation, number: u16) -> bool
     ensures { result ≡ finishes_enter event operation number }
 {
-    match event {
-        Event::Begin {
-            operation: _,
-            thread: _,
-            object: _,
-            limit: _,
-        } => false,
-        Event::Step { thread: _ } => is_enter(operation) & (number == finished()),
-        Event::Tick => false,
-    }
+    matches!(event, Event::Step { .. }) && is_enter(operation) && number == finished()
 }
 
 #[tactic(auto, unfolding(crate::specs::Way::way_by_meaning))]
@@ -71,8 +54,7 @@ fn way_by_meaning(word: LockWord) -> Way
         LockWord::Free => Way::Free,
         LockWord::Flat(_, _) => Way::Nested,
         LockWord::Anonymous => Way::Anonymous,
-        LockWord::Reserved(_, _) => Way::NoEnter,
-        LockWord::Fat(_) => Way::NoEnter,
+        LockWord::Reserved(_, _) | LockWord::Fat(_) => Way::NoEnter,
     }
 }
 
@@ -91,22 +73,10 @@ fn way_of(phase: Phase, word: u32) -> Way
     ensures { result ≡ way_of phase word }
 {
     match phase {
-        Phase::Idle => Way::NoEnter,
         Phase::Look => way_by_word(read_word(word)),
         Phase::Store => Way::Reserved,
-        Phase::Cancel => Way::NoEnter,
-        Phase::GoIn => Way::Monitor,
-        Phase::Queued(_) => Way::NoEnter,
-        Phase::Check => Way::Monitor,
-        Phase::Try => Way::Monitor,
-        Phase::Contending => Way::NoEnter,
-        Phase::Test => Way::NoEnter,
-        Phase::Tell => Way::NoEnter,
-        Phase::Leave => Way::NoEnter,
-        Phase::Inflate => Way::NoEnter,
-        Phase::GiveUp => Way::NoEnter,
-        Phase::Waiting => Way::NoEnter,
-        Phase::Resume => Way::NoEnter,
+        Phase::GoIn | Phase::Check | Phase::Try => Way::Monitor,
+        _ => Way::NoEnter,
     }
 }
 
