@@ -36,9 +36,6 @@ joined reporting stage table tally = record { reporting = reporting; session = r
 abbrev pub progressed : State → ℕ → ℕ → Progress
 progressed state used wrote = record { stream = record { state = state; inside = false }; used = used; wrote = wrote }
 
-abbrev pub ended_by : Turn → ℕ → Progress
-ended_by turn used = progressed turn.state used turn.wrote
-
 -- a part was taken, and if it is the last one the end of the input with it
 abbrev pub FedFrom : State → Bool → Bool → List ℕ → List ℕ → Progress → Type 0
 FedFrom state inside last input out r =

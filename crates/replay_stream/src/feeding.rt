@@ -52,25 +52,22 @@ fn joined(reporting: bool, stage: Stage, table: Table, tally: Tally) -> State
     ensures { result ≡ joined reporting stage table tally }
 {
     State {
-        reporting: reporting,
-        session: Session {
-            stage: stage,
-            table: table,
-        },
-        tally: tally,
+        reporting,
+        session: Session { stage, table },
+        tally,
     }
 }
 
-fn progressed(state: State, used: usize, wrote: usize) -> Progress
+pub(crate) fn progressed(state: State, used: usize, wrote: usize) -> Progress
     ensures { result ≡ progressed state used wrote }
 {
     Progress {
         stream: Stream {
-            state: state,
+            state,
             inside: false,
         },
-        used: used,
-        wrote: wrote,
+        used,
+        wrote,
     }
 }
 
@@ -78,10 +75,7 @@ fn progressed(state: State, used: usize, wrote: usize) -> Progress
 fn event_answer(turn: Turn, unparked: u32) -> Answer
     ensures { result ≡ turn_answer turn.reply turn.own.phase turn.object.word unparked }
 {
-    let reply = turn.reply;
-    let own = turn.own;
-    let phase = own.phase;
-    turn_answer(reply, phase, turn.object.word, unparked)
+    turn_answer(turn.reply, turn.own.phase, turn.object.word, unparked)
 }
 
 // The way in which an event of a thread finished an enter, if it did, by the records before it.
@@ -89,8 +83,7 @@ fn event_answer(turn: Turn, unparked: u32) -> Answer
 fn event_way(event: Event, own: ThreadRecord, object: ObjectRecord, turn: Turn) -> Way
     ensures { result ≡ way_finished event own object.word (reply_returned turn.reply) }
 {
-    let reply = turn.reply;
-    way_finished(event, own, object.word, returned(reply) as u16)
+    way_finished(event, own, object.word, u16::from(returned(turn.reply)))
 }
 
 // The whole lines at the start of the part, while there is room for what they print. The rest of the part goes to the next line's reader.
@@ -155,7 +148,7 @@ fn take_lines(start: State, input: &[u8], out: &mut [u8]) -> Progress
             let counted = with_enter(row, way);
             tally.objects[home] = counted;
             tally.all = with_enter(all, way);
-            tally.lines = tally.lines + 1;
+            tally.lines += 1;
         } else {
             wrote = put_answer(out, wrote, event_answer(turn, unparked));
         }
@@ -169,22 +162,15 @@ fn skip_line(state: State, input: &[u8], out: &mut [u8]) -> Progress
     ensures { FedLines state true input.now out.old out.new result }
 {
     let end = replay_lines::line_end(input);
-    if end == 0 {
-        return Progress {
-            stream: Stream {
-                state: state,
-                inside: true,
-            },
-            used: input.len(),
-            wrote: 0,
-        };
+    if end != 0 {
+        return progressed(state, end, 0);
     }
     Progress {
         stream: Stream {
-            state: state,
-            inside: false,
+            state,
+            inside: true,
         },
-        used: end,
+        used: input.len(),
         wrote: 0,
     }
 }
@@ -194,13 +180,11 @@ fn take_long_line(state: State, input: &[u8], out: &mut [u8]) -> Progress
     requires { (line_limit < length input.now) × (line_end input.now ≡ 0) × (line_room ≤ length out.old) }
     ensures { FedLines state false input.now out.old out.new result }
 {
-    let session = state.session;
-    let issound = replay_session::session_sound(session);
+    let issound = replay_session::session_sound(state.session);
     let turn = take_line(state, issound, input, out, 0);
-    let next = turn.state;
     Progress {
         stream: Stream {
-            state: next,
+            state: turn.state,
             inside: true,
         },
         used: input.len(),
@@ -215,13 +199,7 @@ fn feed_lines(state: State, inside: bool, input: &[u8], out: &mut [u8]) -> Progr
     if inside {
         return skip_line(state, input, out);
     }
-    if input.len() <= LINE_LIMIT {
-        return take_lines(state, input, out);
-    }
-    if out.len() < LINE_ROOM {
-        return take_lines(state, input, out);
-    }
-    if replay_lines::line_end(input) == 0 {
+    if LINE_LIMIT < input.len() && LINE_ROOM <= out.len() && replay_lines::line_end(input) == 0 {
         return take_long_line(state, input, out);
     }
     take_lines(state, input, out)
@@ -231,10 +209,7 @@ fn feed_lines(state: State, inside: bool, input: &[u8], out: &mut [u8]) -> Progr
 fn feed_last(state: State, inside: bool, input: &[u8], out: &mut [u8]) -> Progress
     ensures { FedFrom state inside true input.now out.new result }
 {
-    if out.len() < END_ROOM {
-        return feed_lines(state, inside, input, out);
-    }
-    if replay_lines::line_end(input) == 0 {
+    if END_ROOM <= out.len() && replay_lines::line_end(input) == 0 {
         return take_end(state, inside, input, out);
     }
     feed_lines(state, inside, input, out)
@@ -244,10 +219,8 @@ fn feed_last(state: State, inside: bool, input: &[u8], out: &mut [u8]) -> Progre
 pub fn feed(start: Stream, input: &[u8], last: bool, out: &mut [u8]) -> Progress
     ensures { FedFrom start.state start.inside last input.now out.new result }
 {
-    let state = start.state;
-    let inside = start.inside;
     if last {
-        return feed_last(state, inside, input, out);
+        return feed_last(start.state, start.inside, input, out);
     }
-    feed_lines(state, inside, input, out)
+    feed_lines(start.state, start.inside, input, out)
 }

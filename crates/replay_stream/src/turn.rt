@@ -24,18 +24,25 @@ pub(crate) fn take_line(state: State, issound: bool, line: &[u8], out: &mut [u8]
     ensures { Turned state line.now out.old out.new at result }
 {
     let said = replay_lines::read_line(line);
-    let reporting = state.reporting;
-    let tally = state.tally;
-    let session = state.session;
-    let stage = session.stage;
-    let table = session.table;
-    let reaction = line_reaction(reporting, tally.lines, stage, table, said, issound);
-    let answer = reaction.answer;
+    let State {
+        reporting,
+        session,
+        tally,
+    } = state;
+    let reaction = line_reaction(
+        reporting,
+        tally.lines,
+        session.stage,
+        session.table,
+        said,
+        issound,
+    );
     let next = reaction.session;
-    let wrote = replay_text::put_answer(out, at, line_answer(reporting, tally.lines, said, answer));
+    let answer = line_answer(reporting, tally.lines, said, reaction.answer);
+    let wrote = replay_text::put_answer(out, at, answer);
     Turn {
         state: State {
-            reporting: reporting,
+            reporting,
             session: next,
             tally: Tally {
                 lines: lines_after(reporting, tally.lines, said),
@@ -43,7 +50,7 @@ pub(crate) fn take_line(state: State, issound: bool, line: &[u8], out: &mut [u8]
                 ..tally
             },
         },
-        wrote: wrote,
+        wrote,
     }
 }
 
@@ -55,6 +62,6 @@ pub(crate) fn close(state: State, out: &mut [u8], at: usize) -> Turn
     let wrote = put_closing(out, at, state);
     Turn {
         state: closed_state(state),
-        wrote: wrote,
+        wrote,
     }
 }
