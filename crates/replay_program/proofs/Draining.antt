@@ -6,7 +6,7 @@ use mathlib.Core.List.{List}
 use native.Mathlib.Omega.{arith}
 use lib.ListN.{length, take, drop, length-drop}
 use lib.Seq.{drop-drop}
-use Rattle.std.specs.Prelude.{Option}
+use Rattle.std.specs.Prelude.{Option, Ok, Err}
 use Rattle.laws.proofs.Choice.{false≢true}
 use Rattle.replay_lines.proofs.Fields.{rest_of}
 use Rattle.replay_parts.specs.Part.{end_room}
@@ -80,26 +80,27 @@ module _ {failed : Bool} {before after : Option (List ℕ)} {start stream : Stre
   draining_on wrote = subst (λ (x : Bool). Draining x before after start last input stream rest) wrote draining
 
   -- a write failed
-  drained_so : (b : Bool) → failed ≡ b → (b ≡ false → SettledAt stream last rest)
-      → DrainsTo before after start last input (record { stream = stream; from = length input - length rest; failed = b })
-  drained_so b same at_rest =
-      let up = subst (λ (x : Bool). PassedTo x before after start last input stream (drop (length input - length rest) input)) same passed_up_to in
+  pub drained_failed : failed ≡ true → DrainsTo before after start last input (Err (record { stream = stream; from = length input - length rest }))
+  drained_failed fails =
+      let up = subst (λ (x : Bool). PassedTo x before after start last input stream (drop (length input - length rest) input)) fails passed_up_to in
+      record {
+        drains = record { from_within = omega arith; passed = up.passed; settled = λ never. false≢true (sym never) };
+        wrote = up.wrote;
+      }
+
+  -- nothing more can be taken
+  pub drained_settled : failed ≡ false → SettledAt stream last rest
+      → DrainsTo before after start last input (Ok (record { stream = stream; from = length input - length rest }))
+  drained_settled wrote at_rest =
+      let up = subst (λ (x : Bool). PassedTo x before after start last input stream (drop (length input - length rest) input)) wrote passed_up_to in
       record {
         drains = record {
           from_within = omega arith;
           passed = up.passed;
-          settled = λ wrote. subst (λ (x : List ℕ). SettledAt stream last x) (sym draining.rest_place) (at_rest wrote);
+          settled = λ none. subst (λ (x : List ℕ). SettledAt stream last x) (sym draining.rest_place) at_rest;
         };
         wrote = up.wrote;
       }
-
-  pub drained_failed : failed ≡ true → DrainsTo before after start last input (record { stream = stream; from = length input - length rest; failed = true })
-  drained_failed fails = drained_so true fails (λ never. false≢true (sym never))
-
-  -- nothing more can be taken
-  pub drained_settled : failed ≡ false → SettledAt stream last rest
-      → DrainsTo before after start last input (record { stream = stream; from = length input - length rest; failed = false })
-  drained_settled wrote at_rest = drained_so false wrote (λ none. at_rest)
 
 -- a part of which nothing is taken is left as it is
 pub untouched : {stream : Stream} {last : Bool} {rest out : List ℕ} {r : Progress} → FedFrom stream.state stream.inside last rest out r

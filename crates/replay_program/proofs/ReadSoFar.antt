@@ -6,7 +6,7 @@ use mathlib.Core.List.{List, [], ◌++◌}
 use native.Mathlib.Omega.{arith}
 use lib.ListN.{take, drop}
 use lib.Seq.{take-add, length-take-le}
-use Rattle.std.specs.Prelude.{Option}
+use Rattle.std.specs.Prelude.{Option, Result, is_err}
 use Rattle.std.specs.Io.KnownBytes.{Consumes, IsAtEnd}
 use Rattle.std.proofs.KnownBytes.{Consumes-nil, Consumes-trans}
 use Rattle.laws.proofs.Choice.{false≢true}
@@ -14,8 +14,8 @@ use Rattle.replay_lines.specs.Cutting.{line_limit}
 use Rattle.replay_parts.proofs.Passing.{passed_both, passed_more}
 use Rattle.replay_stream.specs.declared.feeding.Stream.{Stream}
 use Rattle.replay_stream.specs.Stream.{fresh_stream}
-use Rattle.replay_program.specs.declared.{ending.Ending.Ending, running.Held.Held, moving.Moved.Moved}
-use Rattle.replay_program.specs.Run.{TakesTo, ReadBehind, EndedAs, write_failed, RunsOn}
+use Rattle.replay_program.specs.declared.{ending.Ending.Ending, running.Held.Held, moving.Failed.Failed}
+use Rattle.replay_program.specs.Run.{counted, left, TakesTo, ReadBehind, EndedAs, write_failed, RunsOn}
 use Rattle.replay_program.proofs.Written.{written_both}
 use Rattle.replay_program.proofs.Draining.{PassedTo, passed_to_none}
 
@@ -36,18 +36,18 @@ read_first {reporting} given written fresh =
       at_end = λ never. false≢true never;
     })
 
-module _ {reporting : Bool} {read_before read_now read_after written_before written_now : Option (List ℕ)} {stream : Stream} {held : ℕ} {before after : List ℕ} {r : Moved}
-    (behind : ReadBehind held before after r) (came : Consumes read_now read_after (take (r.count - held) (drop held after)))
+module _ {reporting : Bool} {read_before read_now read_after written_before written_now : Option (List ℕ)} {stream : Stream} {held : ℕ} {before after : List ℕ} {r : Result ℕ Failed}
+    (behind : ReadBehind held before after r) (came : Consumes read_now read_after (take (counted held r - held) (drop held after)))
     (read : Read reporting false false read_before read_now written_before written_now stream (take held before)) where
   -- what came stands behind what was held
-  pub read_more : Read reporting false false read_before read_after written_before written_now stream (take r.count after)
+  pub read_more : Read reporting false false read_before read_after written_before written_now stream (take (counted held r) after)
   unfolding passed_more
   read_more =
-      let more = take (r.count - held) (drop held after) in
+      let more = take (counted held r - held) (drop held after) in
       let order = behind.from_held in
-      let whole : held + (r.count - held) ≡ r.count = omega arith in
-      let joined : take held before ++ more ≡ take r.count after =
-      ap (λ (x : List ℕ). x ++ more) (sym behind.kept) ∙ sym (take-add held (r.count - held) after) ∙ ap (λ (n : ℕ). take n after) whole in
+      let whole : held + (counted held r - held) ≡ counted held r = omega arith in
+      let joined : take held before ++ more ≡ take (counted held r) after =
+      ap (λ (x : List ℕ). x ++ more) (sym behind.kept) ∙ sym (take-add held (counted held r - held) after) ∙ ap (λ (n : ℕ). take n after) whole in
       let further : PassedTo false written_before written_now (fresh_stream reporting) false (read.input ++ more) stream (take held before ++ more) =
       record { passed = passed_more more read.passed.passed; wrote = read.passed.wrote } in
       record {
@@ -58,16 +58,16 @@ module _ {reporting : Bool} {read_before read_now read_after written_before writ
       }
 
   -- nothing came
-  pub read_same : r.failed ≡ true → Read reporting false false read_before read_after written_before written_now stream (take held after)
+  pub read_same : is_err r ≡ true → Read reporting false false read_before read_after written_before written_now stream (take held after)
   read_same fails =
       subst (λ (n : ℕ). Read reporting false false read_before read_after written_before written_now stream (take n after)) (behind.none_failed fails) read_more
 
 -- a part was taken
-module _ {written_now written_after : Option (List ℕ)} {start : Stream} {last : Bool} {count : ℕ} {before after : List ℕ} {r : Held}
+module _ {written_now written_after : Option (List ℕ)} {start : Stream} {last : Bool} {count : ℕ} {before after : List ℕ} {r : Result Held Held}
     (to : TakesTo written_now written_after start last count before after r) where
   pub read_taken : {reporting : Bool} {read_before read_after written_before : Option (List ℕ)} → (last ≡ true → IsAtEnd read_after)
       → Read reporting false false read_before read_after written_before written_now start (take count before)
-      → Read reporting last r.failed read_before read_after written_before written_after r.stream (take r.held after)
+      → Read reporting last (is_err r) read_before read_after written_before written_after (left r).stream (take (left r).held after)
   unfolding passed_both
   read_taken at_end read = record {
     input = read.input;
@@ -76,8 +76,8 @@ module _ {written_now written_after : Option (List ℕ)} {start : Stream} {last 
     at_end = at_end;
   }
 
-  pub held_short : r.failed ≡ false → r.held ≤ line_limit
-  held_short wrote = omega (arith, (to.takes.settled wrote).short, length-take-le r.held after to.takes.held_within)
+  pub held_short : is_err r ≡ false → (left r).held ≤ line_limit
+  held_short wrote = omega (arith, (to.takes.settled wrote).short, length-take-le (left r).held after to.takes.held_within)
 
 -- the input has not ended, and no write failed
 pub read_open : {reporting ended failed : Bool} {read_before read_after written_before written_after : Option (List ℕ)} {stream : Stream} {rest : List ℕ}

@@ -1,35 +1,71 @@
 -- A part taken out of the buffer, with what is left of it at the front.
 use Prim.Native.Nat.{ℕ, ◌-◌, ◌≤◌}
 use mathlib.Core.Path.{◌≡◌, ap, sym, ◌∙◌, subst}
-use mathlib.Core.Bool.{Bool}
+use mathlib.Core.Bool.{Bool, true, false}
 use mathlib.Core.List.{List}
 use native.Mathlib.Omega.{arith}
 use lib.ListN.{length, take, drop}
 use lib.Seq.{length-take-le}
-use Rattle.std.specs.Prelude.{Option}
+use Rattle.std.specs.Prelude.{Option, Ok, Err}
+use Rattle.laws.proofs.Choice.{false≢true}
 use Rattle.replay_parts.specs.Keeping.{keep_rest}
 use Rattle.replay_parts.proofs.Kept.{kept_front, kept_length}
 use Rattle.replay_stream.specs.declared.feeding.Stream.{Stream}
-use Rattle.replay_program.specs.declared.running.Drained.{Drained}
+use Rattle.replay_program.specs.declared.running.{Drained.Drained, Held.Held}
 use Rattle.replay_program.specs.Run.{SettledAt, DrainsTo, TakesTo}
 use Rattle.replay_program.proofs.Draining.{PassedTo}
 
-pub taken_part : {written_before written_after : Option (List ℕ)} {start : Stream} {last : Bool} {held : ℕ} {before after : List ℕ} {r : Drained}
-    → held ≤ length before → DrainsTo written_before written_after start last (take held before) r → after ≡ keep_rest r.from held before
-    → TakesTo written_before written_after start last held before after (record { stream = r.stream; held = held - r.from; failed = r.failed })
-taken_part {written_before} {written_after} {start} {last} {held} {before} {after} {r} fits to kept =
-    let drains = to.drains in
-    let order : r.from ≤ held = omega (arith, drains.from_within, length-take-le held before fits) in
-    let front : drop r.from (take held before) ≡ take (held - r.from) after =
-    sym (ap (take (held - r.from)) kept ∙ kept_front r.from held before order fits) in
-    let rest : PassedTo r.failed written_before written_after start last (take held before) r.stream (drop r.from (take held before)) =
-    record { passed = drains.passed; wrote = to.wrote } in
-    let moved = subst (λ (x : List ℕ). PassedTo r.failed written_before written_after start last (take held before) r.stream x) front rest in
-    record {
-      takes = record {
-        held_within = omega (arith, fits, ap length kept, kept_length r.from held before order fits);
-        passed = moved.passed;
-        settled = λ wrote. subst (λ (x : List ℕ). SettledAt r.stream last x) front (drains.settled wrote);
-      };
-      wrote = moved.wrote;
-    }
+-- what is left of a part, at the front of the buffer
+abbrev pub kept_part : Drained → ℕ → Held
+kept_part drained held = record { stream = drained.stream; held = held - drained.from }
+
+module _ (drained : Drained) (held : ℕ) (before after : List ℕ) (fits : held ≤ length before) (within : drained.from ≤ length (take held before))
+    (kept : after ≡ keep_rest drained.from held before) where
+  order : drained.from ≤ held
+  order = omega (arith, within, length-take-le held before fits)
+
+  front : drop drained.from (take held before) ≡ take (held - drained.from) after
+  front = sym (ap (take (held - drained.from)) kept ∙ kept_front drained.from held before order fits)
+
+  held_within : held - drained.from ≤ length after
+  held_within = let fits' = order in omega (arith, fits, ap length kept, kept_length drained.from held before order fits)
+
+  moved : {failed last : Bool} {written_before written_after : Option (List ℕ)} {start : Stream}
+      → PassedTo failed written_before written_after start last (take held before) drained.stream (drop drained.from (take held before))
+      → PassedTo failed written_before written_after start last (take held before) drained.stream (take (held - drained.from) after)
+  moved {failed} {last} {written_before} {written_after} {start} rest =
+      subst (λ (x : List ℕ). PassedTo failed written_before written_after start last (take held before) drained.stream x) front rest
+
+module _ {written_before written_after : Option (List ℕ)} {start : Stream} {last : Bool} {held : ℕ} {before after : List ℕ} {drained : Drained}
+    (fits : held ≤ length before) (kept : after ≡ keep_rest drained.from held before) where
+  pub taken_ok : DrainsTo written_before written_after start last (take held before) (Ok drained)
+      → TakesTo written_before written_after start last held before after (Ok (kept_part drained held))
+  taken_ok to =
+      let within = to.drains.from_within in
+      let rest : PassedTo false written_before written_after start last (take held before) drained.stream (drop drained.from (take held before)) =
+      record { passed = to.drains.passed; wrote = to.wrote } in
+      let part = moved drained held before after fits within kept rest in
+      record {
+        takes = record {
+          held_within = held_within drained held before after fits within kept;
+          passed = part.passed;
+          settled = λ wrote. subst (λ (x : List ℕ). SettledAt drained.stream last x) (front drained held before after fits within kept) (to.drains.settled wrote);
+        };
+        wrote = part.wrote;
+      }
+
+  pub taken_err : DrainsTo written_before written_after start last (take held before) (Err drained)
+      → TakesTo written_before written_after start last held before after (Err (kept_part drained held))
+  taken_err to =
+      let within = to.drains.from_within in
+      let rest : PassedTo true written_before written_after start last (take held before) drained.stream (drop drained.from (take held before)) =
+      record { passed = to.drains.passed; wrote = to.wrote } in
+      let part = moved drained held before after fits within kept rest in
+      record {
+        takes = record {
+          held_within = held_within drained held before after fits within kept;
+          passed = part.passed;
+          settled = λ never. false≢true (sym never);
+        };
+        wrote = part.wrote;
+      }

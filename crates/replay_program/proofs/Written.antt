@@ -1,11 +1,11 @@
 -- What was written: parts of a text one behind the other, and texts one behind the other.
 use Rattle.std.proofs.Common.{ℕ, ◌≡◌, ◌≤◌, ◌+◌, ◌-◌, List, [], ◌++◌, Bool, false, length, take, drop, refl, sym, ap, ◌∙◌, subst, arith, length-append, length-drop}
 use lib.Seq.{drop-drop, take_all, take-add, take-append-add}
-use Rattle.std.specs.Prelude.{Option}
+use Rattle.std.specs.Prelude.{Option, Result, is_err}
 use Rattle.std.specs.Io.KnownBytes.{Appends}
 use Rattle.std.proofs.KnownBytes.{Appends-nil, Appends-trans}
-use Rattle.replay_program.specs.declared.moving.Moved.{Moved}
-use Rattle.replay_program.specs.Run.{WritesAll, Written}
+use Rattle.replay_program.specs.declared.moving.Unwritten.{Unwritten}
+use Rattle.replay_program.specs.Run.{taken, WritesAll, Written}
 
 -- what is left of the bytes stands at their end, and what stands before it was written
 pub record WrittenSoFar (before after : Option (List ℕ)) (bytes rest : List ℕ) : Type 0 where
@@ -43,9 +43,9 @@ pub written_none : (failed : Bool) (before : Option (List ℕ)) → Written fail
 written_none failed before = record { taken = 0; within = omega arith; appended = Appends-nil before; whole = λ wrote. refl }
 
 -- what the writes took of some bytes
-pub written_of : {before after : Option (List ℕ)} {bytes : List ℕ} {r : Moved} → WritesAll (length bytes) r → Appends before after (take r.count bytes)
-    → Written r.failed before after bytes
-written_of {r = r} moved wrote = record { taken = r.count; within = moved.within; appended = wrote; whole = moved.whole }
+pub written_of : {before after : Option (List ℕ)} {bytes : List ℕ} {r : Result Unit Unwritten} → WritesAll (length bytes) r
+    → Appends before after (take (taken (length bytes) r) bytes) → Written (is_err r) before after bytes
+written_of {bytes = bytes} {r} moved wrote = record { taken = taken (length bytes) r; within = moved.within; appended = wrote; whole = moved.whole }
 
 -- one text behind another of which all was written
 pub written_both : {failed : Bool} {before now after : Option (List ℕ)} {first second : List ℕ} → Written false before now first → Written failed now after second

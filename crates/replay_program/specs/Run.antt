@@ -1,5 +1,5 @@
 -- A program's loop, of values; and of what was read and written, where the bytes that its input has left and its output holds are known.
-use Rattle.std.specs.Prelude.{ℕ, ◌+◌, ◌≤◌, ◌≡◌, Bool, true, false, List, [], Option, IfSome, Result, Ok, Err, length, take, drop}
+use Rattle.std.specs.Prelude.{ℕ, ◌+◌, ◌≤◌, ◌≡◌, Bool, true, false, List, [], Option, IfSome, Result, Ok, Err, is_err, length, take, drop}
 use Rattle.std.specs.Io.KnownBytes.{Appends, Consumes, IsAtEnd}
 use Rattle.std.specs.Process.{exit_status}
 use Rattle.replay_text.specs.Bytes.{digit_zero}
@@ -12,7 +12,7 @@ use Rattle.replay_program.specs.declared.ending.Ending.{Ending}
 use Rattle.replay_program.specs.declared.ending.Ending.TheVariants.{AllRead, Stopped, ReadFailed, WriteFailed}
 use Rattle.replay_program.specs.declared.running.Drained.{Drained}
 use Rattle.replay_program.specs.declared.running.Held.{Held}
-use Rattle.replay_program.specs.declared.moving.Moved.{Moved}
+use Rattle.replay_program.specs.declared.moving.{Failed.Failed, Unwritten.Unwritten}
 use Rattle.replay_program.specs.declared.running.Ran.{Ran}
 use Rattle.replay_program.specs.declared.Told.{Told}
 
@@ -21,20 +21,35 @@ abbrev pub OnlyFailed : {E : Type 0} → Result ℕ E → Bool → Type 0
 OnlyFailed (Ok moved) again = again ≡ false
 OnlyFailed (Err error) again = Unit {0}
 
+-- how many bytes there are behind a read or a write, counted from a place on: where it failed it moved none
+abbrev pub counted : ℕ → Result ℕ Failed → ℕ
+counted before (Ok count) = count
+counted before (Err failed) = before
+
+-- how many of all bytes the writes took
+abbrev pub taken : ℕ → Result Unit Unwritten → ℕ
+taken all (Ok done) = all
+taken all (Err unwritten) = unwritten.taken
+
+-- what is left, also where a write failed
+abbrev pub left : {T : Type 0} → Result T T → T
+left (Ok rest) = rest
+left (Err rest) = rest
+
 -- what a read that was not interrupted answered
-abbrev pub Arrived : {E : Type 0} → Result ℕ E → Moved → Type 0
-Arrived (Ok moved) r = (r.count ≡ moved) × (r.failed ≡ false)
-Arrived (Err error) r = (r.count ≡ 0) × (r.failed ≡ true)
+abbrev pub Arrived : {E : Type 0} → Result ℕ E → Result ℕ Failed → Type 0
+Arrived (Ok moved) r = r ≡ Ok moved
+Arrived (Err error) r = is_err r ≡ true
 
 -- one read or write of up to `most` bytes: where it failed it moved none
-pub record Moves (most : ℕ) (r : Moved) : Type 0 where
-  pub within : r.count ≤ most
-  pub none_failed : r.failed ≡ true → r.count ≡ 0
+pub record Moves (most : ℕ) (r : Result ℕ Failed) : Type 0 where
+  pub within : counted 0 r ≤ most
+  pub none_failed : is_err r ≡ true → counted 0 r ≡ 0
 
 -- writes one behind the other: where none failed they took all of the bytes
-pub record WritesAll (all : ℕ) (r : Moved) : Type 0 where
-  pub within : r.count ≤ all
-  pub whole : r.failed ≡ false → r.count ≡ all
+pub record WritesAll (all : ℕ) (r : Result Unit Unwritten) : Type 0 where
+  pub within : taken all r ≤ all
+  pub whole : is_err r ≡ false → taken all r ≡ all
 
 -- what was printed was written to an output, on the bytes that it holds where those are known: all of it where no write failed, else its front
 pub record Written (failed : Bool) (before after : Option (List ℕ)) (printed : List ℕ) : Type 0 where
@@ -52,32 +67,32 @@ PassedOn start last input stream rest =
 abbrev pub SettledAt : Stream → Bool → List ℕ → Type 0
 SettledAt stream last rest = Settled program stream.state stream.inside last rest
 
-pub record Drains (start : Stream) (last : Bool) (input : List ℕ) (r : Drained) : Type 0 where
-  pub from_within : r.from ≤ length input
-  pub passed : PassedOn start last input r.stream (drop r.from input)
-  pub settled : r.failed ≡ false → SettledAt r.stream last (drop r.from input)
+pub record Drains (start : Stream) (last : Bool) (input : List ℕ) (r : Result Drained Drained) : Type 0 where
+  pub from_within : (left r).from ≤ length input
+  pub passed : PassedOn start last input (left r).stream (drop (left r).from input)
+  pub settled : is_err r ≡ false → SettledAt (left r).stream last (drop (left r).from input)
 
 -- and what was printed was written
-pub record DrainsTo (before after : Option (List ℕ)) (start : Stream) (last : Bool) (input : List ℕ) (r : Drained) : Type 0 where
+pub record DrainsTo (before after : Option (List ℕ)) (start : Stream) (last : Bool) (input : List ℕ) (r : Result Drained Drained) : Type 0 where
   pub drains : Drains start last input r
-  pub wrote : Written r.failed before after drains.passed.printed
+  pub wrote : Written (is_err r) before after drains.passed.printed
 
 -- the same, with the rest at the front of the buffer
-pub record Takes (start : Stream) (last : Bool) (held : ℕ) (before after : List ℕ) (r : Held) : Type 0 where
-  pub held_within : r.held ≤ length after
-  pub passed : PassedOn start last (take held before) r.stream (take r.held after)
-  pub settled : r.failed ≡ false → SettledAt r.stream last (take r.held after)
+pub record Takes (start : Stream) (last : Bool) (held : ℕ) (before after : List ℕ) (r : Result Held Held) : Type 0 where
+  pub held_within : (left r).held ≤ length after
+  pub passed : PassedOn start last (take held before) (left r).stream (take (left r).held after)
+  pub settled : is_err r ≡ false → SettledAt (left r).stream last (take (left r).held after)
 
-pub record TakesTo (written_before written_after : Option (List ℕ)) (start : Stream) (last : Bool) (held : ℕ) (before after : List ℕ) (r : Held) : Type 0 where
+pub record TakesTo (written_before written_after : Option (List ℕ)) (start : Stream) (last : Bool) (held : ℕ) (before after : List ℕ) (r : Result Held Held) : Type 0 where
   pub takes : Takes start last held before after r
-  pub wrote : Written r.failed written_before written_after takes.passed.printed
+  pub wrote : Written (is_err r) written_before written_after takes.passed.printed
 
 -- bytes come behind those that the buffer holds; where the read failed there are none
-pub record ReadBehind (held : ℕ) (before after : List ℕ) (r : Moved) : Type 0 where
-  pub from_held : held ≤ r.count
-  pub within : r.count ≤ length after
+pub record ReadBehind (held : ℕ) (before after : List ℕ) (r : Result ℕ Failed) : Type 0 where
+  pub from_held : held ≤ counted held r
+  pub within : counted held r ≤ length after
   pub kept : take held after ≡ take held before
-  pub none_failed : r.failed ≡ true → r.count ≡ held
+  pub none_failed : is_err r ≡ true → counted held r ≡ held
 
 -- all of an input that ended was printed; or the run stopped before it, so that whatever follows prints nothing; or a read failed before the end
 abbrev pub EndedAs : Ending → Bool → Stream → List ℕ → Type 0

@@ -32,12 +32,7 @@ fn status_of(ending: Ending) -> u8
 pub(crate) fn ending_byte(ending: Ending) -> u8
     ensures { result ≡ ending_byte ending }
 {
-    match ending {
-        Ending::AllRead => b'0',
-        Ending::Stopped => b'3',
-        Ending::ReadFailed => b'4',
-        Ending::WriteFailed => b'5',
-    }
+    b'0' + status_of(ending)
 }
 
 // What `main` hands back, so that the program ends with that status.

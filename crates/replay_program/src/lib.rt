@@ -47,9 +47,5 @@ pub fn run_program<R: Read, W: Write, E: Write>(
     let ending = ran.ending;
     let byte = ending::ending_byte(ending);
     let code = ending::exit_code(ending);
-    Told {
-        ran: ran,
-        byte: byte,
-        code: code,
-    }
+    Told { ran, byte, code }
 }

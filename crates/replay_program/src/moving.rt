@@ -1,19 +1,22 @@
 // Reads from an input and writes to an output, tried again where they were interrupted.
-ghost use Rattle.std.specs.Prelude.{◌≤◌, ◌≡◌, ◌<◌, ◌-◌, false, length, take, drop, MatchResult};
+ghost use Rattle.std.specs.Prelude.{◌≤◌, ◌≡◌, ◌<◌, ◌-◌, length, take, drop};
 ghost use Rattle.std.specs.Io.KnownBytes.{Appends, Consumes, IsAtEnd, Keeps};
 ghost use Rattle.std.specs.Io.{ReadsAtMost};
-ghost use Rattle.replay_program.specs.Run.{OnlyFailed, Moves, Arrived, WritesAll, ReadBehind};
+ghost use Rattle.replay_program.specs.Run.{OnlyFailed, counted, taken, Moves, Arrived, WritesAll, ReadBehind};
 ghost use Rattle.replay_program.specs.Messages.{output_name, input_name};
 
 use std::fmt::InlineText;
 use std::io;
 use std::io::{ErrorKind, Read, Write};
 
-// How many bytes a read or a write moved, and whether it failed.
+// A read or a write failed, and moved nothing. Why is said on standard error.
 #[derive(Clone, Copy)]
-pub struct Moved {
-    pub count: usize,
-    pub failed: bool,
+pub struct Failed;
+
+// A write failed before all of the bytes were written: how many the writes before it took.
+#[derive(Clone, Copy)]
+pub struct Unwritten {
+    pub taken: usize,
 }
 
 // Whether a read or a write that answered `got` is to be tried again.
@@ -76,73 +79,51 @@ fn write_once<W: Write, E: Write>(
     output: &mut W,
     errors: &mut E,
     bytes: &[u8],
-) -> Moved
+) -> Result<usize, Failed>
     ensures moved { Moves (length bytes.now) result }
-    ensures wrote { Appends (W.contents output.old) (W.contents output.new) (take result.count bytes.now) }
+    ensures wrote { Appends (W.contents output.old) (W.contents output.new) (take (counted 0 result) bytes.now) }
 {
     let got = output.write(bytes);
     if interrupted(&got) {
-        return Moved {
-            count: 0,
-            failed: false,
-        };
+        return Ok(0);
     }
     let name = output_name(reporting);
     match got {
-        Ok(count) => {
-            if count == 0 {
-                say_nothing_written(errors, &name);
-            }
-            Moved {
-                count: count,
-                failed: count == 0,
-            }
+        Ok(0) => {
+            say_nothing_written(errors, &name);
+            Err(Failed)
         }
+        Ok(count) => Ok(count),
         Err(error) => {
             say_failed(errors, &name, &error);
-            Moved {
-                count: 0,
-                failed: true,
-            }
+            Err(Failed)
         }
     }
 }
 
-// Writes all of the bytes, or stops at the first write that fails: how many the writes took.
+// Writes all of the bytes, or stops at the first write that fails.
 pub(crate) fn write_out<W: Write, E: Write>(
     reporting: bool,
     output: &mut W,
     errors: &mut E,
     bytes: &[u8],
-) -> Moved
+) -> Result<(), Unwritten>
     ensures moved { WritesAll (length bytes.now) result }
-    ensures wrote { Appends (W.contents output.old) (W.contents output.new) (take result.count bytes.now) }
+    ensures wrote { Appends (W.contents output.old) (W.contents output.new) (take (taken (length bytes.now) result) bytes.now) }
 {
     let mut rest = bytes;
-    let mut turns = u64::MAX;
-    while 0 < rest.len() {
-        if turns == 0 {
-            return Moved {
-                count: bytes.len() - rest.len(),
-                failed: true,
-            };
+    for _ in 0..u64::MAX {
+        if rest.is_empty() {
+            return Ok(());
         }
-        turns = turns - 1;
-        let wrote = write_once(reporting, output, errors, rest);
-        let count = wrote.count;
-        let failed = wrote.failed;
-        if failed {
-            return Moved {
-                count: bytes.len() - rest.len(),
-                failed: true,
-            };
+        match write_once(reporting, output, errors, rest) {
+            Ok(count) => rest = &rest[count..],
+            Err(Failed) => break,
         }
-        rest = &rest[count..];
     }
-    Moved {
-        count: bytes.len(),
-        failed: false,
-    }
+    Err(Unwritten {
+        taken: bytes.len() - rest.len(),
+    })
 }
 
 // What a read that was not interrupted has moved. At the end of the input that is nothing.
@@ -151,21 +132,15 @@ fn arrived<E: Write>(
     errors: &mut E,
     got: io::Result<usize>,
     buffer: &[u8],
-) -> Moved
+) -> Result<usize, Failed>
     ensures moved { Moves (length buffer.now) result }
     ensures told { ReadsAtMost got buffer.now → Arrived got result }
 {
     match got {
-        Ok(count) => Moved {
-            count: count.min(buffer.len()),
-            failed: false,
-        },
+        Ok(count) => Ok(count.min(buffer.len())),
         Err(error) => {
             say_failed(errors, &input_name(reporting), &error);
-            Moved {
-                count: 0,
-                failed: true,
-            }
+            Err(Failed)
         }
     }
 }
@@ -176,23 +151,18 @@ fn read_once<R: Read, E: Write>(
     input: &mut R,
     errors: &mut E,
     buffer: &mut [u8],
-) -> Moved
+) -> Result<usize, Failed>
     ensures moved { Moves (length buffer.new) result }
-    ensures read { Consumes (R.remaining input.old) (R.remaining input.new) (take result.count buffer.new) }
-    ensures ended { result.failed ≡ false → result.count ≡ 0 → 0 < length buffer.new → IsAtEnd (R.remaining input.new) }
+    ensures read { Consumes (R.remaining input.old) (R.remaining input.new) (take (counted 0 result) buffer.new) }
+    ensures ended { result ≡ Ok 0 → 0 < length buffer.new → IsAtEnd (R.remaining input.new) }
 {
-    let mut turns = u64::MAX;
-    while 0 < turns {
-        turns = turns - 1;
+    for _ in 0..u64::MAX {
         let got = input.read(buffer);
         if !interrupted(&got) {
             return arrived(reporting, errors, got, buffer);
         }
     }
-    Moved {
-        count: 0,
-        failed: true,
-    }
+    Err(Failed)
 }
 
 // One read behind the bytes that the buffer holds; how many it then holds.
@@ -202,17 +172,12 @@ pub(crate) fn read_behind<R: Read, E: Write>(
     errors: &mut E,
     buffer: &mut [u8],
     held: usize,
-) -> Moved
+) -> Result<usize, Failed>
     requires { held ≤ length buffer.old }
     ensures moved { ReadBehind held buffer.old buffer.new result }
-    ensures read { Consumes (R.remaining input.old) (R.remaining input.new) (take (result.count - held) (drop held buffer.new)) }
-    ensures ended { result.failed ≡ false → result.count ≡ held → held < length buffer.new → IsAtEnd (R.remaining input.new) }
+    ensures read { Consumes (R.remaining input.old) (R.remaining input.new) (take (counted held result - held) (drop held buffer.new)) }
+    ensures ended { result ≡ Ok held → held < length buffer.new → IsAtEnd (R.remaining input.new) }
 {
-    let got = read_once(reporting, input, errors, &mut buffer[held..]);
-    let count = got.count;
-    let failed = got.failed;
-    Moved {
-        count: held + count,
-        failed: failed,
-    }
+    let count = read_once(reporting, input, errors, &mut buffer[held..])?;
+    Ok(held + count)
 }

@@ -1,6 +1,7 @@
 // The run of a program: what was read is fed to its stream, and what that gives is written.
-ghost use Rattle.std.specs.Prelude.{◌≤◌, length};
+ghost use Rattle.std.specs.Prelude.{◌≡◌, ◌≤◌, ◌-◌, length};
 ghost use Rattle.replay_text.specs.Text.{line_room};
+ghost use Rattle.replay_parts.specs.Keeping.{keep_rest};
 ghost use Rattle.replay_parts.specs.Part.{end_room};
 ghost use Rattle.replay_program.specs.Run.{DrainsTo, TakesTo, RunsOn};
 
@@ -10,20 +11,18 @@ use program_state::state_over;
 use replay_stream::Stream;
 use std::io::{Read, Write};
 
-// A stream, where the bytes that it has not taken begin, and whether a write failed.
+// A stream, and where the bytes that it has not taken begin.
 #[derive(Clone, Copy)]
 pub struct Drained {
     pub stream: Stream,
     pub from: usize,
-    pub failed: bool,
 }
 
-// A stream, how many bytes that it has not taken stand at the front of the buffer, and whether a write failed.
+// A stream, and how many bytes that it has not taken stand at the front of the buffer.
 #[derive(Clone, Copy)]
 pub struct Held {
     pub stream: Stream,
     pub held: usize,
-    pub failed: bool,
 }
 
 // The stream at the end of a run, and how many bytes that it has not taken stand at the front of the buffer.
@@ -34,7 +33,8 @@ pub struct Ran {
     pub ending: Ending,
 }
 
-// Feeds the input and writes what it prints, until nothing more is taken or a write fails. `last` says that the input ends behind these bytes.
+// Feeds the input and writes what it prints, until nothing more is taken, or an `Err`, a write fails. `last` says that the input ends behind these
+// bytes.
 fn drain<W: Write, E: Write>(
     reporting: bool,
     output: &mut W,
@@ -43,7 +43,7 @@ fn drain<W: Write, E: Write>(
     input: &[u8],
     last: bool,
     out: &mut [u8],
-) -> Drained
+) -> Result<Drained, Drained>
     requires { end_room ≤ length out.old }
     ensures { DrainsTo (W.contents output.old) (W.contents output.new) start last input.now result }
 {
@@ -55,27 +55,31 @@ fn drain<W: Write, E: Write>(
         let used = progress.used;
         stream = progress.stream;
         let written = write_out(reporting, output, errors, &out[..wrote]);
-        let failed = written.failed;
         rest = &rest[used..];
-        if failed {
-            return Drained {
-                stream: stream,
-                from: input.len() - rest.len(),
-                failed: true,
-            };
+        let from = input.len() - rest.len();
+        if written.is_err() {
+            return Err(Drained { stream, from });
         }
         if used == 0 {
-            return Drained {
-                stream: stream,
-                from: input.len() - rest.len(),
-                failed: false,
-            };
+            return Ok(Drained { stream, from });
         }
     }
 }
 
-// Feeds the bytes that the buffer holds, and keeps what is left of them at its front.
-#[tactic(auto, using(crate::proofs::Counts::counted, crate::proofs::Taking::taken_part))]
+// Keeps what is left of the buffer's first bytes at its front.
+fn keep(buffer: &mut [u8], held: usize, drained: Drained) -> Held
+    requires { drained.from ≤ held }
+    ensures left { result ≡ record { stream = drained.stream; held = held - drained.from } }
+    ensures kept { buffer.new ≡ keep_rest drained.from held buffer.old }
+{
+    replay_parts::keep_rest(buffer, drained.from, held);
+    Held {
+        stream: drained.stream,
+        held: held - drained.from,
+    }
+}
+
+// Feeds the bytes that the buffer holds, and keeps what is left of them at its front; in an `Err`, a write failed.
 fn take_part<W: Write, E: Write>(
     reporting: bool,
     output: &mut W,
@@ -85,19 +89,13 @@ fn take_part<W: Write, E: Write>(
     held: usize,
     last: bool,
     out: &mut [u8],
-) -> Held
+) -> Result<Held, Held>
     requires { (held ≤ length buffer.old) × (end_room ≤ length out.old) }
     ensures { TakesTo (W.contents output.old) (W.contents output.new) start last held buffer.old buffer.new result }
 {
-    let drained = drain(reporting, output, errors, start, &buffer[..held], last, out);
-    let next = drained.stream;
-    let from = drained.from;
-    let failed = drained.failed;
-    replay_parts::keep_rest(buffer, from, held);
-    Held {
-        stream: next,
-        held: held - from,
-        failed: failed,
+    match drain(reporting, output, errors, start, &buffer[..held], last, out) {
+        Ok(drained) => Ok(keep(buffer, held, drained)),
+        Err(drained) => Err(keep(buffer, held, drained)),
     }
 }
 
@@ -116,51 +114,42 @@ pub(crate) fn run<R: Read, W: Write, E: Write>(
 {
     let mut stream = replay_stream::fresh_stream(reporting);
     let mut held: usize = 0;
-    let mut turns = u64::MAX;
-    while 0 < turns {
-        turns = turns - 1;
-        let read = read_behind(reporting, input, errors, buffer, held);
-        let count = read.count;
-        let unread = read.failed;
-        if unread {
-            return Ran {
-                stream: stream,
-                held: held,
-                ending: Ending::ReadFailed,
-            };
-        }
+    for _ in 0..u64::MAX {
+        let Ok(count) = read_behind(reporting, input, errors, buffer, held) else {
+            break;
+        };
         let last = count == held;
-        let part = take_part(reporting, output, errors, stream, buffer, count, last, out);
-        stream = part.stream;
-        held = part.held;
-        let unwritten = part.failed;
-        if unwritten {
-            return Ran {
-                stream: stream,
-                held: held,
-                ending: Ending::WriteFailed,
-            };
+        match take_part(reporting, output, errors, stream, buffer, count, last, out) {
+            Ok(part) => {
+                stream = part.stream;
+                held = part.held;
+            }
+            Err(part) => {
+                return Ran {
+                    stream: part.stream,
+                    held: part.held,
+                    ending: Ending::WriteFailed,
+                };
+            }
         }
-        let state = stream.state;
-        let over = state_over(state);
-        if over {
+        if state_over(stream.state) {
             return Ran {
-                stream: stream,
-                held: held,
+                stream,
+                held,
                 ending: Ending::Stopped,
             };
         }
         if last {
             return Ran {
-                stream: stream,
-                held: held,
+                stream,
+                held,
                 ending: Ending::AllRead,
             };
         }
     }
     Ran {
-        stream: stream,
-        held: held,
+        stream,
+        held,
         ending: Ending::ReadFailed,
     }
 }

@@ -3,11 +3,8 @@ use Rattle.std.proofs.Common.{◌≡◌, length}
 use Rattle.std.specs.Io.KnownBytes.{Keeps}
 use Rattle.replay_program.proofs.moving.read_once.Given as goal
 
-abbrev pub invariant-loop-turns : goal.invariant-loop-turns
-invariant-loop-turns g l = record {
+abbrev pub invariant-loop : goal.invariant-loop
+invariant-loop g l = record {
   same_length : length l.buffer ≡ length l.fn.buffer;
   kept : Keeps (g.R.Read.remaining l.fn.input) (g.R.Read.remaining l.input);
 }
-
-abbrev pub decreases-loop-turns : goal.decreases-loop-turns
-decreases-loop-turns g l = l.turns
