@@ -4,7 +4,7 @@ ghost use Rattle.laws.specs.Every.{all_up_to, all_below};
 ghost use Rattle.dispatch_rules.specs.Script.{operation_known, script_known, cursor_at};
 ghost use Rattle.dispatch_rules.specs.Dispatch.{dispatch_answer, dispatch_returned, scripted};
 
-use crate::script::{OPERATION_SIZE, object_of, operation_at};
+use crate::script::{OPERATION_SIZE, operation_at};
 use dispatch_rules::{DispatchRefusal, ScriptCursor};
 use lock_engine::refusal_number;
 use lock_rules::Refusal;
@@ -18,8 +18,7 @@ const QUANTUM_LIMIT: u32 = 100;
 fn operation_known(scripts: &[u8], objects: u8, start: u32, place: u32) -> bool
     ensures { result ≡ operation_known scripts.now objects (start + place) }
 {
-    let operation = operation_at(scripts, start, place);
-    let object = object_of(scripts, start, place);
+    let (operation, object) = operation_at(scripts, start, place);
     1 <= operation && operation <= SCRIPT_OPERATIONS && 1 <= object && object <= objects
 }
 

@@ -4,7 +4,7 @@ ghost use Rattle.std.specs.Prelude.{◌≡◌, ◌-◌, ◌*◌, ◌≤◌};
 ghost use Rattle.step_bounds.specs.SixSteps.{is_step};
 ghost use Rattle.dispatch_rules.specs.Attempt.{goes_on};
 ghost use Rattle.dispatch_rules.specs.Dispatch.{operations_left, most_steps};
-ghost use Rattle.dispatch_core.specs.Position.{cursor_room, round_room, turn_of, over, first_position, after_turn, next_position};
+ghost use Rattle.dispatch_core.specs.Position.{cursor_room, round_room, first_position, next_position};
 
 use dispatch_rules::{DispatchRefusal, ScriptCursor};
 use lock_table::thread_place;
@@ -43,23 +43,13 @@ pub(crate) fn most_steps(threads: u8, cursors: [ScriptCursor; 32]) -> u64
     STEP_WEIGHT * (operations_left(threads, cursors) + u64::from(threads))
 }
 
-fn turn_of(thread: u8, left: u32, stepped: bool, rounds: u64) -> Position
-    ensures { result ≡ turn_of thread left stepped rounds }
-{
-    Position {
-        thread,
-        left,
-        stepped,
-        rounds,
-    }
-}
-
 // A turn that may take no step.
-fn over() -> Position
-    ensures { result ≡ over }
-{
-    turn_of(1, 0, false, 0)
-}
+const OVER: Position = Position {
+    thread: 1,
+    left: 0,
+    stepped: false,
+    rounds: 0,
+};
 
 // The first thread's turn, or over at once where the run is refused.
 #[tactic(auto, unfolding(crate::specs::Position::first_position))]
@@ -71,27 +61,19 @@ pub(crate) fn first_position(
     ensures { result ≡ first_position answer quantum rounds }
 {
     match answer {
-        Ok(()) => turn_of(1, quantum, false, rounds),
-        Err(_) => over(),
+        Ok(()) => Position {
+            thread: 1,
+            left: quantum,
+            stepped: false,
+            rounds,
+        },
+        Err(_) => OVER,
     }
 }
 
-// A thread whose turn is over: the next one's, or the first one's in another round, if this one had a step.
-#[tactic(auto, unfolding(crate::specs::Position::after_turn))]
-fn after_turn(threads: u8, quantum: u32, thread: u8, stepped: bool, rounds: u64) -> Position
-    ensures { result ≡ after_turn threads quantum thread stepped rounds }
-{
-    if thread < threads {
-        return turn_of(thread + 1, quantum, stepped, rounds);
-    }
-    if stepped && 0 < rounds {
-        return turn_of(1, quantum, false, rounds - 1);
-    }
-    over()
-}
-
-// After a thread might take a step: it did, or not, and its turn may go on, or not.
-#[tactic(auto, unfolding(crate::specs::Position::next_position))]
+// After a thread might take a step: it did, or not, and its turn may go on, or not. A turn that is over is followed by the next thread's, or by the first
+// one's in another round, if this one had a step.
+#[tactic(auto, unfolding(crate::specs::Position::next_position, crate::specs::Position::after_turn))]
 pub(crate) fn next_position(
     threads: u8,
     quantum: u32,
@@ -101,11 +83,38 @@ pub(crate) fn next_position(
 ) -> Position
     ensures { result ≡ next_position threads quantum position took on }
 {
-    let stepped = position.stepped | took;
-    if took && on && 1 < position.left {
-        return turn_of(position.thread, position.left - 1, stepped, position.rounds);
+    let Position {
+        thread,
+        left,
+        stepped,
+        rounds,
+    } = position;
+    let stepped = stepped || took;
+    if took && on && 1 < left {
+        return Position {
+            thread,
+            left: left - 1,
+            stepped,
+            rounds,
+        };
     }
-    after_turn(threads, quantum, position.thread, stepped, position.rounds)
+    if thread < threads {
+        return Position {
+            thread: thread + 1,
+            left: quantum,
+            stepped,
+            rounds,
+        };
+    }
+    if stepped && 0 < rounds {
+        return Position {
+            thread: 1,
+            left: quantum,
+            stepped: false,
+            rounds: rounds - 1,
+        };
+    }
+    OVER
 }
 
 // Whether this number is returned by a step: 0, 1, 2, 18 or 19.

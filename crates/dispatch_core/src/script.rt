@@ -1,6 +1,6 @@
 // The operations of a script, and what the next one makes of its thread's record and cursor.
-ghost use Rattle.std.specs.Prelude.{◌≡◌, ◌+◌, ◌*◌};
-ghost use Rattle.dispatch_rules.specs.Script.{operation_size, operation_at, object_of, begins};
+ghost use Rattle.std.specs.Prelude.{◌≡◌, ◌+◌};
+ghost use Rattle.dispatch_rules.specs.Script.{operation_at, object_of, begins};
 ghost use Rattle.dispatch_core.specs.Records.{record_ready, cursor_after};
 
 use dispatch_rules::ScriptCursor;
@@ -13,25 +13,15 @@ pub(crate) const OPERATION_SIZE: usize = 2;
 
 const NO_LIMIT: u32 = 0;
 
-// Where an operation lies in the bytes.
-fn operation_place(start: u32, place: u32) -> usize
-    ensures { result ≡ (start + place) * operation_size }
+// The number of the operation at a place of a script, and its object. Past the end both are 0.
+pub(crate) fn operation_at(scripts: &[u8], start: u32, place: u32) -> (u8, u8)
+    ensures operation { result.0 ≡ operation_at scripts.now (start + place) }
+    ensures object { result.1 ≡ object_of scripts.now (start + place) }
 {
-    (start as usize + place as usize) * OPERATION_SIZE
-}
-
-pub(crate) fn operation_at(scripts: &[u8], start: u32, place: u32) -> u8
-    ensures { result ≡ operation_at scripts.now (start + place) }
-{
-    let at = operation_place(start, place);
-    scripts.get(at).copied().unwrap_or(0)
-}
-
-pub(crate) fn object_of(scripts: &[u8], start: u32, place: u32) -> u8
-    ensures { result ≡ object_of scripts.now (start + place) }
-{
-    let at = operation_place(start, place) + 1;
-    scripts.get(at).copied().unwrap_or(0)
+    let at = (start as usize + place as usize) * OPERATION_SIZE;
+    let operation = scripts.get(at).copied().unwrap_or(0);
+    let object = scripts.get(at + 1).copied().unwrap_or(0);
+    (operation, object)
 }
 
 // Whether the thread is idle and its cursor is before its script's end, so that it begins the next operation.
@@ -53,8 +43,7 @@ pub(crate) fn record_ready(
     ensures { result ≡ record_ready begins scripts.now own cursor }
 {
     if begins {
-        let operation = operation_at(scripts, cursor.start, cursor.cursor);
-        let object = object_of(scripts, cursor.start, cursor.cursor);
+        let (operation, object) = operation_at(scripts, cursor.start, cursor.cursor);
         return begun(own, operation_from(operation), object, NO_LIMIT);
     }
     own
