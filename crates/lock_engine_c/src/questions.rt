@@ -1,4 +1,5 @@
-// The questions that are exported. They change nothing, and are answered of a table that is not sound too, by what its records say.
+// The questions that are exported, one function for each name that C has. They change nothing, and are answered of a table that is not sound too, by what
+// its records say.
 ghost use Rattle.std.specs.Prelude.{◌≡◌};
 ghost use Rattle.table_questions.specs.Questions.{thread_count, object_count, ask_thread, ask_object};
 ghost use Rattle.table_bytes.specs.Layout.{layout_version};

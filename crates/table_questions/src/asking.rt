@@ -186,8 +186,8 @@ trait Question: Copy {
     ghost value: { Self → Table → ℕ → ℕ };
 
     // how many of the records the table says that it has, how many it has at most, and what is answered of any other
-    fn count(table: Table) -> u8
-        ensures { result ≡ count table };
+    fn count(table: &Table) -> u8
+        ensures { result ≡ count table.now };
 
     fn limit() -> u8
         ensures { result ≡ limit };
@@ -195,8 +195,8 @@ trait Question: Copy {
     fn missing() -> Refusal
         ensures { result ≡ missing };
 
-    fn value(self, table: Table, number: u8) -> u32
-        ensures { result ≡ value self table number };
+    fn value(self, table: &Table, number: u8) -> u32
+        ensures { result ≡ value self table.now number };
 }
 
 impl Question for ThreadQuestion {
@@ -211,7 +211,7 @@ impl Question for ThreadQuestion {
 
     ghost value = { thread_value_in };
 
-    fn count(table: Table) -> u8 {
+    fn count(table: &Table) -> u8 {
         table.threadcount
     }
 
@@ -223,10 +223,10 @@ impl Question for ThreadQuestion {
         Refusal::NoSuchThread
     }
 
-    fn value(self, table: Table, number: u8) -> u32 {
-        let thread = thread_at(table, number);
-        let owner = ownership_at(table, thread.object).thread;
-        let holder = object_at(table, thread.object).monitor.holder;
+    fn value(self, table: &Table, number: u8) -> u32 {
+        let thread = thread_at(*table, number);
+        let owner = ownership_at(*table, thread.object).thread;
+        let holder = object_at(*table, thread.object).monitor.holder;
         thread_value(self, number, thread, owner, holder)
     }
 }
@@ -243,7 +243,7 @@ impl Question for ObjectQuestion {
 
     ghost value = { object_value_in };
 
-    fn count(table: Table) -> u8 {
+    fn count(table: &Table) -> u8 {
         table.objectcount
     }
 
@@ -255,8 +255,12 @@ impl Question for ObjectQuestion {
         Refusal::NoSuchObject
     }
 
-    fn value(self, table: Table, number: u8) -> u32 {
-        object_value(self, object_at(table, number), ownership_at(table, number))
+    fn value(self, table: &Table, number: u8) -> u32 {
+        object_value(
+            self,
+            object_at(*table, number),
+            ownership_at(*table, number),
+        )
     }
 }
 
@@ -275,8 +279,8 @@ fn value_in<Q: Question>(question: Q, bytes: &[u8], number: u8) -> Result<u32, R
     ensures { result ≡ pick (is_table bytes.now) (pick (both (within 1 (Q.count (table_of bytes.now)) number) (leb number Q.limit)) (Ok (Q.value question (table_of bytes.now) number)) (Err Q.missing)) (Err NotSound) }
 {
     let table = table_in(bytes)?;
-    if 1 <= number && number <= Q::count(table) && number <= Q::limit() {
-        return Ok(question.value(table, number));
+    if 1 <= number && number <= Q::count(&table) && number <= Q::limit() {
+        return Ok(question.value(&table, number));
     }
     Err(Q::missing())
 }
@@ -316,7 +320,8 @@ pub fn ask_object(question: ObjectQuestion, bytes: &[u8], object: u32) -> u64
 fn count_in<Q: Question>(bytes: &[u8]) -> Result<u32, Refusal>
     ensures { result ≡ pick (is_table bytes.now) (Ok (Q.count (table_of bytes.now))) (Err NotSound) }
 {
-    Ok(Q::count(table_in(bytes)?).into())
+    let table = table_in(bytes)?;
+    Ok(Q::count(&table).into())
 }
 
 // How many threads the table has.
