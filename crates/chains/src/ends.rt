@@ -6,10 +6,7 @@ ghost use Rattle.chains.specs.Joining.{first_with, no_ends, grown};
 pub fn first_with(front: u8, back: u8) -> u8
     ensures { result ≡ first_with front back }
 {
-    if front == 0 {
-        return back;
-    }
-    front
+    if front == 0 { back } else { front }
 }
 
 #[derive(Clone, Copy)]

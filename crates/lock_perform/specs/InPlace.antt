@@ -9,7 +9,6 @@ use Rattle.lock_table.specs.Place.{thread_place}
 use Rattle.lock_table.specs.declared.record.ThreadRecord.{ThreadRecord}
 use Rattle.lock_table.specs.declared.record.ObjectRecord.{ObjectRecord}
 use Rattle.lock_table.specs.declared.record.Monitor.{Monitor}
-use Rattle.lock_table.specs.declared.monitor.LetOut.{LetOut}
 use Rattle.lock_perform.specs.Moving.{touched, plan}
 use Rattle.lock_perform.specs.declared.moving.ChainPlan.{ChainPlan}
 
@@ -37,10 +36,6 @@ record_in threads n = get_or threads (thread_place n) no_thread
 -- what is written at the place of the last thread of a chain, where `there` is what stood there
 abbrev pub linked_to : ℕ → ThreadRecord → ℕ → ThreadRecord
 linked_to last there thread = if_record last (with_next there thread) there
-
--- a monitor before anybody is let out, and who was unparked
-abbrev pub none_out : Monitor → ℕ → LetOut
-none_out monitor unparked = record { monitor = monitor; threads = unparked }
 
 -- what is written at the places of the two records, where `there` is what stood there after the work
 abbrev pub own_written : ℕ → ThreadRecord → ThreadRecord → ThreadRecord

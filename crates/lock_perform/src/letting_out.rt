@@ -2,10 +2,9 @@
 // here what becomes of each record.
 ghost use Rattle.std.specs.Prelude.{◌≡◌};
 ghost use Rattle.lock_perform.specs.Moving.{queued_exit, let_out, lets_out};
-ghost use Rattle.lock_perform.specs.InPlace.{none_out};
 
 use lock_rules::ChainWork;
-use lock_table::{LetOut, Monitor, Onward, Phase, ThreadRecord, no_activity};
+use lock_table::{Onward, Phase, ThreadRecord, no_activity};
 
 // Whether a thread is a queued exit: it carries 10.
 #[tactic(auto, unfolding(lock_table::specs::Phase::carried_number, lock_table::specs::Phase::phase_number, lock_table::specs::Phase::onward_number))]
@@ -33,14 +32,4 @@ pub fn lets_out(work: ChainWork) -> bool
     ensures { result ≡ lets_out work }
 {
     matches!(work, ChainWork::MoveAndLetOut)
-}
-
-// The monitor before anybody is let out, and the set of threads that the work has unparked.
-pub fn none_out(monitor: Monitor, unparked: u32) -> LetOut
-    ensures { result ≡ none_out monitor unparked }
-{
-    LetOut {
-        monitor,
-        threads: unparked,
-    }
 }

@@ -11,7 +11,7 @@ mod sighting;
 mod state;
 mod thread_set;
 
-pub use letting_out::{let_out, lets_out, none_out, queued_exit};
+pub use letting_out::{let_out, lets_out, queued_exit};
 pub use moving::{ChainPlan, if_record, moved_whole, plan_at, touched};
 pub use parting::{PartedChain, Parting, last_behind, linked_to, no_parting, passed};
 pub use performing::{object_after, object_written, own_written, stays};

@@ -33,7 +33,7 @@ fn stays_before(here: u8, there: ThreadRecord, rank: u8) -> bool
 }
 
 // The place of one who joins by this rank, in the chain that begins with `first`.
-pub fn place_for(threads: &[ThreadRecord; 32], first: u8, rank: u8) -> Place
+pub fn place_for(threads: &[ThreadRecord; THREADS as usize], first: u8, rank: u8) -> Place
     ensures { result ≡ place_for thread_limit (record_in threads.now) rank 0 first }
 {
     let mut place = Place {

@@ -4,11 +4,17 @@ ghost use Rattle.sound_records.specs.OnePass.{chain_number};
 ghost use Rattle.lock_soundness.specs.OnePass.{chain_passes, chains_pass, chain_marks, chains_marks};
 
 use chains::Chain;
-use lock_table::{Monitor, Table, is_thread, thread_place};
+use lock_table::{Monitor, THREADS, Table, is_thread, thread_place};
 use sound_records::{member_passes, rank_there};
 
 // The chain ends in time, all of its threads are parked in it, and an entry chain falls in rank.
-fn chain_passes(table: &Table, object: u8, chain: Chain, first: u8, met: &mut [bool; 32]) -> bool
+fn chain_passes(
+    table: &Table,
+    object: u8,
+    chain: Chain,
+    first: u8,
+    met: &mut [bool; THREADS as usize],
+) -> bool
     ensures value { result ≡ chain_passes table.now.threads table.now.threadcount object (chain_number chain) first }
     ensures marks { met.new ≡ chain_marks table.now.threads table.now.threadcount object (chain_number chain) first met.old }
 {
@@ -38,7 +44,12 @@ fn chain_passes(table: &Table, object: u8, chain: Chain, first: u8, met: &mut [b
 
 // The three chains of an object.
 #[tactic(auto, unfolding(crate::specs::OnePass::chains_pass, crate::specs::OnePass::chains_marks))]
-pub fn chains_pass(table: &Table, object: u8, monitor: Monitor, met: &mut [bool; 32]) -> bool
+pub fn chains_pass(
+    table: &Table,
+    object: u8,
+    monitor: Monitor,
+    met: &mut [bool; THREADS as usize],
+) -> bool
     ensures value { result ≡ chains_pass table.now.threads table.now.threadcount object monitor }
     ensures marks { met.new ≡ chains_marks table.now.threads table.now.threadcount object monitor met.old }
 {

@@ -12,18 +12,23 @@ ghost use Rattle.lock_soundness.specs.OnePass.{chains_marks, object_passes, obje
 
 use chain::chains_pass;
 use lock_table::{OBJECTS, ObjectRecord, THREADS, Table};
-use sound_records::{empty_object, thread_passes, used_object_fits, within};
+use sound_records::{empty_object, thread_passes, used_object_fits};
 
 #[tactic(auto, unfolding(crate::specs::Sound::sizes_fit))]
 fn sizes_fit(threads: u8, objects: u8) -> bool
     ensures { result ≡ sizes_fit threads objects }
 {
-    within(1, THREADS, threads) & within(1, OBJECTS, objects)
+    (1..=THREADS).contains(&threads) & (1..=OBJECTS).contains(&objects)
 }
 
 // An empty record passes at once, and most are. Any other is one of an object in use, with its chains.
 #[tactic(auto, unfolding(crate::specs::OnePass::object_passes))]
-fn object_passes(table: &Table, number: u8, object: ObjectRecord, met: &mut [bool; 32]) -> bool
+fn object_passes(
+    table: &Table,
+    number: u8,
+    object: ObjectRecord,
+    met: &mut [bool; THREADS as usize],
+) -> bool
     ensures value { result ≡ object_passes table.now.threads table.now.threadcount table.now.objectcount number object }
     ensures marks { met.new ≡ chains_marks table.now.threads table.now.threadcount number object.monitor met.old }
 {
@@ -35,7 +40,7 @@ fn object_passes(table: &Table, number: u8, object: ObjectRecord, met: &mut [boo
 }
 
 // Each object's record is in order, and so are its chains.
-fn objects_pass(table: &Table, met: &mut [bool; 32]) -> bool
+fn objects_pass(table: &Table, met: &mut [bool; THREADS as usize]) -> bool
     ensures value { result ≡ all_up_to object_limit (object_turn table.now) }
     ensures marks { met.new ≡ objects_marks table.now object_limit met.old }
 {
@@ -49,7 +54,7 @@ fn objects_pass(table: &Table, met: &mut [bool; 32]) -> bool
 }
 
 // Each thread's record is as its phase asks, and a parked thread was met in a walk.
-fn threads_pass(table: &Table, met: &[bool; 32]) -> bool
+fn threads_pass(table: &Table, met: &[bool; THREADS as usize]) -> bool
     ensures { result ≡ all_up_to thread_limit (thread_turn table.now met.now) }
 {
     for number in (1..=THREADS).rev() {
@@ -74,7 +79,7 @@ pub fn sound(table: Table) -> bool
     ensures { result ≡ sound_of table }
 {
     let sizes = sizes_fit(table.threadcount, table.objectcount);
-    let mut met = [false; 32];
+    let mut met = [false; THREADS as usize];
     let objects = objects_pass(&table, &mut met);
     let threads = threads_pass(&table, &met);
     sizes & objects & threads

@@ -1,5 +1,6 @@
 // The records of a table, and each record with some of its fields changed. Fields lie widest first, as the compiler keeps their order; the rank stands
-// where the soundness test and the events cost least.
+// where the soundness test and the events cost least. Numbers of threads and objects count from 1, with 0 for none, and are no options: this is the form
+// in which the interface for C reads and writes the records (table_bytes).
 ghost use Rattle.std.specs.Prelude.{◌≡◌};
 ghost use Rattle.lock_table.specs.Record.{no_thread, no_monitor, no_object, no_activity, with_activity, with_phase, with_next};
 ghost use Rattle.lock_table.specs.Record.{with_word, with_flag, with_monitor};
@@ -66,8 +67,8 @@ pub struct Table {
     // how many of the records are in use: document 01's T and N
     pub threadcount: u8,
     pub objectcount: u8,
-    pub threads: [ThreadRecord; 32],
-    pub objects: [ObjectRecord; 64],
+    pub threads: [ThreadRecord; THREADS as usize],
+    pub objects: [ObjectRecord; OBJECTS as usize],
 }
 
 pub fn no_thread() -> ThreadRecord

@@ -5,11 +5,9 @@ ghost use Rattle.lock_work.specs.Work.{work_stays, chains_done, work_done};
 
 use crate::ticking::tick;
 use crate::walking::{move_all, part_exits, queue};
-use lock_perform::{
-    lets_out, moved_whole, none_out, object_written, own_written, plan_at, stays, touched,
-};
+use lock_perform::{lets_out, moved_whole, object_written, own_written, plan_at, stays, touched};
 use lock_rules::ChainWork;
-use lock_table::{ObjectRecord, Table, ThreadRecord, object_place, thread_place};
+use lock_table::{LetOut, ObjectRecord, Table, ThreadRecord, object_place, thread_place};
 
 #[derive(Clone, Copy)]
 pub enum Work {
@@ -58,11 +56,16 @@ fn chains_done(
     changed.threads[place] = planned.changed;
     let begins = planned.monitor.first_in(planned.into);
     let first = queue(&mut changed, planned.into, begins, planned.back);
-    let mut out = none_out(planned.monitor.join(planned.into, first), planned.unparked);
-    if lets_out(work) {
-        let parting = part_exits(&mut changed, out.monitor.entry);
-        out = out.monitor.let_out(parting.left.first, parting.set);
-    }
+    let joined = planned.monitor.join(planned.into, first);
+    let out = if lets_out(work) {
+        let parting = part_exits(&mut changed, joined.entry);
+        joined.let_out(parting.left.first, parting.set)
+    } else {
+        LetOut {
+            monitor: joined,
+            threads: planned.unparked,
+        }
+    };
     let place = thread_place(thread);
     changed.threads[place] = own_written(thread, own, changed.threads[place]);
     let home = object_place(number);

@@ -5,6 +5,5 @@ mod choice;
 mod object;
 mod thread;
 
-pub use choice::within;
 pub use object::{empty_object, used_object_fits};
 pub use thread::{member_passes, rank_there, thread_passes};

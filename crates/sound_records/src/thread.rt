@@ -6,7 +6,7 @@ ghost use Rattle.sound_records.specs.Records.{saves_depth, saved_fits, unused_fi
 ghost use Rattle.sound_records.specs.Records.{wait_uses, wait_carries, resumes, ticks_fit};
 ghost use Rattle.sound_records.specs.OnePass.{chain_number, rank_there, member_passes, thread_passes};
 
-use crate::choice::{implies, within};
+use crate::choice::implies;
 use chains::Chain;
 use lock_table::{
     Operation, Phase, RANKS, ThreadRecord, carried_number, is_thread, no_thread, phase_number,
@@ -63,7 +63,7 @@ fn carries_phase(operation: Operation, carried: u8) -> bool
 fn operation_fits(objects: u8, phase: u8, carried: u8, thread: ThreadRecord) -> bool
     ensures { result ≡ operation_fits objects phase carried thread }
 {
-    let object = within(1, objects, thread.object);
+    let object = (1..=objects).contains(&thread.object);
     let uses = uses_phase(thread.operation, phase);
     let carries = implies(phase == 5, carries_phase(thread.operation, carried));
     (phase == 0) | (object & uses & carries)
@@ -75,7 +75,7 @@ fn kept_count_fits(operation: Operation, count: u8) -> bool
 {
     match operation {
         Operation::Enter => count <= ENTER_COUNT_LIMIT,
-        Operation::Exit => within(1, EXIT_COUNT_LIMIT, count),
+        Operation::Exit => (1..=EXIT_COUNT_LIMIT).contains(&count),
         _ => false,
     }
 }

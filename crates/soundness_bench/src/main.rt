@@ -3,7 +3,7 @@
 // fat and 6 mixed read lock words and write the sum of owners and depths by them.
 #![tactic(auto)]
 
-use lock_table::{Monitor, Onward, Operation, Phase, Table, ThreadRecord};
+use lock_table::{Monitor, OBJECTS, Onward, Operation, Phase, Table, ThreadRecord};
 use lock_word::LockWord;
 use std::io::Read;
 
@@ -39,7 +39,7 @@ fn contended(table: Table, object: u8, holder: u8, first: u8, last: u8) -> Table
 fn all_owned(table: Table) -> Table {
     let owned = lock_table::no_object().with_word(lock_word::flat_word(1, 0));
     Table {
-        objects: [owned; 64],
+        objects: [owned; OBJECTS as usize],
         ..table
     }
 }

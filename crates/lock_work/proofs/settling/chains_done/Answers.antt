@@ -23,16 +23,16 @@ moved_is c =
 -- exits let out, or not
 outs : (c : After-object_written)
     → let carried = after_joining c.args.work
-    (record { table = c.queue-first.new.table; monitor = c.join.result; unparked = c.plan_at-planned.result.unparked }) in
+    (record { table = c.queue-first.new.table; monitor = c.join-joined.result; unparked = c.plan_at-planned.result.unparked }) in
     (c.if-lets_out.changed ≡ carried.table) × (c.if-lets_out.out ≡ record { monitor = carried.monitor; threads = carried.unparked })
 outs c =
     elim c.if-lets_out.branch [
       | then-lets_out w ↦
           rw (sym c.lets_out.ensures ∙ w.if-lets_out.true) (
-            w.changed-is ∙ (w.part_exits-parting.ensures.table ∙ rw c.none_out-out.ensures refl),
-            w.out-is ∙ (w.let_out-out.ensures ∙ rw (w.part_exits-parting.ensures.parting, c.none_out-out.ensures) refl),
+            w.changed-is ∙ w.part_exits-parting.ensures.table,
+            w.out-is ∙ (w.let_out-out.ensures ∙ rw w.part_exits-parting.ensures.parting refl),
           )
-      | else-lets_out w ↦ rw (sym c.lets_out.ensures ∙ w.if-lets_out.false) (w.changed-is, w.out-is ∙ c.none_out-out.ensures)
+      | else-lets_out w ↦ rw (sym c.lets_out.ensures ∙ w.if-lets_out.false) (w.changed-is, w.out-is)
     ]
 
 pub returns : goal.returns
@@ -46,7 +46,7 @@ returns c =
     c.thread_place-place.ensures
     c.plan_at-planned.ensures
     (rw (← c.first_in-begins.ensures) (λ j. record { table = c.queue-first.ensures.table j; first = c.queue-first.ensures.first j }))
-    c.join.ensures
+    c.join-joined.ensures
     (outs c)
     c.thread_place-place-2.ensures
     c.own_written.ensures
