@@ -17,9 +17,9 @@ use Rattle.lock_table.specs.declared.record.{ThreadRecord.ThreadRecord, ObjectRe
 use Rattle.lock_table.proofs.Records.{thread_beside, object_beside}
 use Rattle.lock_perform.specs.Moving.{CarriedOut, relink, moved_whole, after_whole, queued_exit, let_out, let_outs, lets_out, carry_out}
 use Rattle.lock_perform.specs.Queueing.{queue}
-use Rattle.lock_perform.specs.declared.queueing.JoinedChain.{JoinedChain}
+use Rattle.lock_perform.specs.Queueing.{JoinedChain}
 use Rattle.lock_perform.specs.Parting.{no_parting, part_chain}
-use Rattle.lock_perform.specs.declared.parting.PartedChain.{PartedChain}
+use Rattle.lock_perform.specs.Parting.{PartedChain}
 use Rattle.lock_perform.specs.declared.parting.Parting.{Parting}
 use Rattle.lock_soundness.specs.Sound.{sound_of}
 use Rattle.lock_work.specs.Waiters.{waiter_goes, waiter_ticked}

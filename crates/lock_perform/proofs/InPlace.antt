@@ -22,7 +22,7 @@ use Rattle.lock_table.proofs.Places.{number_some, number_high, number_past}
 use Rattle.lock_table.proofs.Walks.{move_all_turn, move_all_end, move_all_past, move_none}
 use Rattle.lock_perform.specs.Moving.{CarriedOut, touched, plan, carried_out, joined_by, relink}
 use Rattle.lock_perform.specs.Queueing.{queue}
-use Rattle.lock_perform.specs.declared.queueing.JoinedChain.{JoinedChain}
+use Rattle.lock_perform.specs.Queueing.{JoinedChain}
 use Rattle.lock_perform.specs.InPlace.{if_record, plan_at, own_written, if_object, object_written}
 
 -- where nobody joins a chain, its first stays

@@ -23,8 +23,8 @@ use Rattle.lock_table.specs.declared.record.Table.{Table}
 use Rattle.lock_perform.specs.ThreadSet.{thread_set}
 use Rattle.lock_perform.specs.Parting.{no_parting, part_chain}
 use Rattle.lock_perform.specs.Queueing.{queue}
-use Rattle.lock_perform.specs.declared.queueing.JoinedChain.{JoinedChain}
-use Rattle.lock_perform.specs.declared.parting.PartedChain.{PartedChain}
+use Rattle.lock_perform.specs.Queueing.{JoinedChain}
+use Rattle.lock_perform.specs.Parting.{PartedChain}
 use Rattle.lock_perform.specs.declared.moving.ChainPlan.{ChainPlan}
 
 -- cancel: the word's thread, if in phase 2 on this object, goes back to 1; its kept word falls out of use

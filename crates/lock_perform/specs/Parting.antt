@@ -12,7 +12,11 @@ use Rattle.lock_table.specs.declared.record.ThreadRecord.{ThreadRecord}
 use Rattle.lock_table.specs.declared.record.Table.{Table}
 use Rattle.lock_perform.specs.ThreadSet.{thread_set}
 use Rattle.lock_perform.specs.declared.parting.Parting.{Parting}
-use Rattle.lock_perform.specs.declared.parting.PartedChain.{PartedChain}
+
+-- a table, and what a chain of it was parted into
+pub record PartedChain : Type 0 where
+  pub table : Table
+  pub parting : Parting
 
 -- the chain of those that stay, that of those that go, and who goes
 abbrev pub no_parting : Parting

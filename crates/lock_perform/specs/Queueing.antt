@@ -9,7 +9,11 @@ use Rattle.lock_table.specs.Record.{with_next}
 use Rattle.lock_table.specs.Access.{thread_at, set_thread}
 use Rattle.lock_table.specs.declared.record.ThreadRecord.{ThreadRecord}
 use Rattle.lock_table.specs.declared.record.Table.{Table}
-use Rattle.lock_perform.specs.declared.queueing.JoinedChain.{JoinedChain}
+
+-- a table, and the first of the chain that threads have joined
+pub record JoinedChain : Type 0 where
+  pub table : Table
+  pub first : ℕ
 
 -- the rank by which a thread joins a chain: its own in the entry chain. The other chains are by time of joining alone: by rank 0 nobody is passed.
 abbrev pub joining_rank : Chain → ThreadRecord → ℕ

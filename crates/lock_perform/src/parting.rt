@@ -7,7 +7,7 @@ ghost use Rattle.lock_perform.specs.InPlace.{linked_to};
 use crate::moving::if_record;
 use crate::thread_set::thread_set;
 use chains::{Ends, no_ends};
-use lock_table::{Table, ThreadRecord};
+use lock_table::ThreadRecord;
 
 // The chain of those that stay, that of those that go, if they go together, and the set of those that go.
 #[derive(Clone, Copy)]
@@ -15,13 +15,6 @@ pub struct Parting {
     pub left: Ends,
     pub taken: Ends,
     pub set: u32,
-}
-
-// A table, and what a chain of it was parted into.
-#[derive(Clone, Copy)]
-pub struct PartedChain {
-    pub table: Table,
-    pub parting: Parting,
 }
 
 pub fn no_parting() -> Parting

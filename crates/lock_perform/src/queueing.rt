@@ -6,14 +6,7 @@ ghost use Rattle.lock_perform.specs.Queueing.{joining_rank, place_for, first_at}
 ghost use Rattle.lock_perform.specs.InPlace.{record_in};
 
 use chains::{Chain, Place};
-use lock_table::{THREADS, Table, ThreadRecord, is_thread, thread_place};
-
-// A table, and the first of the chain that threads have joined.
-#[derive(Clone, Copy)]
-pub struct JoinedChain {
-    pub table: Table,
-    pub first: u8,
-}
+use lock_table::{THREADS, ThreadRecord, is_thread, thread_place};
 
 // The rank by which a thread joins a chain. Only the entry chain is by rank: by rank 0 nobody is passed.
 pub fn joining_rank(chain: Chain, thread: ThreadRecord) -> u8

@@ -38,7 +38,7 @@ use Rattle.lock_table.proofs.Walks.{move_none}
 use Rattle.lock_perform.specs.State.{write_thread}
 use Rattle.lock_perform.specs.Moving.{CarriedOut, unlinked, carried_out, joined_by, sent_back_of, relink, after_whole, let_outs, carry_out}
 use Rattle.lock_perform.specs.Queueing.{queue as queue_of}
-use Rattle.lock_perform.specs.declared.queueing.JoinedChain.{JoinedChain}
+use Rattle.lock_perform.specs.Queueing.{JoinedChain}
 use Rattle.lock_perform.proofs.InPlace.{queue_none}
 use Rattle.lock_records.proofs.QueueWalk.{moves_queue}
 use Rattle.lock_records.proofs.Shorts.{both_brief}

@@ -29,7 +29,8 @@ use Rattle.lock_soundness.specs.Sound.{sound_of}
 use Rattle.sound_records.proofs.Reading.{Within}
 use Rattle.lock_soundness.proofs.Chained.{leads_chain}
 use Rattle.lock_soundness.proofs.Reading.{threads_in_chain, Sound, sound_reads}
-use Rattle.lock_records.proofs.Naming.{chain_number, chain_number_low, chain_number_high, idle_never, named_once, unnamed_never}
+use Rattle.sound_records.specs.OnePass.{chain_number}
+use Rattle.lock_records.proofs.Naming.{chain_number_low, chain_number_high, idle_never, named_once, unnamed_never}
 use Rattle.lock_records.proofs.ReadBack.{IsWritten, fits_written, none_written, state_back, phase_back}
 
 -- a thread's record read as a thread of a table with lists

@@ -14,12 +14,7 @@ use Rattle.lock_rules.specs.declared.{Doing.Doing, ThreadState.ThreadState}
 use Rattle.lock_rules.specs.declared.ThreadState.TheVariants.{Idle}
 use Rattle.chains.specs.declared.named.Chain.{Chain}
 use Rattle.lock_table.specs.Parked.{chain_named}
-
--- 1 entry, 2 contention, 3 waiting
-abbrev pub chain_number : Chain → ℕ
-chain_number Chain.Entry = 1
-chain_number Chain.Contention = 2
-chain_number Chain.Waiting = 3
+use Rattle.sound_records.specs.OnePass.{chain_number}
 
 pub chain_number_low : (chain : Chain) → 1 ≤ chain_number chain
 chain_number_low = each_chain _ (search arith)

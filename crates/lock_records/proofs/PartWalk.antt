@@ -24,7 +24,7 @@ use Rattle.lock_table.specs.Access.{thread_at, set_thread}
 use Rattle.lock_table.specs.declared.record.{ThreadRecord.ThreadRecord, Table.Table}
 use Rattle.lock_table.proofs.Records.{set_thread_out}
 use Rattle.lock_perform.specs.Parting.{no_parting, last_behind, taken_with, passed, part_chain}
-use Rattle.lock_perform.specs.declared.parting.PartedChain.{PartedChain}
+use Rattle.lock_perform.specs.Parting.{PartedChain}
 use Rattle.lock_perform.specs.declared.parting.Parting.{Parting}
 use Rattle.lock_perform.proofs.ThreadSets.{set_with}
 use Rattle.lock_records.proofs.Represents.{thread_record, record_is}

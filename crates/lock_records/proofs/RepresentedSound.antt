@@ -28,7 +28,8 @@ use Rattle.lock_soundness.specs.Sound.{sound_of}
 use Rattle.sound_records.proofs.Reading.{Within, chain_kinds, parked_busy, ObjectFits, ThreadFits, written_object_fits}
 use Rattle.lock_soundness.proofs.Chained.{follow, chain_leads}
 use Rattle.lock_soundness.proofs.Reading.{threads_in_chain, Sound, sound_made}
-use Rattle.lock_records.proofs.Naming.{chain_number, chain_number_low, by_chain, named_once, unnamed_never, in_named, named_busy}
+use Rattle.sound_records.specs.OnePass.{chain_number}
+use Rattle.lock_records.proofs.Naming.{chain_number_low, by_chain, named_once, unnamed_never, in_named, named_busy}
 use Rattle.lock_records.proofs.{Fits.written_fits, Words.word_fits}
 
 module _ (t : Table) (lists : ListTable) (represents : Represents t.threadcount t.objectcount t lists)

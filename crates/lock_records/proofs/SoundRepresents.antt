@@ -32,7 +32,8 @@ use Rattle.lock_records.proofs.Represents.{object_record, thread_record, Represe
 use Rattle.lock_soundness.specs.Sound.{sound_of}
 use Rattle.sound_records.proofs.Reading.{chain_kinds, UnheldFits}
 use Rattle.lock_soundness.proofs.Reading.{threads_in_chain, Sound, sound_reads}
-use Rattle.lock_records.proofs.Naming.{chain_number, by_chain, one_chain, idle_or_busy}
+use Rattle.sound_records.specs.OnePass.{chain_number}
+use Rattle.lock_records.proofs.Naming.{by_chain, one_chain, idle_or_busy}
 use Rattle.lock_records.proofs.{ReadBack.state_back, Depths.DepthsFit, EveryNumber.counted_at}
 use Rattle.lock_records.proofs.Words.{seen_in, word_back, no_word_fine}
 use Rattle.lock_records.proofs.EveryNumber.{thread_read, thread_where, object_where, written_at, no_next_at, chain_at, members_at, parked_at}

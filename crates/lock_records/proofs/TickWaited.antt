@@ -41,10 +41,10 @@ use Rattle.lock_table.specs.Monitor.{hand_of, with_first, move_to_entry}
 use Rattle.lock_table.specs.declared.record.{ThreadRecord.ThreadRecord, ObjectRecord.ObjectRecord, Monitor.Monitor, Table.Table}
 use Rattle.lock_perform.specs.Moving.{CarriedOut, unlinked, plan_hand, carried_out, relink}
 use Rattle.lock_perform.specs.Queueing.{queue}
-use Rattle.lock_perform.specs.declared.queueing.JoinedChain.{JoinedChain}
+use Rattle.lock_perform.specs.Queueing.{JoinedChain}
 use Rattle.lock_perform.proofs.InPlace.{queue_none}
 use Rattle.lock_perform.specs.Parting.{no_parting}
-use Rattle.lock_perform.specs.declared.parting.PartedChain.{PartedChain}
+use Rattle.lock_perform.specs.Parting.{PartedChain}
 use Rattle.lock_perform.specs.declared.parting.Parting.{Parting}
 use Rattle.lock_perform.specs.ThreadSet.{thread_set, has_thread}
 use Rattle.lock_perform.proofs.ThreadSets.{has_none}

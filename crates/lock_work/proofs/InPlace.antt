@@ -23,9 +23,9 @@ use Rattle.lock_table.specs.declared.record.{ObjectRecord.ObjectRecord, Monitor.
 use Rattle.lock_table.proofs.Records.{object_in, set_object_in}
 use Rattle.lock_perform.specs.Moving.{CarriedOut, touched, relink}
 use Rattle.lock_perform.specs.Parting.{no_parting}
-use Rattle.lock_perform.specs.declared.parting.PartedChain.{PartedChain}
+use Rattle.lock_perform.specs.Parting.{PartedChain}
 use Rattle.lock_perform.specs.Queueing.{queue}
-use Rattle.lock_perform.specs.declared.queueing.JoinedChain.{JoinedChain}
+use Rattle.lock_perform.specs.Queueing.{JoinedChain}
 use Rattle.lock_perform.specs.InPlace.{plan_at}
 use Rattle.lock_perform.specs.declared.moving.ChainPlan.{ChainPlan}
 use Rattle.lock_perform.proofs.InPlace.{with_threads, relinked_alone}

@@ -14,7 +14,7 @@ use Rattle.lock_table.specs.Chain.{move_all}
 use Rattle.lock_table.specs.Place.{thread_place, object_place}
 use Rattle.lock_table.specs.declared.monitor.LetOut.{LetOut}
 use Rattle.lock_table.specs.declared.record.{ThreadRecord.ThreadRecord, ObjectRecord.ObjectRecord, Monitor.Monitor, Table.Table}
-use Rattle.lock_perform.specs.declared.queueing.JoinedChain.{JoinedChain}
+use Rattle.lock_perform.specs.Queueing.{JoinedChain}
 use Rattle.lock_perform.specs.Moving.{CarriedOut, touched, moved_whole, carried_out, joined_by, relink, after_whole, let_outs, lets_out, carry_out}
 use Rattle.lock_perform.specs.InPlace.{plan_at, own_written, object_written}
 use Rattle.lock_perform.specs.declared.moving.ChainPlan.{ChainPlan}

@@ -9,7 +9,7 @@ use Rattle.lock_table.specs.declared.operation.Operation.TheVariants.{Idle, Ente
 use Rattle.lock_table.specs.declared.record.ThreadRecord.{ThreadRecord}
 use Rattle.lock_table.specs.declared.record.Table.{Table}
 use Rattle.lock_perform.specs.Parting.{part_chain}
-use Rattle.lock_perform.specs.declared.parting.PartedChain.{PartedChain}
+use Rattle.lock_perform.specs.Parting.{PartedChain}
 use Rattle.lock_perform.specs.declared.parting.Parting.{Parting}
 
 -- "loses one"; a wait without a limit has none to lose

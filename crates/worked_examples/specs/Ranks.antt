@@ -11,7 +11,7 @@ use Rattle.lock_table.specs.declared.phase.Phase.TheVariants.{Queued}
 use Rattle.lock_table.specs.declared.record.{ThreadRecord.ThreadRecord, Table.Table}
 use Rattle.lock_perform.specs.Moving.{let_out}
 use Rattle.lock_perform.specs.Queueing.{queue}
-use Rattle.lock_perform.specs.declared.queueing.JoinedChain.{JoinedChain}
+use Rattle.lock_perform.specs.Queueing.{JoinedChain}
 use Rattle.sound_records.specs.Records.{falls_behind}
 
 abbrev ranked : ℕ → ℕ → ThreadRecord

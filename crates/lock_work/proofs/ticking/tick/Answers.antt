@@ -1,8 +1,8 @@
 -- Where somebody waits, what the object's turn leaves is its tick as defined.
 use Rattle.std.proofs.Common.{◌∙◌, ◌+◌, ◌<◌, refl, ap}
 use Rattle.lock_table.specs.Limits.{object_limit}
-use Rattle.lock_perform.specs.declared.parting.PartedChain.{PartedChain}
-use Rattle.lock_perform.specs.declared.queueing.JoinedChain.{JoinedChain}
+use Rattle.lock_perform.specs.Parting.{PartedChain}
+use Rattle.lock_perform.specs.Queueing.{JoinedChain}
 use Rattle.lock_work.specs.Tick.{tick_waited, behind, tick_to}
 use Rattle.lock_work.specs.declared.settling.WorkDone.{WorkDone}
 use Rattle.lock_work.proofs.InPlace.{waited_in_place, tick_skips, tick_takes}

@@ -2,7 +2,7 @@
 use Rattle.std.proofs.Common.{◌≡◌, ◌∙◌, ◌-◌, sym, ap, true, false}
 use Rattle.laws.specs.Choice.{within}
 use Rattle.lock_table.specs.Limits.{thread_limit}
-use Rattle.lock_perform.specs.declared.parting.PartedChain.{PartedChain}
+use Rattle.lock_perform.specs.Parting.{PartedChain}
 use Rattle.lock_perform.proofs.PartInPlace.{part_passes, part_stops, part_ends}
 use Rattle.lock_work.proofs.walking.part.Goals as goal
 

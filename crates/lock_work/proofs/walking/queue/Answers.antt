@@ -2,7 +2,7 @@
 use Rattle.std.proofs.Common.{◌≡◌, ◌∙◌, ◌-◌, sym, ap, true, false}
 use Rattle.laws.specs.Choice.{within}
 use Rattle.lock_table.specs.Limits.{thread_limit}
-use Rattle.lock_perform.specs.declared.queueing.JoinedChain.{JoinedChain}
+use Rattle.lock_perform.specs.Queueing.{JoinedChain}
 use Rattle.lock_perform.proofs.QueueInPlace.{queue_passes, queue_stops, queue_ends}
 use Rattle.lock_work.proofs.walking.queue.Goals as goal
 
