@@ -15,6 +15,7 @@ use Rattle.lock_work.specs.declared.settling.WorkDone.{WorkDone}
 use Rattle.lock_soundness.specs.Sound.{sound_of}
 use Rattle.lock_engine.specs.Turn.{take_turn}
 use Rattle.lock_engine.specs.declared.outcome.Outcome.{Outcome}
+use Rattle.lock_engine.specs.declared.outcome.Done.{Done}
 use Rattle.lock_engine.specs.declared.turning.Turn.{Turn}
 
 -- how many threads wait for an object
@@ -52,6 +53,10 @@ handle_with table event issound own =
 -- for a caller that knows whether the table is sound
 unfoldable pub handle_trusting : Table → Event → Bool → Outcome
 handle_trusting table event issound = handle_with table event issound (thread_at table (event_thread event))
+
+-- an outcome without its table, which was changed in its place
+abbrev pub done_of : Outcome → Done
+done_of outcome = record { reply = outcome.reply; commits = outcome.commits; unparked = outcome.unparked }
 
 -- every event on every table
 unfoldable pub handle : Table → Event → Outcome

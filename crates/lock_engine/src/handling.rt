@@ -1,8 +1,8 @@
 // An event on a table: the two records that it touches are read in place, take their turn and are written back in place.
 ghost use Rattle.std.specs.Prelude.{◌≡◌};
-ghost use Rattle.lock_engine.specs.Handle.{turn_with, handle_trusting, handle, begin, step, tick_event};
+ghost use Rattle.lock_engine.specs.Handle.{turn_with, done_of, handle_trusting, handle, begin, step, tick_event};
 
-use crate::outcome::Outcome;
+use crate::outcome::{Done, Outcome};
 use crate::turning::{Turn, take_turn};
 use lock_gate::{event_object, event_thread};
 use lock_perform::length_from;
@@ -14,13 +14,13 @@ use lock_work::{work_done, work_stays};
 // waits there is nothing to walk.
 #[tactic(auto, using(laws::proofs::Choice::either_way, crate::proofs::InPlace::none_wait))]
 pub fn turn_with(
-    table: Table,
+    table: &Table,
     event: Event,
     issound: bool,
     own: ThreadRecord,
     object: ObjectRecord,
 ) -> Turn
-    ensures { result ≡ turn_with table event issound own object }
+    ensures { result ≡ turn_with table.now event issound own object }
 {
     let mut waiters: u8 = 0;
     if object.monitor.waiting != 0 {
@@ -38,37 +38,44 @@ pub fn turn_with(
     )
 }
 
+// An event carried out where the table stands, for a caller that knows whether it is sound: what `handle_trusting` gives, with the table left in its place.
+#[tactic(auto, using(lock_table::proofs::Places::place_inside))]
+pub fn handle_in_place(table: &mut Table, event: Event, issound: bool) -> Done
+    ensures table { table.new ≡ (handle_trusting table.old event issound).table }
+    ensures done { result ≡ done_of (handle_trusting table.old event issound) }
+{
+    let thread = event_thread(event);
+    let place = thread_place(thread);
+    let own = table.threads[place];
+    let number = event_object(event, own.object);
+    let home = object_place(number);
+    let object = table.objects[home];
+    let turn = turn_with(table, event, issound, own, object);
+    let mut unparked: u32 = 0;
+    if work_stays(turn.work) {
+        table.threads[place] = turn.own;
+        table.objects[home] = turn.object;
+    } else {
+        unparked = work_done(table, thread, number, turn.own, turn.object, turn.work);
+    }
+    Done {
+        reply: turn.reply,
+        commits: turn.commits,
+        unparked,
+    }
+}
+
 // For a caller that knows whether the table is sound.
-#[tactic(auto, using(crate::proofs::InPlace::stored_so, crate::proofs::InPlace::worked_so, lock_table::proofs::Places::place_inside))]
 pub fn handle_trusting(table: Table, event: Event, issound: bool) -> Outcome
     ensures { result ≡ handle_trusting table event issound }
 {
     let mut changed = table;
-    let thread = event_thread(event);
-    let place = thread_place(thread);
-    let own = changed.threads[place];
-    let number = event_object(event, own.object);
-    let home = object_place(number);
-    let object = changed.objects[home];
-    let turn = turn_with(changed, event, issound, own, object);
-    let ownafter = turn.own;
-    let objectafter = turn.object;
-    let work = turn.work;
-    let reply = turn.reply;
-    let mut unparked: u32 = 0;
-    if work_stays(work) {
-        changed.threads[place] = ownafter;
-        changed.objects[home] = objectafter;
-    } else {
-        let done = work_done(changed, thread, number, ownafter, objectafter, work);
-        unparked = done.unparked;
-        changed = done.table;
-    }
+    let done = handle_in_place(&mut changed, event, issound);
     Outcome {
         table: changed,
-        reply,
-        commits: turn.commits,
-        unparked,
+        reply: done.reply,
+        commits: done.commits,
+        unparked: done.unparked,
     }
 }
 

@@ -7,6 +7,6 @@ mod handling;
 mod outcome;
 mod turning;
 
-pub use handling::{begin, handle, handle_trusting, step, tick_event, turn_with};
-pub use outcome::{Outcome, Reply, refusal_number, returned, woken};
+pub use handling::{begin, handle, handle_in_place, handle_trusting, step, tick_event, turn_with};
+pub use outcome::{Done, Outcome, Reply, refusal_number, returned, woken};
 pub use turning::{Turn, begun};

@@ -15,6 +15,16 @@ pub enum Reply {
     Answered(Answer),
 }
 
+// What an event gives back beside the table, where it is carried out in the table's place.
+#[derive(Clone, Copy)]
+pub struct Done {
+    pub reply: Reply,
+    // the event is a committing step
+    pub commits: bool,
+    // the set of the other threads that the event unparked: bit n - 1 for thread n
+    pub unparked: u32,
+}
+
 #[derive(Clone, Copy)]
 pub struct Outcome {
     pub table: Table,

@@ -9,8 +9,8 @@ use lock_table::{ObjectRecord, THREADS, Table};
 use lock_word::WordSeen;
 
 // How many threads are in the chain from `first` on.
-pub fn length_from(table: Table, first: u8) -> u8
-    ensures { result ≡ chain_length 32 (next_of table) first }
+pub fn length_from(table: &Table, first: u8) -> u8
+    ensures { result ≡ chain_length 32 (next_of table.now) first }
 {
     let mut at = first;
     for passed in 0..THREADS {

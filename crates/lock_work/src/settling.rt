@@ -1,5 +1,5 @@
-// What an event leaves to be done to the table besides its two records, done. A rule's work is on the chains of its object: the table stands in one
-// local, which walks along a chain are lent, and functions of records say what becomes of each record. A tick's is on every waiting chain.
+// What an event leaves to be done to the table besides its two records, done where the table stands. A rule's work is on the chains of its object: walks
+// along a chain are lent the table, and functions of records say what becomes of each record. A tick's is on every waiting chain.
 ghost use Rattle.std.specs.Prelude.{◌≡◌};
 ghost use Rattle.lock_work.specs.Work.{work_stays, chains_done, work_done};
 
@@ -26,39 +26,40 @@ pub fn work_stays(work: Work) -> bool
     }
 }
 
-// The table with the work done, and the set of threads that it unparked: bit n - 1 for thread n.
+// The table with the work done, and the set of threads that it unparked, bit n - 1 for thread n: what the definitions speak of. The code changes the
+// table that it is lent and gives back the set.
 #[derive(Clone, Copy)]
 pub struct WorkDone {
     pub table: Table,
     pub unparked: u32,
 }
 
-// The work done, and both records written: the thread's with the next index and the object's with the chains that the work gave. First the threads of a
+// A rule's work done, and both records written: the thread's with the next index and the object's with the chains that the work gave. First the threads of a
 // chain that moves whole are changed, then one record is, and those that join a chain are put at their places; at last exits are let out.
 #[tactic(auto, using(lock_table::proofs::Places::place_inside))]
 fn chains_done(
-    table: Table,
+    table: &mut Table,
     thread: u8,
     number: u8,
     own: ThreadRecord,
     object: ObjectRecord,
     work: ChainWork,
-) -> WorkDone
-    ensures { result ≡ chains_done table thread number own object work }
+) -> u32
+    ensures table { table.new ≡ (chains_done table.old thread number own object work).table }
+    ensures unparked { result ≡ (chains_done table.old thread number own object work).unparked }
 {
-    let mut changed = table;
     let whole = moved_whole(work, object.monitor);
     if whole != 0 {
-        move_all(&mut changed, whole);
+        move_all(table, whole);
     }
     let place = thread_place(touched(work, object.monitor));
-    let planned = plan_at(work, object.monitor, thread, number, changed.threads[place]);
-    changed.threads[place] = planned.changed;
+    let planned = plan_at(work, object.monitor, thread, number, table.threads[place]);
+    table.threads[place] = planned.changed;
     let begins = planned.monitor.first_in(planned.into);
-    let first = queue(&mut changed, planned.into, begins, planned.back);
+    let first = queue(table, planned.into, begins, planned.back);
     let joined = planned.monitor.join(planned.into, first);
     let out = if lets_out(work) {
-        let parting = part_exits(&mut changed, joined.entry);
+        let parting = part_exits(table, joined.entry);
         joined.let_out(parting.left.first, parting.set)
     } else {
         LetOut {
@@ -67,26 +68,24 @@ fn chains_done(
         }
     };
     let place = thread_place(thread);
-    changed.threads[place] = own_written(thread, own, changed.threads[place]);
+    table.threads[place] = own_written(thread, own, table.threads[place]);
     let home = object_place(number);
-    changed.objects[home] = object_written(number, object, out.monitor, changed.objects[home]);
-    WorkDone {
-        table: changed,
-        unparked: out.threads,
-    }
+    table.objects[home] = object_written(number, object, out.monitor, table.objects[home]);
+    out.threads
 }
 
-// The work of an event that leaves some.
+// The work of an event that leaves some, done to the table; the set of threads that it unparked.
 #[tactic(auto, unfolding(crate::specs::Work::work_done))]
 pub fn work_done(
-    table: Table,
+    table: &mut Table,
     thread: u8,
     number: u8,
     own: ThreadRecord,
     object: ObjectRecord,
     work: Work,
-) -> WorkDone
-    ensures { result ≡ work_done work table thread number own object }
+) -> u32
+    ensures table { table.new ≡ (work_done work table.old thread number own object).table }
+    ensures unparked { result ≡ (work_done work table.old thread number own object).unparked }
 {
     match work {
         Work::Chains(chains) => chains_done(table, thread, number, own, object, chains),

@@ -2,7 +2,6 @@
 ghost use Rattle.std.specs.Prelude.{◌≡◌};
 ghost use Rattle.lock_work.specs.Tick.{handing, tick};
 
-use crate::settling::WorkDone;
 use crate::walking::{part_waiters, queue};
 use chains::Chain;
 use lock_perform::{plan_at, touched};
@@ -24,21 +23,21 @@ fn handing(monitor: Monitor) -> ChainWork
 // All objects, rising. Where nobody waits nobody moves, and a monitor that nobody holds has nobody to be handed to. Those that run out, if there are any,
 // join the entry chain, and its first is handed a monitor that nobody holds. Only the hand unparks anybody.
 #[tactic(auto, using(lock_table::proofs::Places::place_inside))]
-pub(crate) fn tick(table: Table) -> WorkDone
-    ensures { result ≡ tick table }
+pub(crate) fn tick(table: &mut Table) -> u32
+    ensures table { table.new ≡ (tick table.old).table }
+    ensures unparked { result ≡ (tick table.old).unparked }
 {
-    let mut changed = table;
     let mut unparked: u32 = 0;
     for done in 0..OBJECTS {
         let home = usize::from(done);
-        let object = changed.objects[home];
+        let object = table.objects[home];
         let waiting = object.monitor.waiting;
         if waiting == 0 {
             continue;
         }
-        let parting = part_waiters(&mut changed, waiting);
+        let parting = part_waiters(table, waiting);
         let first = queue(
-            &mut changed,
+            table,
             Chain::Entry,
             object.monitor.entry,
             parting.taken.first,
@@ -48,13 +47,10 @@ pub(crate) fn tick(table: Table) -> WorkDone
             .move_to_entry(Chain::Waiting, parting.left.first, first);
         let work = handing(monitor);
         let place = thread_place(touched(work, monitor));
-        let planned = plan_at(work, monitor, 0, 0, changed.threads[place]);
-        changed.threads[place] = planned.changed;
+        let planned = plan_at(work, monitor, 0, 0, table.threads[place]);
+        table.threads[place] = planned.changed;
         unparked |= planned.unparked;
-        changed.objects[home] = object.with_monitor(planned.monitor);
+        table.objects[home] = object.with_monitor(planned.monitor);
     }
-    WorkDone {
-        table: changed,
-        unparked,
-    }
+    unparked
 }

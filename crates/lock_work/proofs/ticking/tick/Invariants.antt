@@ -5,4 +5,4 @@ use Rattle.lock_work.specs.declared.settling.WorkDone.{WorkDone}
 use Rattle.lock_work.proofs.ticking.tick.Given as goal
 
 abbrev pub invariant-loop-done : goal.invariant-loop-done
-invariant-loop-done l = let so_far : WorkDone = record { table = l.changed; unparked = l.unparked } in so_far ≡ tick_to l.done l.fn.table
+invariant-loop-done l = let so_far : WorkDone = record { table = l.table; unparked = l.unparked } in so_far ≡ tick_to l.done l.initial.table
