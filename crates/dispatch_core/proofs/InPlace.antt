@@ -132,30 +132,12 @@ module _ (scripts : List ℕ) (threads objects : ℕ) (w : Scripted) (good : Goo
     pub ready_so : scripted (with_own w.table at own) (set w.cursors at moved) ≡ begin_next scripts thread w
     ready_so = rw (ready.own_is, ready.moved_is, ready.place_is) (begun_so started (sym started_so))
 
-    -- the record that was written is the one that is read
-    own_read : get_or (set w.table.threads at own) at no_thread ≡ own
-    own_read =
-        get_or-set_same w.table.threads at own no_thread
-        (let few = place_inside thread_limit thread (omega arith) in omega (arith, few, ready.place_is, good.typed.threads))
-
     -- the step, as the engine takes it of a table that it takes to be sound
-    pub stepped_so : {target home : ℕ} {turn : Turn} → target ≡ own.object → home ≡ object_place target
-        → turn ≡ turn_with (with_own w.table at own) (StepOf thread) true own (get_or w.table.objects home no_object)
-        → {stay : Bool} → stay ≡ work_stays turn.work → {after : Table} {unparked : ℕ}
-        → ((stay ≡ true) × (after ≡ stored (with_own w.table at own) at home turn.own turn.object) × (unparked ≡ 0))
-        ⊎ ((stay ≡ false) × (done : WorkDone) × (done ≡ work_done_of (with_own w.table at own) thread target turn) × (after ≡ done.table) × (unparked ≡ done.unparked))
-        → record { table = after; reply = turn.reply; commits = turn.commits; unparked = unparked } ≡ handle (begin_next scripts thread w).table (StepOf thread)
+    pub stepped_so : {outcome : Outcome} → outcome ≡ handle_trusting (with_own w.table at own) (StepOf thread) true
+        → outcome ≡ handle (begin_next scripts thread w).table (StepOf thread)
     unfolding handle
-    stepped_so {home = home} target_is home_is turn_is told came =
-        came_so
-        (record {
-          thread_is = refl;
-          place_is = ready.place_is;
-          number_is = target_is ∙ ap (λ (r : ThreadRecord). r.object) (sym own_read);
-          home_is = home_is;
-          turn_is = turn_is ∙ ap (λ (r : ThreadRecord). turn_with (with_own w.table at own) (StepOf thread) true r (get_or w.table.objects home no_object)) (sym own_read);
-        }) told came
-        ∙ ap (λ (x : Scripted). handle_trusting x.table (StepOf thread) true) ready_so
+    stepped_so is =
+        is ∙ ap (λ (x : Scripted). handle_trusting x.table (StepOf thread) true) ready_so
         ∙ ap (handle_trusting (begin_next scripts thread w).table (StepOf thread)) (sym (good_begin scripts threads objects w good thread low high).sound)
 
 begun_mark : (scripts : List ℕ) (thread : ℕ) (w : Scripted) (started : Bool) → begins_in thread w ≡ started → is_begun (begun_in scripts thread w) ≡ started

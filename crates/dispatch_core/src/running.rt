@@ -7,11 +7,10 @@ use crate::position::{first_position, goes_on, is_step, most_steps, next_positio
 use crate::script::{begins, cursor_after, record_ready};
 use crate::trace::{put_entry, trace_entry};
 use dispatch_rules::{Dispatched, ScriptCursor, ScriptRun};
-use lock_engine::{returned, turn_with};
+use lock_engine::{handle_in_place, returned};
 use lock_gate::thread_status;
 use lock_rules::Event;
-use lock_table::{Table, object_place, thread_place};
-use lock_work::{work_done, work_stays};
+use lock_table::{Table, thread_place};
 
 // Runs the scripts from the given cursors on, round after round, until a round is without a step. `lent` records were lent; those of the table's threads are
 // the first cursors. Refused, it changes nothing. Soundness is tested once, before the loop: every event keeps it. A begin is made on the record that
@@ -40,31 +39,13 @@ pub fn run_scripts(
         let place = thread_place(thread);
         let before = changed.threads[place];
         let cursor = moved[place];
-        let phase = before.phase;
-        let begun = begins(thread_status(phase), cursor);
-        let own = record_ready(begun, scripts, before, cursor);
-        changed.threads[place] = own;
+        let begun = begins(thread_status(before.phase), cursor);
+        changed.threads[place] = record_ready(begun, scripts, before, cursor);
         moved[place] = cursor_after(begun, cursor);
-        let target = own.object;
-        let home = object_place(target);
-        let object = changed.objects[home];
-        let turn = turn_with(changed, Event::Step { thread }, true, own, object);
-        let ownafter = turn.own;
-        let objectafter = turn.object;
-        let work = turn.work;
-        let reply = turn.reply;
-        let mut unparked: u32 = 0;
-        if work_stays(work) {
-            changed.threads[place] = ownafter;
-            changed.objects[home] = objectafter;
-        } else {
-            let done = work_done(changed, thread, target, ownafter, objectafter, work);
-            unparked = done.unparked;
-            changed = done.table;
-        }
-        let number = returned(reply);
+        let done = handle_in_place(&mut changed, Event::Step { thread }, true);
+        let number = returned(done.reply);
         let took = is_step(number);
-        let entry = trace_entry(thread, begun, reply, turn.commits, unparked);
+        let entry = trace_entry(thread, begun, done.reply, done.commits, done.unparked);
         put_entry(trace, steps, took, entry);
         steps += usize::from(took);
         position = next_position(threads, quantum, position, took, goes_on(number));

@@ -1,6 +1,5 @@
 -- What was done and what is left to run give what the whole run gives: before the loop, after a thread might take its step, and at the end.
 use Rattle.std.proofs.Common.{ℕ, Bool, true, false, ◌≡◌, ◌+◌, ◌∙◌, refl, ap, set, arith}
-use mathlib.Core.Logic.{inl, inr}
 use Rattle.std.specs.Int.{from_bool}
 use Rattle.laws.specs.Choice.{pick}
 use Rattle.laws.specs.Count.{one_if}
@@ -13,7 +12,6 @@ use Rattle.dispatch_rules.specs.Script.{Scripted}
 use Rattle.dispatch_core.specs.Position.{next_position}
 use Rattle.dispatch_core.proofs.InPlace.{Readied, started_so, ready_so, stepped_so, goes_round, goes_less, run_over, counts_fit, run_begins, run_few}
 use Rattle.dispatch_core.proofs.running.run_scripts.Goals as goal
-use Rattle.dispatch_core.proofs.running.run_scripts.Goals.{then-work_stays, else-work_stays}
 
 -- one more step, or none
 counted : (took : Bool) → from_bool took ≡ one_if took
@@ -44,26 +42,28 @@ loop-position-preserved c =
     let going = loop.invariant in
     let more = c.loop-position-test.true in
     let (some, alive) = going.alive more in
-    let turn = c.turn_with-turn.result in
-    let joined = c.if-work_stays in
     let took = c.is_step-took.result in
-    let outcome : Outcome = record { table = joined.changed; reply = turn.reply; commits = turn.commits; unparked = joined.unparked } in
+    let done = c.handle_in_place-done in
+    let outcome : Outcome =
+    record { table = done.new.table; reply = done.result.reply; commits = done.result.commits; unparked = done.result.unparked } in
     let ready : Readied _ _ _ _ alive.good loop.position.thread alive.low alive.high c.thread_place-place.result c.thread_status.result
-    c.begins-begun.result c.record_ready-own.result c.cursor_after.result =
+    c.begins-begun.result c.record_ready.result c.cursor_after.result =
     record {
       place_is = c.thread_place-place.ensures;
       status_is = c.thread_status.ensures;
       started_is = c.begins-begun.ensures;
-      own_is = c.record_ready-own.ensures;
+      own_is = c.record_ready.ensures;
       moved_is = c.cursor_after.ensures;
     } in
     let answer = c.returned-number.ensures in
     goes_round going more {outcome = outcome} (started_so _ _ _ _ _ _ _ _ ready)
-    (stepped_so _ _ _ _ _ _ _ _ ready refl c.object_place-home.ensures c.turn_with-turn.ensures c.work_stays.ensures
-    (elim joined.branch [
-      | then-work_stays w ↦ inl (w.if-work_stays.true, w.changed-is, w.unparked-is)
-      | else-work_stays w ↦ inr (w.if-work_stays.false, w.work_done-done.result, w.work_done-done.ensures, w.changed-is, w.unparked-is)
-    ]))
+    (stepped_so _ _ _ _ _ _ _ _ ready {outcome = outcome}
+    (λ j. record {
+      table = done.ensures.table j;
+      reply = (done.ensures.done j).reply;
+      commits = (done.ensures.done j).commits;
+      unparked = (done.ensures.done j).unparked;
+    }))
     (ap (λ (x : Scripted). scripted outcome.table x.cursors) (ready_so _ _ _ _ _ _ _ _ ready))
     (c.is_step-took.ensures ∙ ap is_step answer)
     (c.put_entry.ensures ∙ ap (λ (n : ℕ). pick took (set loop.trace loop.steps n) loop.trace) c.trace_entry-entry.ensures)
