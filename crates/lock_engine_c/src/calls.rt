@@ -61,27 +61,23 @@ fn handle_event(bytes: &mut [u8], event: Event) -> u64
     if !is_table(bytes) {
         return refusal_number(Refusal::NotSound).into();
     }
-    let table = read_table(bytes);
+    let mut table = read_table(bytes);
     let issound = sound(table);
     let thread = event_thread(event);
     let own = read_thread(bytes, thread);
     let number = event_object(event, own.object);
     let object = read_object(bytes, number);
-    let turn = turn_with(table, event, issound, own, object);
-    let ownafter = turn.own;
-    let objectafter = turn.object;
-    let work = turn.work;
+    let turn = turn_with(&table, event, issound, own, object);
     let reply = turn.reply;
     let mut unparked: u32 = 0;
-    if work_stays(work) {
+    if work_stays(turn.work) {
         if reply_changes(reply) {
-            write_thread(bytes, thread, ownafter);
-            write_object(bytes, number, objectafter);
+            write_thread(bytes, thread, turn.own);
+            write_object(bytes, number, turn.object);
         }
     } else {
-        let done = work_done(table, thread, number, ownafter, objectafter, work);
-        unparked = done.unparked;
-        write_table(bytes, done.table);
+        unparked = work_done(&mut table, thread, number, turn.own, turn.object, turn.work);
+        write_table(bytes, table);
     }
     packed(returned(reply), woken(reply), turn.commits, unparked)
 }

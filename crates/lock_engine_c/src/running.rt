@@ -5,16 +5,12 @@ ghost use Rattle.lock_engine_c.specs.Run.{run_count, run_events, run_answers, ru
 
 use crate::calls::{reply_changes, store};
 use event_bytes::{event_of, packed};
-use lock_engine::{returned, turn_with, woken};
-use lock_gate::{event_object, event_thread};
+use lock_engine::{handle_in_place, returned, woken};
 use lock_soundness::sound;
-use lock_table::{object_place, thread_place};
-use lock_work::{work_done, work_stays};
 use table_bytes::{is_table, read_table};
 
 // Runs the events one behind the other, as calls of their own would. What is no table's, or not sound, stays so: it is tested
 // once, and every event is answered 11.
-#[tactic(auto, using(lock_table::proofs::Places::place_inside))]
 pub fn duskclamp_run(bytes: &mut [u8], events: &[u8], answers: &mut [u64]) -> usize
     ensures value { result ≡ run_count (length events.now) (length answers.old) }
     ensures answers_after { answers.new ≡ overwritten 0 (run_answers bytes.old (run_events events.now answers.old)) answers.old }
@@ -28,28 +24,10 @@ pub fn duskclamp_run(bytes: &mut [u8], events: &[u8], answers: &mut [u64]) -> us
     let mut changed = false;
     for done in 0..count {
         let event = event_of(&whole[done]);
-        let thread = event_thread(event);
-        let place = thread_place(thread);
-        let own = table.threads[place];
-        let number = event_object(event, own.object);
-        let home = object_place(number);
-        let object = table.objects[home];
-        let turn = turn_with(table, event, issound, own, object);
-        let ownafter = turn.own;
-        let objectafter = turn.object;
-        let work = turn.work;
-        let reply = turn.reply;
-        let mut unparked: u32 = 0;
-        if work_stays(work) {
-            table.threads[place] = ownafter;
-            table.objects[home] = objectafter;
-        } else {
-            let worked = work_done(table, thread, number, ownafter, objectafter, work);
-            unparked = worked.unparked;
-            table = worked.table;
-        }
+        let made = handle_in_place(&mut table, event, issound);
+        let reply = made.reply;
         changed |= reply_changes(reply);
-        answers[done] = packed(returned(reply), woken(reply), turn.commits, unparked);
+        answers[done] = packed(returned(reply), woken(reply), made.commits, made.unparked);
     }
     store(bytes, table, changed);
     count

@@ -15,7 +15,7 @@ unparks c =
     elim c.if-work_stays.branch [
       | then-work_stays+then-reply_changes w ↦ w.unparked-is ∙ simp (stays ∙ w.if-work_stays.true)
       | then-work_stays+else-reply_changes w ↦ w.unparked-is ∙ simp (stays ∙ w.if-work_stays.true)
-      | else-work_stays w ↦ w.unparked-is ∙ simp (w.work_done-done.ensures, stays ∙ w.if-work_stays.false)
+      | else-work_stays w ↦ w.unparked-is ∙ simp (w.work_done-unparked.ensures.unparked, stays ∙ w.if-work_stays.false)
     ]
 
 pub returns-clause-value : goal.returns-clause-value

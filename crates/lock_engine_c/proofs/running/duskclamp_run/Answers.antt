@@ -3,14 +3,11 @@ use Rattle.std.proofs.Common.{ℕ, List, [], get_or, ◌/◌, ◌≡◌, ◌∙�
 use Rattle.event_bytes.specs.Encoding.{event_size, event_at}
 use Rattle.event_bytes.proofs.Chunks.{chunk_event}
 use Rattle.lock_engine_c.specs.Run.{run_count}
-use mathlib.Core.Logic.{inl, inr}
 use Rattle.laws.specs.Choice.{both, either}
 use Rattle.lock_engine.specs.declared.outcome.Outcome.{Outcome}
 use Rattle.table_bytes.specs.Reading.{AreBytes}
-use Rattle.lock_engine.proofs.InPlace.{came_so}
 use Rattle.lock_engine_c.proofs.Runs.{count_is, run_starts, run_goes_on, run_ends}
 use Rattle.lock_engine_c.proofs.running.duskclamp_run.Goals as goal
-use Rattle.lock_engine_c.proofs.running.duskclamp_run.Goals.{then-work_stays, else-work_stays}
 
 pub loop-done-init : goal.loop-done-init
 loop-done-init c =
@@ -31,9 +28,9 @@ loop-done-preserved c =
     let loop = c.loop-done in
     let kept = loop.invariant in
     let test = c.loop-done-test.true in
-    let turn = c.turn_with-turn.result in
-    let joined = c.if-work_stays in
-    let outcome : Outcome = record { table = joined.table; reply = turn.reply; commits = turn.commits; unparked = joined.unparked } in
+    let made = c.handle_in_place-made in
+    let outcome : Outcome =
+    record { table = made.new.table; reply = made.result.reply; commits = made.result.commits; unparked = made.result.unparked } in
     record {
       small = kept.small;
       count_is = kept.count_is;
@@ -41,19 +38,12 @@ loop-done-preserved c =
       running = run_goes_on _ _ _ kept.running {outcome = outcome} (omega (arith, kept.count_is, test)) (omega (arith, kept.room, loop.auto.answers, test))
           (c.event_of-event.ensures ∙ ap (λ (chunks : List (List ℕ)). event_at (get_or chunks loop.done []) 0) c.as_chunks.ensures.front
           ∙ chunk_event (length c.args.events.now / event_size) c.args.events.now loop.done [] (omega (arith, test, rw c.as_chunks.ensures.front_len at c.min-count.ensures)))
-          (came_so
-          (record {
-            thread_is = c.event_thread-thread.ensures;
-            place_is = c.thread_place-place.ensures;
-            number_is = c.event_object-number.ensures;
-            home_is = c.object_place-home.ensures;
-            turn_is = c.turn_with-turn.ensures;
+          (λ j. record {
+            table = made.ensures.table j;
+            reply = (made.ensures.done j).reply;
+            commits = (made.ensures.done j).commits;
+            unparked = (made.ensures.done j).unparked;
           })
-          c.work_stays.ensures
-          (elim joined.branch [
-            | then-work_stays w ↦ inl (w.if-work_stays.true, w.table-is, w.unparked-is)
-            | else-work_stays w ↦ inr (w.if-work_stays.false, w.work_done-worked.result, w.work_done-worked.ensures, w.table-is, w.unparked-is)
-          ]))
           (simp (c.packed.ensures.value, c.woken.ensures, c.returned.ensures))
           (λ j. either loop.changed (c.reply_changes-changed.ensures j));
     }
