@@ -9,14 +9,14 @@ fn write_number<P: Print>(rt: &P, number: u64) {
 }
 
 fn write_phase<P: Print>(rt: &P, table: Table, thread: u8) {
-    let record = lock_table::thread_at(table, thread);
+    let record = lock_table::thread_at(&table, thread);
     let phase = record.phase;
     write_number(rt, lock_table::phase_number(phase) as u64);
 }
 
 // Six hexadecimal digits, or as many as the word has.
 fn write_word<P: Print>(rt: &P, table: Table, object: u8) {
-    let record = lock_table::object_at(table, object);
+    let record = lock_table::object_at(&table, object);
     let word = record.word;
     let _ = print!(rt; " {word:06x}");
 }

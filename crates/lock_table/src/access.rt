@@ -38,8 +38,8 @@ fn set_record<T: Copy>(records: &mut [T], number: u8, value: T)
 }
 
 #[tactic(auto, unfolding(crate::specs::Access::thread_at))]
-pub fn thread_at(table: Table, number: u8) -> ThreadRecord
-    ensures { result ≡ thread_at table number }
+pub fn thread_at(table: &Table, number: u8) -> ThreadRecord
+    ensures { result ≡ thread_at table.now number }
 {
     record_at(&table.threads, number, no_thread())
 }
@@ -54,8 +54,8 @@ pub fn set_thread(table: Table, number: u8, thread: ThreadRecord) -> Table
 }
 
 #[tactic(auto, unfolding(crate::specs::Access::object_at))]
-pub fn object_at(table: Table, number: u8) -> ObjectRecord
-    ensures { result ≡ object_at table number }
+pub fn object_at(table: &Table, number: u8) -> ObjectRecord
+    ensures { result ≡ object_at table.now number }
 {
     record_at(&table.objects, number, no_object())
 }

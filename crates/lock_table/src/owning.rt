@@ -26,8 +26,8 @@ fn ownership_by(object: ObjectRecord) -> Ownership
 }
 
 // The owner of the object with this number, and its depth; 0 and 0 where nobody owns it.
-pub fn ownership_at(table: Table, number: u8) -> Ownership
-    ensures { result ≡ ownership_at table number }
+pub fn ownership_at(table: &Table, number: u8) -> Ownership
+    ensures { result ≡ ownership_at table.now number }
 {
     ownership_by(object_at(table, number))
 }

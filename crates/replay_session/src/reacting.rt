@@ -66,13 +66,13 @@ fn open_by(table: Table, line: Line) -> Reaction
 fn phase_of(table: Table, thread: u8) -> u8
     ensures { result ≡ phase_of table thread }
 {
-    phase_number(thread_at(table, thread).phase)
+    phase_number(thread_at(&table, thread).phase)
 }
 
 fn word_of(table: Table, object: u8) -> u32
     ensures { result ≡ word_of table object }
 {
-    object_at(table, object).word
+    object_at(&table, object).word
 }
 
 // Numbers from this one on are refusals, which print alone.
@@ -145,7 +145,7 @@ fn event_by(table: Table, event: Event, issound: bool) -> Reaction
     ensures { result ≡ event_known table event issound }
 {
     let thread = event_thread(event);
-    let own = thread_at(table, thread);
+    let own = thread_at(&table, thread);
     after_event(
         handle_trusting(table, event, issound),
         thread,

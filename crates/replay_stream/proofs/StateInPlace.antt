@@ -3,24 +3,22 @@ use Prim.Native.Nat.{ℕ, ◌<◌}
 use mathlib.Core.Path.{◌≡◌, refl, sym, ap, ◌∙◌}
 use mathlib.Core.Bool.{Bool, true, false}
 use lib.Dec.{ltb}
-use lib.ListN.{get_or}
 use borrow.Author.Tests.{ltb-true}
 use Rattle.laws.specs.Choice.{either}
 use Rattle.laws.proofs.Choice.{false≢true, both_first, both_second, either_no}
 use Rattle.lock_rules.specs.declared.event.Event.{Event}
-use Rattle.lock_table.specs.Record.{no_thread, no_object}
 use Rattle.lock_table.specs.Phase.{phase_number}
+use Rattle.lock_table.specs.Access.{thread_at, object_at}
+use Rattle.lock_table.specs.Place.{object_place}
 use Rattle.lock_table.specs.declared.record.Table.{Table}
 use Rattle.lock_engine.specs.Outcome.{reply_returned, reply_woken}
-use Rattle.lock_engine.specs.Handle.{handle_trusting}
-use Rattle.lock_engine.specs.declared.turning.Turn.{Turn}
-use Rattle.lock_engine.proofs.InPlace.{Taken}
+use Rattle.lock_engine.specs.declared.outcome.Outcome.{Outcome}
 use Rattle.replay_lines.specs.Grammar.{is_header}
 use Rattle.replay_lines.specs.declared.reading.Line.{Line}
 use Rattle.replay_lines.specs.declared.reading.Line.TheVariants.{Header, Begin, Step, Tick, BadHeader, Malformed}
 use Rattle.replay_text.specs.declared.answer.Answer.{Answer}
 use Rattle.replay_text.specs.declared.answer.Answer.TheVariants.{Silent}
-use Rattle.replay_session.specs.Trusting.{sound_by, line_event, is_thread_event, runs_thread_event, turn_answer}
+use Rattle.replay_session.specs.Trusting.{line_event, is_thread_event, runs_thread_event}
 use Rattle.replay_session.specs.declared.session.Stage.{Stage}
 use Rattle.replay_session.specs.declared.session.Stage.TheVariants.{Opening, Running, Over}
 use Rattle.replay_session.specs.declared.reacting.Reaction.{Reaction}
@@ -31,8 +29,7 @@ use Rattle.program_state.specs.Take.{returned_in, stage_tally, one_line, take_wi
 use Rattle.program_state.specs.Trusting.{knowing, sound_after, runs_in_place}
 use Rattle.program_state.proofs.ReturnedIn.{answer_returned}
 use Rattle.replay_stream.specs.Stream.{joined}
-use Rattle.replay_stream.proofs.SoundSession.{WellTypedBy}
-use Rattle.replay_stream.proofs.InPlace.{line_in_place}
+use Rattle.replay_stream.proofs.InPlace.{Carried, printed_of, line_in_place}
 use Rattle.replay_stream.proofs.InTally.{line_counted}
 
 -- an event of a thread is no header
@@ -53,28 +50,22 @@ runs_event Running line runs = runs
 runs_event Over line runs = false≢true runs
 
 -- what the code's locals are when an event of a line has been carried out
-pub record EventDone (stage : Stage) (table : Table) (line said : Line) (event : Event) (issound : Bool) (thread place number home unparked : ℕ) (turn : Turn)
-    (after : Table) : Type 0 where
-  pub taken : Taken table event issound thread place number home turn
+pub record EventDone (stage : Stage) (table : Table) (line said : Line) (event : Event) (issound : Bool) (thread number : ℕ) (outcome : Outcome) : Type 0 where
+  pub carried : Carried table event issound thread number outcome
   pub read : line ≡ said
   pub asks : event ≡ line_event line
-  pub known : issound ≡ sound_by stage table
-  pub typed : WellTypedBy stage table
-  pub handled : record { table = after; reply = turn.reply; commits = turn.commits; unparked = unparked } ≡ handle_trusting table event issound
 
-module _ {stage : Stage} {table : Table} {line said : Line} {event : Event} {issound : Bool} {thread place number home unparked : ℕ} {turn : Turn}
-    {after : Table} (done : EventDone stage table line said event issound thread place number home unparked turn after) (tally : Tally) where
-  abbrev answer : Answer
-  answer = turn_answer turn.reply turn.own.phase turn.object.word unparked
-
+module _ {stage : Stage} {table : Table} {line said : Line} {event : Event} {issound : Bool} {thread number : ℕ} {outcome : Outcome}
+    (done : EventDone stage table line said event issound thread number outcome) (tally : Tally) where
   reacted : runs_thread_event stage line ≡ true
-      → record { session = record { stage = stage; table = after }; answer = answer } ≡ knowing issound (record { stage = stage; table = table }) said
-  reacted runs =
-      line_in_place stage done.taken runs done.read done.asks done.known done.typed done.handled refl
+      → record { session = record { stage = stage; table = outcome.table }; answer = printed_of outcome thread number }
+      ≡ knowing issound (record { stage = stage; table = table }) said
+  reacted runs = line_in_place stage done.carried runs done.read done.asks
 
   -- the replay prints it
-  pub replayed : {reporting : Bool} {printed : Answer} → reporting ≡ false → runs_in_place reporting tally.lines stage line ≡ true → printed ≡ answer
-      → record { state = joined reporting stage after tally; answer = printed } ≡ take_with (knowing issound) (joined reporting stage table tally) said
+  pub replayed : {reporting : Bool} {printed : Answer} → reporting ≡ false → runs_in_place reporting tally.lines stage line ≡ true
+      → printed ≡ printed_of outcome thread number
+      → record { state = joined reporting stage outcome.table tally; answer = printed } ≡ take_with (knowing issound) (joined reporting stage table tally) said
   unfolding take_with runs_in_place
   replayed {reporting} {printed} replays runs prints =
       let did = reacted (rw replays at runs) in
@@ -82,28 +73,30 @@ module _ {stage : Stage} {table : Table} {line said : Line} {event : Event} {iss
 
   abbrev way_tally : Tally
   way_tally =
-      counted_at (one_line tally) home
-      (way_finished event (get_or table.threads place no_thread) (get_or table.objects home no_object).word (reply_returned turn.reply))
+      counted_at (one_line tally) (object_place number)
+      (way_finished event (thread_at table thread) (object_at table number).word (reply_returned outcome.reply))
 
-  counted : (stage : Stage) → runs_thread_event stage line ≡ true → issound ≡ sound_by stage table
-      → way_tally ≡ stage_tally (one_line tally) stage table line (reply_returned turn.reply)
-  unfolding stage_tally runs_thread_event sound_by
-  counted Opening runs known = false≢true runs
-  counted Running runs known = line_counted (one_line tally) table line done.taken runs done.asks known
-  counted Over runs known = false≢true runs
+  counted : (stage : Stage) → runs_thread_event stage line ≡ true
+      → way_tally ≡ stage_tally (one_line tally) stage table line (reply_returned outcome.reply)
+  unfolding stage_tally runs_thread_event
+  counted Opening runs = false≢true runs
+  counted Running runs = line_counted (one_line tally) table line (reply_returned outcome.reply) done.carried runs done.asks
+  counted Over runs = false≢true runs
 
   -- the report counts it
   pub reported : {reporting : Bool} → reporting ≡ true → runs_in_place reporting tally.lines stage line ≡ true
-      → record { state = joined reporting stage after way_tally; answer = Silent } ≡ take_with (knowing issound) (joined reporting stage table tally) said
+      → record { state = joined reporting stage outcome.table way_tally; answer = Silent } ≡ take_with (knowing issound) (joined reporting stage table tally) said
   unfolding take_with runs_in_place
   reported {reporting} reports runs =
       let still = rw reports at runs in
       let event_runs = both_second (ltb tally.lines most_lines) _ still in
       let did = reacted event_runs in
-      let number = ap (λ (x : Reaction). returned_in x.answer) (sym did) ∙ answer_returned (reply_returned turn.reply) (phase_number turn.own.phase) (reply_woken turn.reply) turn.object.word unparked in
+      let number = ap (λ (x : Reaction). returned_in x.answer) (sym did)
+      ∙ answer_returned (reply_returned outcome.reply) (phase_number (thread_at outcome.table thread).phase) (reply_woken outcome.reply)
+      (object_at outcome.table number).word outcome.unparked in
       let no_Header = ap is_header (sym done.read) ∙ event_no_header line (runs_event stage line event_runs) in
       let tallied =
-      counted stage event_runs done.known
+      counted stage event_runs
       ∙ (λ j. stage_tally (one_line tally) stage table (done.read j) (sym number j)) in
       rw (reports, no_Header, both_first (ltb tally.lines most_lines) _ still)
       (λ j. record { state = record { reporting = true; session = (did j).session; tally = tallied j }; answer = Silent })

@@ -3,18 +3,15 @@ ghost use Rattle.std.specs.Prelude.{◌≡◌, true, false, ◌≤◌, ◌<◌, 
 ghost use Rattle.replay_lines.specs.Cutting.{line_end, line_limit};
 ghost use Rattle.replay_text.specs.Text.{line_room};
 ghost use Rattle.replay_parts.specs.Part.{HasLine};
-ghost use Rattle.lock_engine.specs.Outcome.{reply_returned};
 ghost use Rattle.replay_session.specs.Trusting.{turn_answer};
-ghost use Rattle.report_tally.specs.Way.{way_finished};
+ghost use Rattle.lock_table.specs.Access.{thread_at, object_at};
 ghost use Rattle.replay_stream.specs.Stream.{fresh_stream, joined, progressed, FedFrom, FedLines};
 
 use crate::ending::{END_ROOM, take_end};
 use crate::turn::take_line;
-use lock_engine::{Turn, returned, turn_with};
+use lock_engine::{Done, handle_in_place, returned};
 use lock_gate::{event_object, event_thread};
-use lock_rules::Event;
-use lock_table::{ObjectRecord, Table, ThreadRecord, object_place, thread_place};
-use lock_work::{work_done, work_stays};
+use lock_table::{Table, object_at, object_place, thread_at};
 use program_state::{
     State, fresh_state, largest_after, line_answer, line_reaction, lines_after, runs_in_place,
     sound_after,
@@ -22,7 +19,7 @@ use program_state::{
 use replay_lines::LINE_LIMIT;
 use replay_session::{Session, Stage, line_event, turn_answer};
 use replay_text::{Answer, LINE_ROOM, put_answer};
-use report_tally::{Tally, Way, way_finished, with_enter};
+use report_tally::{Tally, way_finished, with_enter};
 
 // A state, and whether the input goes on inside a line that was answered already, being too long.
 #[derive(Clone, Copy)]
@@ -71,24 +68,19 @@ pub(crate) fn progressed(state: State, used: usize, wrote: usize) -> Progress
     }
 }
 
-// What is printed of an event of a thread.
-fn event_answer(turn: Turn, unparked: u32) -> Answer
-    ensures { result ≡ turn_answer turn.reply turn.own.phase turn.object.word unparked }
+// What is printed of an event of a thread, which left this table: by the thread's phase and the object's word in it.
+fn event_answer(done: Done, after: &Table, thread: u8, object: u8) -> Answer
+    ensures { result ≡ turn_answer done.reply (thread_at after.now thread).phase (object_at after.now object).word done.unparked }
 {
-    turn_answer(turn.reply, turn.own.phase, turn.object.word, unparked)
-}
-
-// The way in which an event of a thread finished an enter, if it did, by the records before it.
-#[tactic(auto, unfolding(report_tally::specs::Way::way_finished))]
-fn event_way(event: Event, own: ThreadRecord, object: ObjectRecord, turn: Turn) -> Way
-    ensures { result ≡ way_finished event own object.word (reply_returned turn.reply) }
-{
-    way_finished(event, own, object.word, u16::from(returned(turn.reply)))
+    let phase = thread_at(after, thread).phase;
+    let word = object_at(after, object).word;
+    turn_answer(done.reply, phase, word, done.unparked)
 }
 
 // The whole lines at the start of the part, while there is room for what they print. The rest of the part goes to the next line's reader.
-// The table is tested once for all of them, and it and the tally stand in this function alone: events read and write their records in place. An event
-// is printed or counted when its work is done, which tells whom it unparked.
+// The table is tested once for all of them, and it and the tally stand in this function alone: events are carried out in their place. An event is
+// printed or counted when its work is done, which tells whom it unparked.
+#[tactic(auto, using(lock_table::proofs::Places::place_inside))]
 fn take_lines(start: State, input: &[u8], out: &mut [u8]) -> Progress
     requires { HasLine input.now out.old }
     ensures { FedLines start false input.now out.old out.new result }
@@ -123,34 +115,18 @@ fn take_lines(start: State, input: &[u8], out: &mut [u8]) -> Progress
         }
         let event = line_event(line);
         let thread = event_thread(event);
-        let place = thread_place(thread);
-        let own = table.threads[place];
+        let own = thread_at(&table, thread);
         let number = event_object(event, own.object);
-        let home = object_place(number);
-        let object = table.objects[home];
-        let turn = turn_with(table, event, issound, own, object);
-        let after = turn.own;
-        let objectafter = turn.object;
-        let work = turn.work;
-        let mut unparked: u32 = 0;
-        if work_stays(work) {
-            table.threads[place] = after;
-            table.objects[home] = objectafter;
-        } else {
-            let done = work_done(table, thread, number, after, objectafter, work);
-            table = done.table;
-            unparked = done.unparked;
-        }
+        let word = object_at(&table, number).word;
+        let done = handle_in_place(&mut table, event, issound);
         if reporting {
-            let way = event_way(event, own, object, turn);
-            let row = tally.objects[home];
-            let all = tally.all;
-            let counted = with_enter(row, way);
-            tally.objects[home] = counted;
-            tally.all = with_enter(all, way);
+            let way = way_finished(event, own, word, u16::from(returned(done.reply)));
+            let home = object_place(number);
+            tally.objects[home] = with_enter(tally.objects[home], way);
+            tally.all = with_enter(tally.all, way);
             tally.lines += 1;
         } else {
-            wrote = put_answer(out, wrote, event_answer(turn, unparked));
+            wrote = put_answer(out, wrote, event_answer(done, &table, thread, number));
         }
     }
     let used = input.len() - rest.len();

@@ -224,9 +224,9 @@ impl Question for ThreadQuestion {
     }
 
     fn value(self, table: &Table, number: u8) -> u32 {
-        let thread = thread_at(*table, number);
-        let owner = ownership_at(*table, thread.object).thread;
-        let holder = object_at(*table, thread.object).monitor.holder;
+        let thread = thread_at(table, number);
+        let owner = ownership_at(table, thread.object).thread;
+        let holder = object_at(table, thread.object).monitor.holder;
         thread_value(self, number, thread, owner, holder)
     }
 }
@@ -256,11 +256,7 @@ impl Question for ObjectQuestion {
     }
 
     fn value(self, table: &Table, number: u8) -> u32 {
-        object_value(
-            self,
-            object_at(*table, number),
-            ownership_at(*table, number),
-        )
+        object_value(self, object_at(table, number), ownership_at(table, number))
     }
 }
 

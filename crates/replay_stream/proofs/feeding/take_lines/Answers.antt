@@ -1,10 +1,6 @@
-use Rattle.std.proofs.Common.{ℕ, ◌≡◌, ◌<◌, take, inl, inr, refl, sym, ◌∙◌, arith}
+use Rattle.std.proofs.Common.{take, inl, inr, refl, sym, ◌∙◌, arith}
 use Rattle.replay_text.specs.Text.{answer_text}
-use Rattle.lock_table.specs.Limits.{thread_limit, object_limit}
-use Rattle.lock_table.specs.Place.{thread_place, object_place}
-use Rattle.lock_table.proofs.Places.{place_inside}
-use Rattle.lock_engine.specs.Handle.{handle_trusting}
-use Rattle.lock_engine.proofs.InPlace.{Taken, stored_so, worked_so}
+use Rattle.lock_engine.specs.declared.outcome.Outcome.{Outcome}
 use Rattle.replay_lines.specs.Grammar.{read_line}
 use Rattle.replay_lines.proofs.Lines.{line_fits, line_length, rest_shorter}
 use Rattle.replay_parts.proofs.Turn.{going_first, going_stops}
@@ -14,13 +10,7 @@ use Rattle.replay_stream.proofs.SoundSession.{well_typed_by}
 use Rattle.replay_stream.proofs.StateInPlace.{EventDone, replayed, reported, lines_left, sound_stays}
 use Rattle.replay_stream.proofs.Turned.{taken_by_parts, next_line, next_silent}
 use Rattle.replay_stream.proofs.feeding.take_lines.Goals as goal
-use Rattle.replay_stream.proofs.feeding.take_lines.Goals.{else-loop-out-test, then-loop-out-test+then-end-eq0, then-work_stays, else-work_stays}
-
-place_in : (place thread : ℕ) → place ≡ thread_place thread → place < thread_limit
-place_in place thread is = rw is (place_inside thread_limit thread (omega arith))
-
-home_in : (home object : ℕ) → home ≡ object_place object → home < object_limit
-home_in home object is = rw is (place_inside object_limit object (omega arith))
+use Rattle.replay_stream.proofs.feeding.take_lines.Goals.{else-loop-out-test, then-loop-out-test+then-end-eq0}
 
 pub loop-out-init : goal.loop-out-init
 loop-out-init c = (
@@ -70,75 +60,27 @@ loop-out-preserved-then-not-runs_in_place c =
     next_line c.loop-out.invariant c.line_end-end.ensures c.if-end-eq0.false gave c.loop-out-test.true c.put_answer-wrote.ensures
     c.put_answer-wrote.auto.out (rw c.read_line-line.ensures at c.sound_after-issound.ensures)
 
-pub bounds-table-place : goal.bounds-table-place
-bounds-table-place c = place_in _ _ c.thread_place-place.ensures
-
-pub offset_bounds-table-place : goal.offset_bounds-table-place
-offset_bounds-table-place c = let inside : c.thread_place-place.result < thread_limit = place_in _ _ c.thread_place-place.ensures in omega (arith, inside)
-
-pub bounds-table-home : goal.bounds-table-home
-bounds-table-home c = home_in _ _ c.object_place-home.ensures
-
-pub offset_bounds-table-home : goal.offset_bounds-table-home
-offset_bounds-table-home c = let inside : c.object_place-home.result < object_limit = home_in _ _ c.object_place-home.ensures in omega (arith, inside)
-
-pub bounds-table-place-then-work_stays : goal.bounds-table-place-then-work_stays
-bounds-table-place-then-work_stays c = place_in _ _ c.thread_place-place.ensures
-
-pub offset_bounds-table-place-then-work_stays : goal.offset_bounds-table-place-then-work_stays
-offset_bounds-table-place-then-work_stays c = let inside : c.thread_place-place.result < thread_limit = place_in _ _ c.thread_place-place.ensures in omega (arith, inside)
-
-pub bounds-table-home-then-work_stays : goal.bounds-table-home-then-work_stays
-bounds-table-home-then-work_stays c = home_in _ _ c.object_place-home.ensures
-
-pub offset_bounds-table-home-then-work_stays : goal.offset_bounds-table-home-then-work_stays
-offset_bounds-table-home-then-work_stays c = let inside : c.object_place-home.result < object_limit = home_in _ _ c.object_place-home.ensures in omega (arith, inside)
-
-pub bounds-tally-home : goal.bounds-tally-home
-bounds-tally-home c = home_in _ _ c.object_place-home.ensures
-
-pub offset_bounds-tally-home : goal.offset_bounds-tally-home
-offset_bounds-tally-home c = let inside : c.object_place-home.result < object_limit = home_in _ _ c.object_place-home.ensures in omega (arith, inside)
-
-pub bounds-tally-home-then-reporting : goal.bounds-tally-home-then-reporting
-bounds-tally-home-then-reporting c = home_in _ _ c.object_place-home.ensures
-
-pub offset_bounds-tally-home-then-reporting : goal.offset_bounds-tally-home-then-reporting
-offset_bounds-tally-home-then-reporting c = let inside : c.object_place-home.result < object_limit = home_in _ _ c.object_place-home.ensures in omega (arith, inside)
-
 -- the report has lines left to count
 pub overflow_add-tally : goal.overflow_add-tally
 overflow_add-tally c =
-    let turn = c.turn_with-turn.result in
-    let taken : Taken c.loop-out.table c.line_event-event.result c.loop-out.issound c.event_thread-thread.result c.thread_place-place.result
-    c.event_object-number.result c.object_place-home.result turn =
-    record {
-      thread_is = c.event_thread-thread.ensures;
-      place_is = c.thread_place-place.ensures;
-      number_is = c.event_object-number.ensures;
-      home_is = c.object_place-home.ensures;
-      turn_is = c.turn_with-turn.ensures;
-    } in
-    let handled : record { table = c.if-work_stays.table; reply = turn.reply; commits = turn.commits; unparked = c.if-work_stays.unparked }
-    ≡ handle_trusting c.loop-out.table c.line_event-event.result c.loop-out.issound =
-    elim c.if-work_stays.branch [
-      | then-work_stays w ↦
-          (λ j. record { table = w.table-is j; reply = turn.reply; commits = turn.commits; unparked = w.unparked-is j })
-          ∙ stored_so taken (sym c.work_stays.ensures ∙ w.if-work_stays.true)
-      | else-work_stays w ↦
-          (λ j. record { table = w.table-is j; reply = turn.reply; commits = turn.commits; unparked = w.unparked-is j })
-          ∙ worked_so taken (sym c.work_stays.ensures ∙ w.if-work_stays.false) w.work_done-done.ensures
-    ] in
+    let made = c.handle_in_place-done in
+    let outcome : Outcome =
+    record { table = made.new.table; reply = made.result.reply; commits = made.result.commits; unparked = made.result.unparked } in
     let done : EventDone c.loop-out.stage c.loop-out.table c.read_line-line.result (read_line (take c.line_end-end.result c.loop-out.rest.now))
-    c.line_event-event.result c.loop-out.issound c.event_thread-thread.result c.thread_place-place.result c.event_object-number.result
-    c.object_place-home.result c.if-work_stays.unparked turn c.if-work_stays.table =
+    c.line_event-event.result c.loop-out.issound c.event_thread-thread.result c.event_object-number.result outcome =
     record {
-      taken = taken;
+      carried = record {
+        thread_is = c.event_thread-thread.ensures;
+        number_is = rw c.thread_at-own.ensures at c.event_object-number.ensures;
+        outcome_is = λ j. record {
+          table = made.ensures.table j;
+          reply = (made.ensures.done j).reply;
+          commits = (made.ensures.done j).commits;
+          unparked = (made.ensures.done j).unparked;
+        };
+      };
       read = c.read_line-line.ensures;
       asks = c.line_event-event.ensures;
-      known = c.loop-out.invariant.1;
-      typed = c.loop-out.invariant.2;
-      handled = handled;
     } in
     let runs = sym c.runs_in_place.ensures ∙ c.if-not-runs_in_place.false in
     let left = lines_left done c.loop-out.tally c.if-reporting.true runs in
@@ -148,75 +90,60 @@ overflow_add-tally c =
 pub loop-out-preserved-then-reporting : goal.loop-out-preserved-then-reporting
 unfolding answer_text
 loop-out-preserved-then-reporting c =
-    let turn = c.turn_with-turn.result in
-    let taken : Taken c.loop-out.table c.line_event-event.result c.loop-out.issound c.event_thread-thread.result c.thread_place-place.result
-    c.event_object-number.result c.object_place-home.result turn =
-    record {
-      thread_is = c.event_thread-thread.ensures;
-      place_is = c.thread_place-place.ensures;
-      number_is = c.event_object-number.ensures;
-      home_is = c.object_place-home.ensures;
-      turn_is = c.turn_with-turn.ensures;
-    } in
-    let handled : record { table = c.if-work_stays.table; reply = turn.reply; commits = turn.commits; unparked = c.if-work_stays.unparked }
-    ≡ handle_trusting c.loop-out.table c.line_event-event.result c.loop-out.issound =
-    elim c.if-work_stays.branch [
-      | then-work_stays w ↦
-          (λ j. record { table = w.table-is j; reply = turn.reply; commits = turn.commits; unparked = w.unparked-is j })
-          ∙ stored_so taken (sym c.work_stays.ensures ∙ w.if-work_stays.true)
-      | else-work_stays w ↦
-          (λ j. record { table = w.table-is j; reply = turn.reply; commits = turn.commits; unparked = w.unparked-is j })
-          ∙ worked_so taken (sym c.work_stays.ensures ∙ w.if-work_stays.false) w.work_done-done.ensures
-    ] in
+    let made = c.handle_in_place-done in
+    let outcome : Outcome =
+    record { table = made.new.table; reply = made.result.reply; commits = made.result.commits; unparked = made.result.unparked } in
     let done : EventDone c.loop-out.stage c.loop-out.table c.read_line-line.result (read_line (take c.line_end-end.result c.loop-out.rest.now))
-    c.line_event-event.result c.loop-out.issound c.event_thread-thread.result c.thread_place-place.result c.event_object-number.result
-    c.object_place-home.result c.if-work_stays.unparked turn c.if-work_stays.table =
+    c.line_event-event.result c.loop-out.issound c.event_thread-thread.result c.event_object-number.result outcome =
     record {
-      taken = taken;
+      carried = record {
+        thread_is = c.event_thread-thread.ensures;
+        number_is = rw c.thread_at-own.ensures at c.event_object-number.ensures;
+        outcome_is = λ j. record {
+          table = made.ensures.table j;
+          reply = (made.ensures.done j).reply;
+          commits = (made.ensures.done j).commits;
+          unparked = (made.ensures.done j).unparked;
+        };
+      };
       read = c.read_line-line.ensures;
       asks = c.line_event-event.ensures;
-      known = c.loop-out.invariant.1;
-      typed = c.loop-out.invariant.2;
-      handled = handled;
     } in
     let runs = sym c.runs_in_place.ensures ∙ c.if-not-runs_in_place.false in
-    rw (c.with_enter-tally.ensures, c.with_enter-counted.ensures, c.event_way-way.ensures)
+    rw (
+      c.with_enter-tally.ensures,
+      c.with_enter.ensures,
+      c.way_finished-way.ensures,
+      c.thread_at-own.ensures,
+      c.object_at-word.ensures,
+      c.from.ensures,
+      c.returned.ensures,
+      c.object_place-home.ensures,
+    )
     (next_silent c.loop-out.invariant c.line_end-end.ensures c.if-end-eq0.false (reported done c.loop-out.tally c.if-reporting.true runs) refl
     (sound_stays done c.loop-out.tally _ runs))
 
 -- the replay has printed it
 pub loop-out-preserved : goal.loop-out-preserved
 loop-out-preserved c =
-    let turn = c.turn_with-turn.result in
-    let taken : Taken c.loop-out.table c.line_event-event.result c.loop-out.issound c.event_thread-thread.result c.thread_place-place.result
-    c.event_object-number.result c.object_place-home.result turn =
-    record {
-      thread_is = c.event_thread-thread.ensures;
-      place_is = c.thread_place-place.ensures;
-      number_is = c.event_object-number.ensures;
-      home_is = c.object_place-home.ensures;
-      turn_is = c.turn_with-turn.ensures;
-    } in
-    let handled : record { table = c.if-work_stays.table; reply = turn.reply; commits = turn.commits; unparked = c.if-work_stays.unparked }
-    ≡ handle_trusting c.loop-out.table c.line_event-event.result c.loop-out.issound =
-    elim c.if-work_stays.branch [
-      | then-work_stays w ↦
-          (λ j. record { table = w.table-is j; reply = turn.reply; commits = turn.commits; unparked = w.unparked-is j })
-          ∙ stored_so taken (sym c.work_stays.ensures ∙ w.if-work_stays.true)
-      | else-work_stays w ↦
-          (λ j. record { table = w.table-is j; reply = turn.reply; commits = turn.commits; unparked = w.unparked-is j })
-          ∙ worked_so taken (sym c.work_stays.ensures ∙ w.if-work_stays.false) w.work_done-done.ensures
-    ] in
+    let made = c.handle_in_place-done in
+    let outcome : Outcome =
+    record { table = made.new.table; reply = made.result.reply; commits = made.result.commits; unparked = made.result.unparked } in
     let done : EventDone c.loop-out.stage c.loop-out.table c.read_line-line.result (read_line (take c.line_end-end.result c.loop-out.rest.now))
-    c.line_event-event.result c.loop-out.issound c.event_thread-thread.result c.thread_place-place.result c.event_object-number.result
-    c.object_place-home.result c.if-work_stays.unparked turn c.if-work_stays.table =
+    c.line_event-event.result c.loop-out.issound c.event_thread-thread.result c.event_object-number.result outcome =
     record {
-      taken = taken;
+      carried = record {
+        thread_is = c.event_thread-thread.ensures;
+        number_is = rw c.thread_at-own.ensures at c.event_object-number.ensures;
+        outcome_is = λ j. record {
+          table = made.ensures.table j;
+          reply = (made.ensures.done j).reply;
+          commits = (made.ensures.done j).commits;
+          unparked = (made.ensures.done j).unparked;
+        };
+      };
       read = c.read_line-line.ensures;
       asks = c.line_event-event.ensures;
-      known = c.loop-out.invariant.1;
-      typed = c.loop-out.invariant.2;
-      handled = handled;
     } in
     let runs = sym c.runs_in_place.ensures ∙ c.if-not-runs_in_place.false in
     next_line c.loop-out.invariant c.line_end-end.ensures c.if-end-eq0.false
