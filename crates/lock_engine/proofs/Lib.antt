@@ -3,5 +3,4 @@ pub mod InPlace
 pub mod Refused
 pub mod Narrow
 pub mod Full
-pub mod After
 pub mod Cases
