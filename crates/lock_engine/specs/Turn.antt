@@ -30,12 +30,16 @@ use Rattle.lock_perform.specs.State.{read_thread, write_thread}
 use Rattle.lock_perform.specs.Sight.{sight_with}
 use Rattle.lock_perform.specs.Perform.{object_after}
 use Rattle.lock_work.specs.declared.settling.Work.TheVariants.{Chains, Tick}
+use Rattle.lock_engine.specs.declared.outcome.Reply.{Reply}
 use Rattle.lock_engine.specs.declared.outcome.Reply.TheVariants.{Accepted, Refused, Answered}
 use Rattle.lock_engine.specs.declared.turning.Turn.{Turn}
 
--- refused: both records stay
+-- both records stay, and nothing is left to do
+abbrev pub replying : ThreadRecord → ObjectRecord → Reply → Turn
+replying own object reply = record { own = own; object = object; work = Chains Stay; reply = reply; commits = false }
+
 abbrev pub refused : ThreadRecord → ObjectRecord → Refusal → Turn
-refused own object refusal = record { own = own; object = object; work = Chains Stay; reply = Refused refusal; commits = false }
+refused own object refusal = replying own object (Refused refusal)
 
 -- the ticks that a begin gives: its limit, of a timed wait alone. The gate lets no limit through that sixteen bits do not hold.
 unfoldable pub given_ticks : Operation → ℕ → ℕ
@@ -74,7 +78,7 @@ effect_turn thread own object effect =
 
 -- 20 leaves both records
 unfoldable pub action_turn : ℕ → ThreadRecord → ObjectRecord → Option Effect → Turn
-action_turn thread own object None = record { own = own; object = object; work = Chains Stay; reply = Answered NoRule; commits = false }
+action_turn thread own object None = replying own object (Answered NoRule)
 action_turn thread own object (Some effect) = effect_turn thread own object effect
 
 -- a sound table has no other word than a valid one

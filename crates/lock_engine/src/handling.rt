@@ -3,7 +3,7 @@ ghost use Rattle.std.specs.Prelude.{◌≡◌};
 ghost use Rattle.lock_engine.specs.Handle.{turn_with, done_of, handle_trusting, handle, begin, step, tick_event};
 
 use crate::outcome::{Done, Outcome};
-use crate::turning::{Turn, take_turn};
+use crate::turning::{Records, Turn};
 use lock_gate::{event_object, event_thread};
 use lock_perform::length_from;
 use lock_rules::Event;
@@ -27,13 +27,11 @@ pub fn turn_with(
         waiters = length_from(table, object.monitor.waiting);
     }
     let trusted = issound & (table.threadcount <= THREADS);
-    take_turn(
+    Records { own, object }.take_turn(
         trusted,
         table.threadcount,
         table.objectcount,
         event,
-        own,
-        object,
         waiters,
     )
 }

@@ -2,7 +2,7 @@
 ghost use Rattle.std.specs.Prelude.{◌≡◌, ltb};
 ghost use Rattle.laws.specs.Choice.{pick};
 ghost use Rattle.lock_word.specs.Ticks.{tick_limit};
-ghost use Rattle.lock_engine.specs.Turn.{refused, given_ticks, begun, begin_turn, tick_turn, effect_turn, action_turn, word_turn, state_turn, step_turn, open_turn, gate_turn, take_turn};
+ghost use Rattle.lock_engine.specs.Turn.{replying, refused, given_ticks, begun, begin_turn, tick_turn, effect_turn, action_turn, word_turn, state_turn, step_turn, open_turn, gate_turn, take_turn};
 
 use crate::outcome::Reply;
 use lock_gate::{gate, thread_status};
@@ -23,16 +23,11 @@ pub struct Turn {
     pub commits: bool,
 }
 
-fn refused(own: ThreadRecord, object: ObjectRecord, refusal: Refusal) -> Turn
-    ensures { result ≡ refused own object refusal }
-{
-    Turn {
-        own,
-        object,
-        work: Work::Chains(ChainWork::Stay),
-        reply: Reply::Refused(refusal),
-        commits: false,
-    }
+// The two records that an event touches: its thread's and that of the object it is about.
+#[derive(Clone, Copy)]
+pub(crate) struct Records {
+    pub own: ThreadRecord,
+    pub object: ObjectRecord,
 }
 
 // The ticks of a limit that the gate has let through; of any other, as many as there can be.
@@ -67,175 +62,148 @@ pub fn begun(own: ThreadRecord, operation: Operation, number: u8, limit: u32) ->
     })
 }
 
-fn begin_turn(
-    own: ThreadRecord,
-    object: ObjectRecord,
-    operation: Operation,
-    number: u8,
-    limit: u32,
-) -> Turn
-    ensures { result ≡ begin_turn own object operation number limit }
-{
-    Turn {
-        own: begun(own, operation, number, limit),
-        object,
-        work: Work::Chains(ChainWork::Stay),
-        reply: Reply::Accepted,
-        commits: false,
-    }
-}
-
-// A tick leaves the two records that it reads to the work.
-fn tick_turn(own: ThreadRecord, object: ObjectRecord) -> Turn
-    ensures { result ≡ tick_turn own object }
-{
-    Turn {
-        own,
-        object,
-        work: Work::Tick,
-        reply: Reply::Accepted,
-        commits: false,
-    }
-}
-
-fn effect_turn(thread: u8, own: ThreadRecord, object: ObjectRecord, effect: Effect) -> Turn
-    ensures { result ≡ effect_turn thread own object effect }
-{
-    let state = effect.state;
-    let work = effect.work;
-    let answer = effect.answer;
-    Turn {
-        own: write_thread(thread, own.object, state, own),
-        object: object_after(thread, own.object, object, effect),
-        work: Work::Chains(work),
-        reply: Reply::Answered(answer),
-        commits: effect.commits,
-    }
-}
-
-// 20 leaves both records.
-#[tactic(auto, unfolding(crate::specs::Turn::action_turn))]
-fn action_turn(thread: u8, own: ThreadRecord, object: ObjectRecord, action: Option<Effect>) -> Turn
-    ensures { result ≡ action_turn thread own object action }
-{
-    match action {
-        None => Turn {
-            own,
-            object,
+impl Records {
+    // Both records as they are, with this reply and nothing left to do.
+    fn replying(self, reply: Reply) -> Turn
+        ensures { result ≡ replying self.own self.object reply }
+    {
+        Turn {
+            own: self.own,
+            object: self.object,
             work: Work::Chains(ChainWork::Stay),
-            reply: Reply::Answered(Answer::NoRule),
+            reply,
             commits: false,
-        },
-        Some(effect) => effect_turn(thread, own, object, effect),
+        }
     }
-}
 
-// What is no lock word is no sound table's; the test before has seen to it that this does not occur.
-#[tactic(auto, unfolding(crate::specs::Turn::word_turn))]
-fn word_turn(
-    thread: u8,
-    own: ThreadRecord,
-    object: ObjectRecord,
-    waiters: u8,
-    doing: Doing,
-    decoded: Option<LockWord>,
-) -> Turn
-    ensures { result ≡ word_turn thread own object waiters doing decoded }
-{
-    let Some(word) = decoded else {
-        return refused(own, object, Refusal::NotSound);
-    };
-    action_turn(
-        thread,
-        own,
-        object,
-        decide(thread, sight_with(object, seen_word(word), waiters), doing),
-    )
-}
-
-#[tactic(auto, unfolding(crate::specs::Turn::state_turn))]
-fn state_turn(
-    thread: u8,
-    own: ThreadRecord,
-    object: ObjectRecord,
-    waiters: u8,
-    state: ThreadState,
-) -> Turn
-    ensures { result ≡ state_turn thread own object waiters state }
-{
-    match state {
-        ThreadState::Running(doing) => word_turn(
-            thread,
-            own,
-            object,
-            waiters,
-            doing,
-            read_word(object.word),
-        ),
-        _ => refused(own, object, Refusal::NotSound),
+    fn refused(self, refusal: Refusal) -> Turn
+        ensures { result ≡ refused self.own self.object refusal }
+    {
+        self.replying(Reply::Refused(refusal))
     }
-}
 
-#[tactic(auto, unfolding(crate::specs::Turn::step_turn))]
-fn step_turn(thread: u8, own: ThreadRecord, object: ObjectRecord, waiters: u8) -> Turn
-    ensures { result ≡ step_turn thread own object waiters }
-{
-    if (1 <= own.object) & (own.object <= OBJECTS) {
-        return state_turn(thread, own, object, waiters, read_thread(own));
+    fn begin_turn(self, operation: Operation, number: u8, limit: u32) -> Turn
+        ensures { result ≡ begin_turn self.own self.object operation number limit }
+    {
+        Turn {
+            own: begun(self.own, operation, number, limit),
+            ..self.replying(Reply::Accepted)
+        }
     }
-    refused(own, object, Refusal::NotSound)
-}
 
-#[tactic(auto, unfolding(crate::specs::Turn::open_turn))]
-fn open_turn(event: Event, own: ThreadRecord, object: ObjectRecord, waiters: u8) -> Turn
-    ensures { result ≡ open_turn event own object waiters }
-{
-    match event {
-        Event::Begin {
-            operation,
-            thread: _,
-            object: number,
-            limit,
-        } => begin_turn(own, object, operation_from(operation), number, limit),
-        Event::Step { thread } => step_turn(thread, own, object, waiters),
-        Event::Tick => tick_turn(own, object),
+    // A tick leaves the two records that it reads to the work.
+    fn tick_turn(self) -> Turn
+        ensures { result ≡ tick_turn self.own self.object }
+    {
+        Turn {
+            work: Work::Tick,
+            ..self.replying(Reply::Accepted)
+        }
     }
-}
 
-#[tactic(auto, unfolding(crate::specs::Turn::gate_turn))]
-fn gate_turn(
-    gate: Result<(), Refusal>,
-    event: Event,
-    own: ThreadRecord,
-    object: ObjectRecord,
-    waiters: u8,
-) -> Turn
-    ensures { result ≡ gate_turn gate event own object waiters }
-{
-    match gate {
-        Ok(()) => open_turn(event, own, object, waiters),
-        Err(refusal) => refused(own, object, refusal),
+    fn effect_turn(self, thread: u8, effect: Effect) -> Turn
+        ensures { result ≡ effect_turn thread self.own self.object effect }
+    {
+        Turn {
+            own: write_thread(thread, self.own.object, effect.state, self.own),
+            object: object_after(thread, self.own.object, self.object, effect),
+            work: Work::Chains(effect.work),
+            reply: Reply::Answered(effect.answer),
+            commits: effect.commits,
+        }
     }
-}
 
-// The event on a table that is sound or not and has so many threads and objects.
-pub fn take_turn(
-    issound: bool,
-    threads: u8,
-    objects: u8,
-    event: Event,
-    own: ThreadRecord,
-    object: ObjectRecord,
-    waiters: u8,
-) -> Turn
-    ensures { result ≡ take_turn issound threads objects event own object waiters }
-{
-    let phase = own.phase;
-    gate_turn(
-        gate(issound, threads, objects, event, thread_status(phase)),
-        event,
-        own,
-        object,
-        waiters,
-    )
+    // 20 leaves both records.
+    #[tactic(auto, unfolding(crate::specs::Turn::action_turn))]
+    fn action_turn(self, thread: u8, action: Option<Effect>) -> Turn
+        ensures { result ≡ action_turn thread self.own self.object action }
+    {
+        match action {
+            Some(effect) => self.effect_turn(thread, effect),
+            None => self.replying(Reply::Answered(Answer::NoRule)),
+        }
+    }
+
+    // What is no lock word is no sound table's; the test before has seen to it that this does not occur.
+    #[tactic(auto, unfolding(crate::specs::Turn::word_turn))]
+    fn word_turn(self, thread: u8, waiters: u8, doing: Doing, decoded: Option<LockWord>) -> Turn
+        ensures { result ≡ word_turn thread self.own self.object waiters doing decoded }
+    {
+        match decoded {
+            Some(word) => {
+                let sight = sight_with(self.object, seen_word(word), waiters);
+                self.action_turn(thread, decide(thread, sight, doing))
+            }
+            None => self.refused(Refusal::NotSound),
+        }
+    }
+
+    #[tactic(auto, unfolding(crate::specs::Turn::state_turn))]
+    fn state_turn(self, thread: u8, waiters: u8, state: ThreadState) -> Turn
+        ensures { result ≡ state_turn thread self.own self.object waiters state }
+    {
+        match state {
+            ThreadState::Running(doing) => {
+                self.word_turn(thread, waiters, doing, read_word(self.object.word))
+            }
+            _ => self.refused(Refusal::NotSound),
+        }
+    }
+
+    #[tactic(auto, unfolding(crate::specs::Turn::step_turn))]
+    fn step_turn(self, thread: u8, waiters: u8) -> Turn
+        ensures { result ≡ step_turn thread self.own self.object waiters }
+    {
+        if (1..=OBJECTS).contains(&self.own.object) {
+            return self.state_turn(thread, waiters, read_thread(self.own));
+        }
+        self.refused(Refusal::NotSound)
+    }
+
+    #[tactic(auto, unfolding(crate::specs::Turn::open_turn))]
+    fn open_turn(self, event: Event, waiters: u8) -> Turn
+        ensures { result ≡ open_turn event self.own self.object waiters }
+    {
+        match event {
+            Event::Begin {
+                operation,
+                object,
+                limit,
+                ..
+            } => self.begin_turn(operation_from(operation), object, limit),
+            Event::Step { thread } => self.step_turn(thread, waiters),
+            Event::Tick => self.tick_turn(),
+        }
+    }
+
+    #[tactic(auto, unfolding(crate::specs::Turn::gate_turn))]
+    fn gate_turn(self, gate: Result<(), Refusal>, event: Event, waiters: u8) -> Turn
+        ensures { result ≡ gate_turn gate event self.own self.object waiters }
+    {
+        match gate {
+            Ok(()) => self.open_turn(event, waiters),
+            Err(refusal) => self.refused(refusal),
+        }
+    }
+
+    // The event on a table that is sound or not and has so many threads and objects.
+    pub(crate) fn take_turn(
+        self,
+        issound: bool,
+        threads: u8,
+        objects: u8,
+        event: Event,
+        waiters: u8,
+    ) -> Turn
+        ensures { result ≡ take_turn issound threads objects event self.own self.object waiters }
+    {
+        let gate = gate(
+            issound,
+            threads,
+            objects,
+            event,
+            thread_status(self.own.phase),
+        );
+        self.gate_turn(gate, event, waiters)
+    }
 }

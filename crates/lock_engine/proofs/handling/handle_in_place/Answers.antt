@@ -11,7 +11,7 @@ use Rattle.lock_engine.proofs.handling.handle_in_place.Goals as goal
 pub returns-then-work_stays : goal.returns-then-work_stays
 returns-then-work_stays c =
     let taken : Taken c.args.table.now c.args.event c.args.issound c.event_thread-thread.result c.thread_place-place.result c.event_object-number.result
-        c.object_place-home.result c.turn_with-turn.result = record {
+    c.object_place-home.result c.turn_with-turn.result = record {
       thread_is = c.event_thread-thread.ensures;
       place_is = c.thread_place-place.ensures;
       number_is = c.event_object-number.ensures;
@@ -24,7 +24,7 @@ returns-then-work_stays c =
 pub returns-else-work_stays : goal.returns-else-work_stays
 returns-else-work_stays c =
     let taken : Taken c.args.table.now c.args.event c.args.issound c.event_thread-thread.result c.thread_place-place.result c.event_object-number.result
-        c.object_place-home.result c.turn_with-turn.result = record {
+    c.object_place-home.result c.turn_with-turn.result = record {
       thread_is = c.event_thread-thread.ensures;
       place_is = c.thread_place-place.ensures;
       number_is = c.event_object-number.ensures;
@@ -33,5 +33,5 @@ returns-else-work_stays c =
     } in
     let done : WorkDone = record { table = c.work_done-unparked.new.table; unparked = c.work_done-unparked.result } in
     let worked = worked_so taken (sym c.work_stays.ensures ∙ c.if-work_stays.false) {done = done}
-        (λ j. record { table = c.work_done-unparked.ensures.table j; unparked = c.work_done-unparked.ensures.unparked j }) in
+    (λ j. record { table = c.work_done-unparked.ensures.table j; unparked = c.work_done-unparked.ensures.unparked j }) in
     record { table = ap (λ (o : Outcome). o.table) worked; done = ap done_of worked }
