@@ -25,11 +25,7 @@ use Rattle.lock_table.proofs.Places.{place_has, place_inside}
 use Rattle.lock_gate.specs.Status.{thread_status}
 use Rattle.lock_soundness.proofs.Reading.{sound_reads}
 use Rattle.lock_engine.specs.Outcome.{reply_returned}
-use Rattle.lock_work.specs.Work.{work_stays}
-use Rattle.lock_work.specs.declared.settling.WorkDone.{WorkDone}
-use Rattle.lock_engine.specs.Handle.{turn_with, work_done_of, handle_trusting, handle}
-use Rattle.lock_engine.specs.declared.turning.Turn.{Turn}
-use Rattle.lock_engine.proofs.InPlace.{stored, came_so}
+use Rattle.lock_engine.specs.Handle.{handle_trusting, handle}
 use Rattle.lock_engine.specs.declared.outcome.Outcome.{Outcome}
 use Rattle.step_bounds.specs.SixSteps.{is_step}
 use Rattle.round_robin.specs.Dispatch.{Tried, Step, Ran, still, taken, with_step, run}
