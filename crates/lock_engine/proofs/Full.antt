@@ -27,7 +27,7 @@ use Rattle.lock_work.specs.Tick.{handing, hand_if_free, tick_object, tick_to, ti
 use Rattle.lock_work.specs.Work.{work_stays, work_done}
 use Rattle.lock_engine.specs.Handle.{turn_with, outcome_of, handle_trusting, handle}
 use Rattle.lock_work.specs.declared.settling.Work.{Work}
-use Rattle.lock_work.specs.declared.settling.WorkDone.{WorkDone}
+use Rattle.lock_work.specs.WorkDone.{WorkDone}
 use Rattle.lock_engine.specs.declared.turning.Turn.{Turn}
 use Rattle.lock_work.specs.declared.settling.Work.TheVariants.{Chains, Tick}
 

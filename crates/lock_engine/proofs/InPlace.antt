@@ -36,7 +36,7 @@ use Rattle.lock_engine.specs.declared.outcome.{Reply.Reply, Outcome.Outcome}
 use Rattle.lock_engine.specs.declared.outcome.Reply.TheVariants.{Accepted, Refused}
 use Rattle.lock_work.specs.declared.settling.Work.TheVariants.{Chains}
 use Rattle.lock_engine.specs.declared.turning.Turn.{Turn}
-use Rattle.lock_work.specs.declared.settling.WorkDone.{WorkDone}
+use Rattle.lock_work.specs.WorkDone.{WorkDone}
 
 lacks_within : (limit size number : ℕ) → size ≤ limit → Lacks limit number → within 1 size number ≡ false
 lacks_within limit size number small (inl none) = rw (none) refl

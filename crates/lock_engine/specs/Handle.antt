@@ -11,7 +11,7 @@ use Rattle.lock_table.specs.declared.record.ThreadRecord.{ThreadRecord}
 use Rattle.lock_table.specs.declared.record.ObjectRecord.{ObjectRecord}
 use Rattle.lock_table.specs.declared.record.Table.{Table}
 use Rattle.lock_work.specs.Work.{work_stays, work_done}
-use Rattle.lock_work.specs.declared.settling.WorkDone.{WorkDone}
+use Rattle.lock_work.specs.WorkDone.{WorkDone}
 use Rattle.lock_soundness.specs.Sound.{sound_of}
 use Rattle.lock_engine.specs.Turn.{take_turn}
 use Rattle.lock_engine.specs.declared.outcome.Outcome.{Outcome}

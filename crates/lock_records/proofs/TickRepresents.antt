@@ -22,7 +22,7 @@ use Rattle.lock_rules.proofs.Tables.{ListThread, ListTable, states_at, seen_here
 use Rattle.lock_table.specs.Limits.{object_limit}
 use Rattle.lock_table.specs.Access.{object_at}
 use Rattle.lock_table.specs.declared.record.{ObjectRecord.ObjectRecord, Table.Table}
-use Rattle.lock_work.specs.declared.settling.WorkDone.{WorkDone}
+use Rattle.lock_work.specs.WorkDone.{WorkDone}
 use Rattle.lock_work.specs.Tick.{tick_waited, untouched, tick_object, tick_to, tick}
 use Rattle.lock_perform.specs.ThreadSet.{has_thread}
 use Rattle.lock_perform.proofs.ThreadSets.{has_none, has_either}

@@ -49,7 +49,7 @@ use Rattle.lock_perform.specs.declared.parting.Parting.{Parting}
 use Rattle.lock_perform.specs.ThreadSet.{thread_set, has_thread}
 use Rattle.lock_perform.proofs.ThreadSets.{has_none}
 use Rattle.lock_work.specs.Waiters.{waiter_goes, waiter_ticked, part_waiters}
-use Rattle.lock_work.specs.declared.settling.WorkDone.{WorkDone}
+use Rattle.lock_work.specs.WorkDone.{WorkDone}
 use Rattle.lock_work.specs.Tick.{handing, hand_if_free, tick_waited}
 use Rattle.lock_records.proofs.Numbering.{order, number, place_of, lists_of, list_at, update_number, lists_replaced, chain_handed, entered_all, first_is_head}
 use Rattle.lock_records.proofs.Represents.{monitor_record, object_record, Represents, next_is}

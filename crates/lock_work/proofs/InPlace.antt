@@ -31,7 +31,7 @@ use Rattle.lock_perform.specs.declared.moving.ChainPlan.{ChainPlan}
 use Rattle.lock_perform.proofs.InPlace.{with_threads, relinked_alone}
 use Rattle.lock_work.specs.Waiters.{part_waiters}
 use Rattle.lock_work.specs.Tick.{handing, hand_if_free, tick_waited, behind, tick_object, tick_to}
-use Rattle.lock_work.specs.declared.settling.WorkDone.{WorkDone}
+use Rattle.lock_work.specs.WorkDone.{WorkDone}
 
 -- a table, and what of a plan by which nobody joins a chain goes with it
 abbrev handed_out : Table → ChainPlan → CarriedOut

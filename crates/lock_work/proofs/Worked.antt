@@ -20,7 +20,7 @@ use Rattle.lock_perform.specs.InPlace.{plan_at, own_written, object_written}
 use Rattle.lock_perform.specs.declared.moving.ChainPlan.{ChainPlan}
 use Rattle.lock_perform.proofs.InPlace.{with_threads, set_both_in_place, relinked}
 use Rattle.lock_work.specs.Work.{chains_done}
-use Rattle.lock_work.specs.declared.settling.WorkDone.{WorkDone}
+use Rattle.lock_work.specs.WorkDone.{WorkDone}
 
 -- the whole chain moved, one record changed, and those that join a chain put at their places
 abbrev relinked_in : Table → ChainPlan → ℕ → JoinedChain

@@ -15,7 +15,7 @@ use Rattle.lock_perform.specs.Moving.{CarriedOut, relink}
 use Rattle.lock_perform.specs.Parting.{no_parting}
 use Rattle.lock_perform.specs.Queueing.{queue}
 use Rattle.lock_work.specs.Waiters.{part_waiters}
-use Rattle.lock_work.specs.declared.settling.WorkDone.{WorkDone}
+use Rattle.lock_work.specs.WorkDone.{WorkDone}
 
 -- a monitor that nobody holds is handed as a step hands it
 unfoldable pub handing : Monitor → ChainWork

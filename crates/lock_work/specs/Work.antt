@@ -9,7 +9,7 @@ use Rattle.lock_perform.specs.Perform.{stays, worked}
 use Rattle.lock_work.specs.Tick.{tick}
 use Rattle.lock_work.specs.declared.settling.Work.{Work}
 use Rattle.lock_work.specs.declared.settling.Work.TheVariants.{Chains, Tick}
-use Rattle.lock_work.specs.declared.settling.WorkDone.{WorkDone}
+use Rattle.lock_work.specs.WorkDone.{WorkDone}
 
 -- whether the two records of the event are all that it changes
 unfoldable pub work_stays : Work → Bool

@@ -7,4 +7,4 @@ mod ticking;
 mod waiters;
 mod walking;
 
-pub use settling::{Work, WorkDone, work_done, work_stays};
+pub use settling::{Work, work_done, work_stays};

@@ -26,14 +26,6 @@ pub fn work_stays(work: Work) -> bool
     }
 }
 
-// The table with the work done, and the set of threads that it unparked, bit n - 1 for thread n: what the definitions speak of. The code changes the
-// table that it is lent and gives back the set.
-#[derive(Clone, Copy)]
-pub struct WorkDone {
-    pub table: Table,
-    pub unparked: u32,
-}
-
 // A rule's work done, and both records written: the thread's with the next index and the object's with the chains that the work gave. First the threads of a
 // chain that moves whole are changed, then one record is, and those that join a chain are put at their places; at last exits are let out.
 #[tactic(auto, using(lock_table::proofs::Places::place_inside))]

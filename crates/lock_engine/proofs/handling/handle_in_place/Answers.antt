@@ -2,7 +2,7 @@
 use Rattle.std.proofs.Common.{◌≡◌, ◌∙◌, sym, ap, true, false}
 use Rattle.lock_table.specs.declared.record.Table.{Table}
 use Rattle.lock_work.specs.Work.{work_stays}
-use Rattle.lock_work.specs.declared.settling.WorkDone.{WorkDone}
+use Rattle.lock_work.specs.WorkDone.{WorkDone}
 use Rattle.lock_engine.specs.Handle.{done_of, handle_trusting}
 use Rattle.lock_engine.specs.declared.outcome.{Outcome.Outcome, Done.Done}
 use Rattle.lock_engine.proofs.InPlace.{Taken, stored_so, worked_so}

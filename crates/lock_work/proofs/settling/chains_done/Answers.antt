@@ -6,7 +6,7 @@ use Rattle.laws.specs.Choice.{pick}
 use Rattle.lock_table.specs.Limits.{thread_limit}
 use Rattle.lock_table.specs.Chain.{move_all}
 use Rattle.lock_perform.specs.Queueing.{JoinedChain}
-use Rattle.lock_work.specs.declared.settling.WorkDone.{WorkDone}
+use Rattle.lock_work.specs.WorkDone.{WorkDone}
 use Rattle.lock_work.proofs.Worked.{after_joining, work_in_place}
 use Rattle.lock_work.proofs.settling.chains_done.Goals as goal
 use Rattle.lock_work.proofs.settling.chains_done.Goals.{After-object_written, then-whole-ne0, else-whole-ne0, then-lets_out, else-lets_out}

@@ -4,7 +4,7 @@ use Rattle.lock_table.specs.Limits.{object_limit}
 use Rattle.lock_perform.specs.Parting.{PartedChain}
 use Rattle.lock_perform.specs.Queueing.{JoinedChain}
 use Rattle.lock_work.specs.Tick.{tick_waited, behind, tick_to}
-use Rattle.lock_work.specs.declared.settling.WorkDone.{WorkDone}
+use Rattle.lock_work.specs.WorkDone.{WorkDone}
 use Rattle.lock_work.proofs.InPlace.{waited_in_place, tick_skips, tick_takes}
 use Rattle.lock_work.proofs.ticking.tick.Goals as goal
 

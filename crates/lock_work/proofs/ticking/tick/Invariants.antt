@@ -1,7 +1,7 @@
 -- The objects so far have had their tick.
 use Rattle.std.proofs.Common.{◌≡◌}
 use Rattle.lock_work.specs.Tick.{tick_to}
-use Rattle.lock_work.specs.declared.settling.WorkDone.{WorkDone}
+use Rattle.lock_work.specs.WorkDone.{WorkDone}
 use Rattle.lock_work.proofs.ticking.tick.Given as goal
 
 abbrev pub invariant-loop-done : goal.invariant-loop-done
