@@ -1,8 +1,10 @@
 // Fresh tables: every thread idle with what it is given, every word free or anonymously reserved as asked, all else zero.
-ghost use Rattle.std.specs.Prelude.{◌≡◌, ◌≤◌};
+ghost use Rattle.std.specs.Prelude.{◌≡◌, ◌≤◌, ℕ};
 ghost use Rattle.laws.specs.Sequence.{tabulate};
 ghost use Rattle.lock_table.specs.Limits.{thread_limit, object_limit};
-ghost use Rattle.lock_table.specs.Fresh.{no_thread_given, sized_request, first_word, thread_given, object_given, fresh_thread, fresh_object, thread_from, object_from};
+ghost use Rattle.lock_table.specs.Fresh.{no_thread_given, sized_request, first_word, thread_given, object_given, thread_from, object_from};
+ghost use Rattle.lock_table.specs.Record.{no_thread, no_object};
+ghost use Rattle.lock_table.specs.declared.fresh_table.FreshRequest.{FreshRequest};
 ghost use Rattle.lock_table.specs.Fresh.{table_of, no_table, in_range, ranks_fit, fresh_answer, fresh_of, refusal_returned, fresh_returned};
 
 use crate::record::{
@@ -35,10 +37,8 @@ pub struct FreshRequest {
 
 #[derive(Clone, Copy)]
 pub enum FreshRefusal {
-    // 22
-    SizeOutOfRange,
-    // 27
-    RankOutOfRange,
+    SizeOutOfRange, // 22
+    RankOutOfRange, // 27
 }
 
 // Nothing: every field is 0.
@@ -53,9 +53,9 @@ pub fn sized_request(threads: u16, objects: u16, reserved: bool) -> FreshRequest
     ensures { result ≡ sized_request threads objects reserved }
 {
     FreshRequest {
-        threads: threads,
-        objects: objects,
-        reserved: reserved,
+        threads,
+        objects,
+        reserved,
         tothreads: [no_thread_given(); 32],
     }
 }
@@ -75,11 +75,8 @@ fn first_word(reserved: bool) -> u32
 fn thread_given(request: FreshRequest, place: usize) -> ThreadGiven
     ensures { result ≡ thread_given request place }
 {
-    if place < (request.threads as usize) {
-        if place < 32 {
-            return request.tothreads[place];
-        }
-        return no_thread_given();
+    if place < usize::from(request.threads) && place < 32 {
+        return request.tothreads[place];
     }
     no_thread_given()
 }
@@ -89,51 +86,65 @@ fn thread_given(request: FreshRequest, place: usize) -> ThreadGiven
 fn object_given(request: FreshRequest, place: usize) -> ObjectGiven
     ensures { result ≡ object_given request place }
 {
-    if place < (request.objects as usize) {
-        if place < 64 {
-            return ObjectGiven {
-                reserved: request.reserved,
-            };
-        }
+    ObjectGiven {
+        reserved: place < usize::from(request.objects) && place < 64 && request.reserved,
     }
-    ObjectGiven { reserved: false }
+}
+
+// A record of a fresh table: what a request makes of the one at a place, which counts from 0.
+trait FreshRecord: Copy {
+    ghost empty: { Self };
+
+    ghost made: { FreshRequest → ℕ → Self };
+
+    fn empty() -> Self
+        ensures { result ≡ empty };
+
+    fn made(request: FreshRequest, place: usize) -> Self
+        ensures { result ≡ made request place };
 }
 
 // An idle thread with what it is given: the empty record where that is nothing.
-fn fresh_thread(given: ThreadGiven) -> ThreadRecord
-    ensures { result ≡ fresh_thread given }
-{
-    ThreadRecord {
-        rank: given.rank,
-        ..no_thread()
+impl FreshRecord for ThreadRecord {
+    ghost empty = { no_thread };
+
+    ghost made = { thread_from };
+
+    fn empty() -> ThreadRecord {
+        no_thread()
+    }
+
+    fn made(request: FreshRequest, place: usize) -> ThreadRecord {
+        ThreadRecord {
+            rank: thread_given(request, place).rank,
+            ..no_thread()
+        }
     }
 }
 
 // An object with what it is given, which nobody owns.
-fn fresh_object(given: ObjectGiven) -> ObjectRecord
-    ensures { result ≡ fresh_object given }
-{
-    no_object().with_word(first_word(given.reserved))
+impl FreshRecord for ObjectRecord {
+    ghost empty = { no_object };
+
+    ghost made = { object_from };
+
+    fn empty() -> ObjectRecord {
+        no_object()
+    }
+
+    fn made(request: FreshRequest, place: usize) -> ObjectRecord {
+        no_object().with_word(first_word(object_given(request, place).reserved))
+    }
 }
 
-fn fresh_threads(request: FreshRequest) -> [ThreadRecord; 32]
-    ensures { result ≡ tabulate thread_limit (thread_from request) }
+fn fresh_records<T: FreshRecord, const N: usize>(request: FreshRequest) -> [T; N]
+    ensures { result ≡ tabulate N (T.made request) }
 {
-    let mut threads = [no_thread(); 32];
-    for (place, thread) in threads.iter_mut().enumerate() {
-        *thread = fresh_thread(thread_given(request, place));
+    let mut records = [T::empty(); N];
+    for (place, record) in records.iter_mut().enumerate() {
+        *record = T::made(request, place);
     }
-    threads
-}
-
-fn fresh_objects(request: FreshRequest) -> [ObjectRecord; 64]
-    ensures { result ≡ tabulate object_limit (object_from request) }
-{
-    let mut objects = [no_object(); 64];
-    for (place, object) in objects.iter_mut().enumerate() {
-        *object = fresh_object(object_given(request, place));
-    }
-    objects
+    records
 }
 
 fn table_of(request: FreshRequest) -> Table
@@ -143,8 +154,8 @@ fn table_of(request: FreshRequest) -> Table
     Table {
         threadcount: request.threads as u8,
         objectcount: request.objects as u8,
-        threads: fresh_threads(request),
-        objects: fresh_objects(request),
+        threads: fresh_records(request),
+        objects: fresh_records(request),
     }
 }
 
@@ -152,8 +163,8 @@ fn table_of(request: FreshRequest) -> Table
 fn in_range(request: FreshRequest) -> bool
     ensures { result ≡ in_range request }
 {
-    ((1 <= request.threads) & (request.threads <= (THREADS as u16)))
-        & ((1 <= request.objects) & (request.objects <= (OBJECTS as u16)))
+    (1..=u16::from(THREADS)).contains(&request.threads)
+        && (1..=u16::from(OBJECTS)).contains(&request.objects)
 }
 
 // Whether every rank that is given is 0 to 3.
@@ -199,13 +210,15 @@ pub fn fresh(request: FreshRequest) -> Result<Table, FreshRefusal>
     Ok(table_of(request))
 }
 
-#[tactic(auto, unfolding(crate::specs::Fresh::refusal_returned))]
-fn refusal_returned(refusal: FreshRefusal) -> u8
-    ensures { result ≡ refusal_returned refusal }
-{
-    match refusal {
-        FreshRefusal::SizeOutOfRange => 22,
-        FreshRefusal::RankOutOfRange => 27,
+impl From<FreshRefusal> for u8 {
+    ghost from_gives = { λ refusal number. number ≡ refusal_returned refusal };
+
+    #[tactic(auto, unfolding(crate::specs::Fresh::refusal_returned))]
+    fn from(refusal: FreshRefusal) -> u8 {
+        match refusal {
+            FreshRefusal::SizeOutOfRange => 22,
+            FreshRefusal::RankOutOfRange => 27,
+        }
     }
 }
 
@@ -216,6 +229,6 @@ pub fn fresh_returned(answer: Result<(), FreshRefusal>) -> u8
 {
     match answer {
         Ok(()) => 0,
-        Err(refusal) => refusal_returned(refusal),
+        Err(refusal) => u8::from(refusal),
     }
 }
