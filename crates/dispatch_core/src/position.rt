@@ -43,7 +43,7 @@ pub(crate) fn most_steps(threads: u8, cursors: [ScriptCursor; 32]) -> u64
     STEP_WEIGHT * (operations_left(threads, cursors) + u64::from(threads))
 }
 
-// A turn that may take no step.
+// A turn that may take no step. An Option in its place would be no plainer: a quantum of 0 makes turns without a step too, so the loop asks for `left`.
 const OVER: Position = Position {
     thread: 1,
     left: 0,

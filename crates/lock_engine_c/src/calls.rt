@@ -6,7 +6,7 @@ ghost use Rattle.lock_table.specs.Fresh.{fresh_of};
 ghost use Rattle.table_bytes.specs.Layout.{table_size};
 ghost use Rattle.table_bytes.specs.Reading.{is_table, table_of};
 ghost use Rattle.lock_engine_c.specs.Calls.{event_answer, event_bytes, RefusedTo, RefusedLeaves};
-ghost use Rattle.lock_engine_c.specs.Calls.{answer_changes, reply_changes, stored_over, store_turn, event_over};
+ghost use Rattle.lock_engine_c.specs.Calls.{reply_changes, stored_over, store_turn, event_over};
 ghost use Rattle.lock_engine_c.specs.Calls.{begun_on, stepped_on, ticked_on, fresh_on, has_size, fresh_answer, fresh_bytes};
 
 use event_bytes::packed;
@@ -23,22 +23,11 @@ use table_bytes::{
 
 const NO_LIMIT: u32 = 0;
 
-#[tactic(auto, unfolding(crate::specs::Calls::answer_changes))]
-fn answer_changes(answer: Answer) -> bool
-    ensures { result ≡ answer_changes answer }
-{
-    !matches!(answer, Answer::NoRule)
-}
-
-#[tactic(auto, unfolding(crate::specs::Calls::reply_changes))]
+#[tactic(auto, unfolding(crate::specs::Calls::reply_changes, crate::specs::Calls::answer_changes))]
 pub(crate) fn reply_changes(reply: Reply) -> bool
     ensures { result ≡ reply_changes reply }
 {
-    match reply {
-        Reply::Accepted => true,
-        Reply::Refused(_) => false,
-        Reply::Answered(answer) => answer_changes(answer),
-    }
+    !matches!(reply, Reply::Refused(_) | Reply::Answered(Answer::NoRule))
 }
 
 #[tactic(auto, unfolding(crate::specs::Calls::stored_over))]

@@ -16,9 +16,8 @@ pub fn duskclamp_run(bytes: &mut [u8], events: &[u8], answers: &mut [u64]) -> us
     ensures answers_after { answers.new ≡ overwritten 0 (run_answers bytes.old (run_events events.now answers.old)) answers.old }
     ensures bytes_after { bytes.new ≡ run_bytes bytes.old (run_events events.now answers.old) }
 {
-    let istable = is_table(bytes);
     let mut table = read_table(bytes);
-    let issound = istable & sound(table);
+    let issound = is_table(bytes) && sound(table);
     let (whole, _) = events.as_chunks();
     let count = whole.len().min(answers.len());
     let mut changed = false;

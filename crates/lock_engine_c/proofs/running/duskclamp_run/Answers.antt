@@ -1,13 +1,15 @@
 -- What is still to run gives what the whole run gives: before the loop, after an event, and at the end.
-use Rattle.std.proofs.Common.{ℕ, List, [], get_or, ◌/◌, ◌≡◌, ◌∙◌, ap, length, arith, rules}
+use Rattle.std.proofs.Common.{ℕ, List, [], get_or, ◌/◌, ◌≡◌, ◌∙◌, ap, sym, length, arith, rules}
 use Rattle.event_bytes.specs.Encoding.{event_size, event_at}
 use Rattle.event_bytes.proofs.Chunks.{chunk_event}
 use Rattle.lock_engine_c.specs.Run.{run_count}
 use Rattle.laws.specs.Choice.{both, either}
 use Rattle.lock_engine.specs.declared.outcome.Outcome.{Outcome}
-use Rattle.table_bytes.specs.Reading.{AreBytes}
+use Rattle.table_bytes.specs.Reading.{AreBytes, is_table}
+use Rattle.lock_soundness.specs.Sound.{sound_of}
 use Rattle.lock_engine_c.proofs.Runs.{count_is, run_starts, run_goes_on, run_ends}
 use Rattle.lock_engine_c.proofs.running.duskclamp_run.Goals as goal
+use Rattle.lock_engine_c.proofs.running.duskclamp_run.Goals.{then-is_table, else-is_table}
 
 pub loop-done-init : goal.loop-done-init
 loop-done-init c =
@@ -15,12 +17,17 @@ loop-done-init c =
     let small : AreBytes given.bytes.now = search rules in
     let count : c.min-count.result ≡ run_count (length given.events.now) (length given.answers.now) =
     (rw c.as_chunks.ensures.front_len at c.min-count.ensures) ∙ count_is (length given.events.now) (length given.answers.now) in
+    let issound : c.if-is_table.issound ≡ both (is_table given.bytes.now) (sound_of c.read_table-table.result) =
+    elim c.if-is_table.branch [
+      | then-is_table w ↦ rw (sym c.is_table.ensures ∙ w.if-is_table.true) (w.issound-is ∙ w.sound-issound.ensures)
+      | else-is_table w ↦ rw (sym c.is_table.ensures ∙ w.if-is_table.false) (w.issound-is ∙ w.if-is_table.false)
+    ] in
     record {
       small = small;
       count_is = count;
       room = omega (arith, c.min-count.ensures);
       running = run_starts given.bytes.now given.events.now given.answers.now small c.read_table-table.ensures
-          (λ j. both (c.is_table-istable.ensures j) (c.sound.ensures j));
+          issound;
     }
 
 pub loop-done-preserved : goal.loop-done-preserved
