@@ -129,13 +129,11 @@ impl Records {
     fn word_turn(self, thread: u8, waiters: u8, doing: Doing, decoded: Option<LockWord>) -> Turn
         ensures { result ≡ word_turn thread self.own self.object waiters doing decoded }
     {
-        match decoded {
-            Some(word) => {
-                let sight = sight_with(self.object, seen_word(word), waiters);
-                self.action_turn(thread, decide(thread, sight, doing))
-            }
-            None => self.refused(Refusal::NotSound),
-        }
+        let Some(word) = decoded else {
+            return self.refused(Refusal::NotSound);
+        };
+        let sight = sight_with(self.object, seen_word(word), waiters);
+        self.action_turn(thread, decide(thread, sight, doing))
     }
 
     #[tactic(auto, unfolding(crate::specs::Turn::state_turn))]

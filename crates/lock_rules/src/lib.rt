@@ -9,7 +9,8 @@ use chains::Chain;
 pub use event::{Event, Refusal, ThreadStatus};
 use lock_word::{Depth, WordSeen};
 
-// How long a wait goes on: until it is notified, or for so many ticks of the clock at most.
+// How long a wait goes on: until it is notified, or for so many ticks of the clock at most. No Option of ticks: `WaitLook(None)` would not tell a reader
+// that the wait has no limit, as `WaitLook(Limit::Unlimited)` does.
 #[derive(Clone, Copy)]
 pub enum Limit {
     Unlimited,
