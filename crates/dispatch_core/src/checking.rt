@@ -8,7 +8,7 @@ use crate::script::{OPERATION_SIZE, operation_at};
 use dispatch_rules::{DispatchRefusal, ScriptCursor};
 use lock_engine::refusal_number;
 use lock_rules::Refusal;
-use lock_table::{Table, thread_place};
+use lock_table::{THREADS, Table, thread_place};
 
 const SCRIPT_OPERATIONS: u8 = 5;
 
@@ -47,7 +47,12 @@ fn script_known(scripts: &[u8], objects: u8, cursor: ScriptCursor) -> bool
 
 // So is each of the threads'.
 #[tactic(auto, using(lock_table::proofs::Places::place_inside))]
-fn each_known(scripts: &[u8], threads: u8, objects: u8, cursors: [ScriptCursor; 32]) -> bool
+fn each_known(
+    scripts: &[u8],
+    threads: u8,
+    objects: u8,
+    cursors: [ScriptCursor; THREADS as usize],
+) -> bool
     ensures { result ≡ all_up_to threads (λ n. script_known scripts.now objects (cursor_at cursors n)) }
 {
     for place in 0..threads {
@@ -63,7 +68,7 @@ pub(crate) fn dispatch_answer(
     table: Table,
     quantum: u32,
     scripts: &[u8],
-    cursors: [ScriptCursor; 32],
+    cursors: [ScriptCursor; THREADS as usize],
     lent: usize,
 ) -> Result<(), DispatchRefusal>
     ensures { result ≡ dispatch_answer scripts.now quantum lent (scripted table cursors) }

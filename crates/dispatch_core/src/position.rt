@@ -7,7 +7,7 @@ ghost use Rattle.dispatch_rules.specs.Dispatch.{operations_left, most_steps};
 ghost use Rattle.dispatch_core.specs.Position.{cursor_room, round_room, first_position, next_position};
 
 use dispatch_rules::{DispatchRefusal, ScriptCursor};
-use lock_table::thread_place;
+use lock_table::{THREADS, thread_place};
 
 // The steps of a run are at most so many for each operation that is still to begin, and for each thread.
 const STEP_WEIGHT: u64 = 205;
@@ -24,7 +24,7 @@ pub(crate) struct Position {
 }
 
 #[tactic(auto, using(lock_table::proofs::Places::place_inside))]
-fn operations_left(threads: u8, cursors: [ScriptCursor; 32]) -> u64
+fn operations_left(threads: u8, cursors: [ScriptCursor; THREADS as usize]) -> u64
     ensures value { result ≡ operations_left threads cursors }
     ensures small { result ≤ threads * cursor_room }
 {
@@ -36,7 +36,7 @@ fn operations_left(threads: u8, cursors: [ScriptCursor; 32]) -> u64
     total
 }
 
-pub(crate) fn most_steps(threads: u8, cursors: [ScriptCursor; 32]) -> u64
+pub(crate) fn most_steps(threads: u8, cursors: [ScriptCursor; THREADS as usize]) -> u64
     ensures value { result ≡ most_steps threads cursors }
     ensures small { result ≤ threads * round_room }
 {

@@ -10,7 +10,7 @@ use dispatch_rules::{Dispatched, ScriptCursor, ScriptRun};
 use lock_engine::{handle_in_place, returned};
 use lock_gate::thread_status;
 use lock_rules::Event;
-use lock_table::{Table, thread_place};
+use lock_table::{THREADS, Table, thread_place};
 
 // Runs the scripts from the given cursors on, round after round, until a round is without a step. `lent` records were lent; those of the table's threads are
 // the first cursors. Refused, it changes nothing. Soundness is tested once, before the loop: every event keeps it. A begin is made on the record that
@@ -20,7 +20,7 @@ pub fn run_scripts(
     table: Table,
     quantum: u32,
     scripts: &[u8],
-    cursors: [ScriptCursor; 32],
+    cursors: [ScriptCursor; THREADS as usize],
     lent: usize,
     trace: &mut [u64],
 ) -> ScriptRun

@@ -1,7 +1,7 @@
 // The dispatcher's types (document 02, L6): a thread's script, what runs, and what a run answers. Definitions, claims and proofs about them, and no code.
 #![tactic(auto)]
 
-use lock_table::Table;
+use lock_table::{THREADS, Table};
 
 // Where the script of a thread is in the operations that are lent, and how far it has come. So it lies in memory, for callers in C.
 #[repr(C)]
@@ -18,9 +18,9 @@ pub struct ScriptCursor {
 // Why a run is refused.
 #[derive(Clone, Copy)]
 pub enum DispatchRefusal {
-    NotSound,          // 11
+    NotSound, // 11
     QuantumOutOfRange, // 25
-    ScriptUnknown,     // 26
+    ScriptUnknown, // 26
 }
 
 // What a run gives back: the table that it came to, whether it ran, and how many steps it took.
@@ -34,6 +34,6 @@ pub struct Dispatched {
 // And the cursors that it came to, for those who lent them.
 #[derive(Clone, Copy)]
 pub struct ScriptRun {
-    pub cursors: [ScriptCursor; 32],
+    pub cursors: [ScriptCursor; THREADS as usize],
     pub dispatched: Dispatched,
 }

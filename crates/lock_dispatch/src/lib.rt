@@ -29,7 +29,7 @@ pub fn dispatch(
     ensures few { (result.steps ≤ most_steps table.threadcount (loaded cursors.old)) × (result.steps < steps_room) }
 {
     let count = cursors.len().min(usize::from(THREADS));
-    let mut array = [NO_CURSOR; 32];
+    let mut array = [NO_CURSOR; THREADS as usize];
     array[..count].copy_from_slice(&cursors[..count]);
     let done = run_scripts(table, quantum, scripts, array, cursors.len(), trace);
     cursors[..count].copy_from_slice(&done.cursors[..count]);

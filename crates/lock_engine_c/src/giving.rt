@@ -4,7 +4,7 @@ ghost use Rattle.lock_engine_c.specs.Calls.{has_size, fresh_answer, fresh_bytes}
 ghost use Rattle.lock_engine_c.specs.Given.{given_from, threads_from, fresh_given_on};
 
 use crate::calls::make_fresh;
-use lock_table::{FreshRequest, ThreadGiven, narrow, no_thread_given};
+use lock_table::{FreshRequest, THREADS, ThreadGiven, narrow, no_thread_given};
 
 // What the thread at a place is given.
 fn given_from(bytes: &[u8], place: usize) -> ThreadGiven
@@ -15,10 +15,10 @@ fn given_from(bytes: &[u8], place: usize) -> ThreadGiven
     }
 }
 
-fn threads_from(bytes: &[u8]) -> [ThreadGiven; 32]
+fn threads_from(bytes: &[u8]) -> [ThreadGiven; THREADS as usize]
     ensures { result ≡ threads_from bytes.now }
 {
-    let mut given = [no_thread_given(); 32];
+    let mut given = [no_thread_given(); THREADS as usize];
     for (place, thread) in given.iter_mut().enumerate() {
         *thread = given_from(bytes, place);
     }

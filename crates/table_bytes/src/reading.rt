@@ -15,8 +15,8 @@ pub fn read_table(bytes: &[u8]) -> Table
     let mut table = Table {
         threadcount: 0,
         objectcount: 0,
-        threads: [no_thread(); 32],
-        objects: [no_object(); 64],
+        threads: [no_thread(); THREADS as usize],
+        objects: [no_object(); OBJECTS as usize],
     };
     if bytes.len() < TABLE_SIZE {
         return table;
