@@ -1,16 +1,16 @@
-// What soundness asks of one thread's record. `phase` and `carried` are document 01's numbers of the thread's phase and of the one it carries.
+// What soundness asks of one thread's record, by its phase and the one it carries; the definitions have document 01's numbers of these.
 ghost use Rattle.std.specs.Prelude.{◌≡◌, eqb, not};
+ghost use Rattle.lock_table.specs.Phase.{phase_number, onward_number, carried_number};
 ghost use Rattle.lock_table.specs.Parked.{chain_named};
+ghost use Rattle.lock_table.specs.declared.operation.Operation.TheVariants.{Enter, Exit};
 ghost use Rattle.sound_records.specs.Records.{uses_phase, carries_phase, operation_fits, kept_count_fits, reserved_for, kept_fits, empty_thread};
 ghost use Rattle.sound_records.specs.Records.{saves_depth, saved_fits, unused_fits, used_thread_fits, names_chain, falls_behind};
-ghost use Rattle.sound_records.specs.Records.{wait_uses, wait_carries, resumes, ticks_fit};
+ghost use Rattle.sound_records.specs.Records.{wait_uses, resumes, ticks_fit};
 ghost use Rattle.sound_records.specs.OnePass.{chain_number, rank_there, member_passes, thread_passes};
 
 use crate::choice::implies;
 use chains::Chain;
-use lock_table::{
-    Operation, Phase, RANKS, ThreadRecord, carried_number, is_thread, no_thread, phase_number,
-};
+use lock_table::{Onward, Operation, Phase, RANKS, ThreadRecord, is_thread, no_thread};
 use lock_word::{COUNT_LIMIT, DEPTH_LIMIT, LockWord, TICK_LIMIT};
 
 // The largest counts of a kept word: storing it adds one for enter and takes one off for exit.
@@ -19,54 +19,105 @@ const ENTER_COUNT_LIMIT: u8 = COUNT_LIMIT - 1;
 const EXIT_COUNT_LIMIT: u8 = COUNT_LIMIT;
 
 // The phases of a wait, timed or not: those that it uses, and those that it can carry.
-fn wait_uses(phase: u8) -> bool
-    ensures { result ≡ wait_uses phase }
+#[tactic(auto, unfolding(lock_table::specs::Phase::phase_number))]
+fn wait_uses(phase: Phase) -> bool
+    ensures { result ≡ wait_uses (phase_number phase) }
 {
-    matches!(phase, 1 | 3..=5 | 12..=15)
+    matches!(
+        phase,
+        Phase::Look
+            | Phase::Cancel
+            | Phase::GoIn
+            | Phase::Queued(_)
+            | Phase::Inflate
+            | Phase::GiveUp
+            | Phase::Waiting
+            | Phase::Resume
+    )
 }
 
-fn wait_carries(carried: u8) -> bool
-    ensures { result ≡ wait_carries carried }
+// The phases that an exit uses.
+#[tactic(auto, unfolding(crate::specs::Records::uses_phase, lock_table::specs::Phase::phase_number))]
+fn exit_uses(phase: Phase) -> bool
+    ensures { result ≡ uses_phase Exit (phase_number phase) }
 {
-    matches!(carried, 12 | 15)
+    matches!(
+        phase,
+        Phase::Look
+            | Phase::Store
+            | Phase::GoIn
+            | Phase::Queued(_)
+            | Phase::Test
+            | Phase::Tell
+            | Phase::Leave
+    )
+}
+
+// The phases that an enter uses.
+#[tactic(auto, unfolding(crate::specs::Records::uses_phase, lock_table::specs::Phase::phase_number))]
+fn enter_uses(phase: Phase) -> bool
+    ensures { result ≡ uses_phase Enter (phase_number phase) }
+{
+    matches!(
+        phase,
+        Phase::Look
+            | Phase::Store
+            | Phase::Cancel
+            | Phase::GoIn
+            | Phase::Queued(_)
+            | Phase::Check
+            | Phase::Try
+            | Phase::Contending
+    )
+}
+
+#[tactic(auto, unfolding(lock_table::specs::Phase::phase_number))]
+fn is_look(phase: Phase) -> bool
+    ensures { result ≡ eqb (phase_number phase) 1 }
+{
+    matches!(phase, Phase::Look)
 }
 
 // The phases that each operation uses.
 #[tactic(auto, unfolding(crate::specs::Records::uses_phase))]
-fn uses_phase(operation: Operation, phase: u8) -> bool
-    ensures { result ≡ uses_phase operation phase }
+fn uses_phase(operation: Operation, phase: Phase) -> bool
+    ensures { result ≡ uses_phase operation (phase_number phase) }
 {
     match operation {
         Operation::Idle => false,
-        Operation::Enter => matches!(phase, 1..=8),
-        Operation::Exit => matches!(phase, 1 | 2 | 4 | 5 | 9..=11),
+        Operation::Enter => enter_uses(phase),
+        Operation::Exit => exit_uses(phase),
         Operation::Wait | Operation::TimedWait => wait_uses(phase),
-        Operation::Notify | Operation::NotifyAll => phase == 1,
+        Operation::Notify | Operation::NotifyAll => is_look(phase),
     }
 }
 
 // The phases that a queued thread can carry.
-#[tactic(auto, unfolding(crate::specs::Records::carries_phase))]
-fn carries_phase(operation: Operation, carried: u8) -> bool
-    ensures { result ≡ carries_phase operation carried }
+#[tactic(auto, unfolding(crate::specs::Records::carries_phase, lock_table::specs::Phase::onward_number))]
+fn carries_phase(operation: Operation, onward: Onward) -> bool
+    ensures { result ≡ carries_phase operation (onward_number onward) }
 {
     match operation {
-        Operation::Enter => carried == 6,
-        Operation::Exit => carried == 10,
-        Operation::Wait | Operation::TimedWait => wait_carries(carried),
+        Operation::Enter => matches!(onward, Onward::ToCheck),
+        Operation::Exit => matches!(onward, Onward::ToTell),
+        Operation::Wait | Operation::TimedWait => {
+            matches!(onward, Onward::ToInflate | Onward::ToResume)
+        }
         Operation::Idle | Operation::Notify | Operation::NotifyAll => false,
     }
 }
 
 // A thread that is not idle has an object, and a phase that its operation uses.
-#[tactic(auto, unfolding(crate::specs::Records::operation_fits))]
-fn operation_fits(objects: u8, phase: u8, carried: u8, thread: ThreadRecord) -> bool
-    ensures { result ≡ operation_fits objects phase carried thread }
+#[tactic(auto, unfolding(crate::specs::Records::operation_fits, lock_table::specs::Phase::phase_number, lock_table::specs::Phase::carried_number))]
+fn operation_fits(objects: u8, thread: ThreadRecord) -> bool
+    ensures { result ≡ operation_fits objects (phase_number thread.phase) (carried_number thread.phase) thread }
 {
-    let object = (1..=objects).contains(&thread.object);
-    let uses = uses_phase(thread.operation, phase);
-    let carries = implies(phase == 5, carries_phase(thread.operation, carried));
-    (phase == 0) | (object & uses & carries)
+    let carries = match thread.phase {
+        Phase::Idle => return true,
+        Phase::Queued(onward) => carries_phase(thread.operation, onward),
+        _ => true,
+    };
+    (1..=objects).contains(&thread.object) & uses_phase(thread.operation, thread.phase) & carries
 }
 
 #[tactic(auto, unfolding(crate::specs::Records::kept_count_fits))]
@@ -92,61 +143,64 @@ fn reserved_for(number: u8, operation: Operation, decoded: Option<LockWord>) -> 
     }
 }
 
-#[tactic(auto, unfolding(crate::specs::Records::kept_fits))]
-fn kept_fits(number: u8, phase: u8, thread: ThreadRecord) -> bool
-    ensures { result ≡ kept_fits number phase thread }
+#[tactic(auto, unfolding(crate::specs::Records::kept_fits, lock_table::specs::Phase::phase_number))]
+fn kept_fits(number: u8, thread: ThreadRecord) -> bool
+    ensures { result ≡ kept_fits number (phase_number thread.phase) thread }
 {
-    if phase == 2 {
-        reserved_for(number, thread.operation, lock_word::read_word(thread.kept))
-    } else {
-        true
+    match thread.phase {
+        Phase::Store => reserved_for(number, thread.operation, lock_word::read_word(thread.kept)),
+        _ => true,
     }
 }
 
 // The phases in which a saved depth is used.
-#[tactic(auto, unfolding(crate::specs::Records::saves_depth))]
-fn saves_depth(phase: u8, carried: u8) -> bool
-    ensures { result ≡ saves_depth phase carried }
+#[tactic(auto, unfolding(crate::specs::Records::saves_depth, lock_table::specs::Phase::phase_number, lock_table::specs::Phase::carried_number, lock_table::specs::Phase::onward_number))]
+fn saves_depth(phase: Phase) -> bool
+    ensures { result ≡ saves_depth (phase_number phase) (carried_number phase) }
 {
-    matches!(phase, 14 | 15) | (carried == 15)
+    matches!(
+        phase,
+        Phase::Waiting | Phase::Resume | Phase::Queued(Onward::ToResume)
+    )
 }
 
 #[tactic(auto, unfolding(crate::specs::Records::saved_fits))]
-fn saved_fits(phase: u8, carried: u8, thread: ThreadRecord) -> bool
-    ensures { result ≡ saved_fits phase carried thread }
+fn saved_fits(thread: ThreadRecord) -> bool
+    ensures { result ≡ saved_fits (phase_number thread.phase) (carried_number thread.phase) thread }
 {
     implies(
-        saves_depth(phase, carried),
+        saves_depth(thread.phase),
         (1..=DEPTH_LIMIT).contains(&thread.saved),
     )
 }
 
 // The phases that a timed wait comes to when it has run out.
-fn resumes(phase: u8, carried: u8) -> bool
-    ensures { result ≡ resumes phase carried }
+#[tactic(auto, unfolding(lock_table::specs::Phase::phase_number, lock_table::specs::Phase::carried_number, lock_table::specs::Phase::onward_number))]
+fn resumes(phase: Phase) -> bool
+    ensures { result ≡ resumes (phase_number phase) (carried_number phase) }
 {
-    (phase == 15) | (carried == 15)
+    matches!(phase, Phase::Resume | Phase::Queued(Onward::ToResume))
 }
 
 // A timed wait has ticks left, or has run out; no other operation has ticks.
 #[tactic(auto, unfolding(crate::specs::Records::ticks_fit))]
-fn ticks_fit(phase: u8, carried: u8, thread: ThreadRecord) -> bool
-    ensures { result ≡ ticks_fit phase carried thread }
+fn ticks_fit(thread: ThreadRecord) -> bool
+    ensures { result ≡ ticks_fit (phase_number thread.phase) (carried_number thread.phase) thread }
 {
     let ticks = thread.ticks;
     match thread.operation {
         Operation::TimedWait => (1..=TICK_LIMIT).contains(&ticks)
-            | ((ticks == 0) & resumes(phase, carried)),
+            | ((ticks == 0) & resumes(thread.phase)),
         _ => ticks == 0,
     }
 }
 
 // Whether a thread in this phase is parked in a chain of its object.
-#[tactic(auto, unfolding(lock_table::specs::Parked::chain_named))]
-fn is_parked(phase: u8) -> bool
-    ensures { result ≡ not (eqb (chain_named phase) 0) }
+#[tactic(auto, unfolding(lock_table::specs::Parked::chain_named, lock_table::specs::Phase::phase_number))]
+fn is_parked(phase: Phase) -> bool
+    ensures { result ≡ not (eqb (chain_named (phase_number phase)) 0) }
 {
-    matches!(phase, 5 | 8 | 14)
+    matches!(phase, Phase::Queued(_) | Phase::Contending | Phase::Waiting)
 }
 
 // The thread is parked in this chain of the object.
@@ -189,32 +243,46 @@ pub fn rank_there(number: u8, there: ThreadRecord) -> u8
     if is_thread(number) { there.rank } else { 0 }
 }
 
+#[tactic(auto, unfolding(lock_table::specs::Phase::phase_number))]
+fn is_idle(phase: Phase) -> bool
+    ensures { result ≡ eqb (phase_number phase) 0 }
+{
+    matches!(phase, Phase::Idle)
+}
+
+#[tactic(auto, unfolding(lock_table::specs::Phase::phase_number))]
+fn is_store(phase: Phase) -> bool
+    ensures { result ≡ eqb (phase_number phase) 2 }
+{
+    matches!(phase, Phase::Store)
+}
+
 // Every field that the phase does not use is 0.
 #[tactic(auto, unfolding(crate::specs::Records::unused_fits, lock_table::specs::Operation::operation_number))]
-fn unused_fits(phase: u8, carried: u8, thread: ThreadRecord) -> bool
-    ensures { result ≡ unused_fits phase carried thread }
+fn unused_fits(thread: ThreadRecord) -> bool
+    ensures { result ≡ unused_fits (phase_number thread.phase) (carried_number thread.phase) thread }
 {
     let idle = implies(
-        phase == 0,
+        is_idle(thread.phase),
         matches!(thread.operation, Operation::Idle) & (thread.object == 0),
     );
-    let kept = (phase == 2) | (thread.kept == 0);
-    let next = is_parked(phase) | (thread.next == 0);
-    let saved = saves_depth(phase, carried) | (thread.saved == 0);
+    let kept = is_store(thread.phase) | (thread.kept == 0);
+    let next = is_parked(thread.phase) | (thread.next == 0);
+    let saved = saves_depth(thread.phase) | (thread.saved == 0);
     idle & kept & next & saved
 }
 
 // A row for each clause about a thread's record.
-fn used_thread_fits(objects: u8, number: u8, phase: u8, carried: u8, thread: ThreadRecord) -> bool
-    ensures { result ≡ used_thread_fits objects number phase carried thread }
+fn used_thread_fits(objects: u8, number: u8, thread: ThreadRecord) -> bool
+    ensures { result ≡ used_thread_fits objects number (phase_number thread.phase) (carried_number thread.phase) thread }
 {
-    let operation = operation_fits(objects, phase, carried, thread);
-    let kept = kept_fits(number, phase, thread);
-    let saved = saved_fits(phase, carried, thread);
-    let ticks = ticks_fit(phase, carried, thread);
-    let unused = unused_fits(phase, carried, thread);
     let ranked = thread.rank <= RANKS;
-    ranked & operation & kept & saved & ticks & unused
+    ranked
+        & operation_fits(objects, thread)
+        & kept_fits(number, thread)
+        & saved_fits(thread)
+        & ticks_fit(thread)
+        & unused_fits(thread)
 }
 
 #[tactic(auto, using(crate::proofs::Same::and_both), unfolding(crate::specs::Records::empty_thread, lock_table::specs::Operation::operation_number, lock_table::specs::Phase::phase_number))]
@@ -235,8 +303,5 @@ pub fn thread_passes(threads: u8, objects: u8, number: u8, thread: ThreadRecord,
     if threads < number {
         return false;
     }
-    let phase = phase_number(thread.phase);
-    let carried = carried_number(thread.phase);
-    let fits = used_thread_fits(objects, number, phase, carried, thread);
-    fits & (!is_parked(phase) | met)
+    used_thread_fits(objects, number, thread) & (!is_parked(thread.phase) | met)
 }
