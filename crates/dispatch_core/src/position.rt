@@ -83,35 +83,28 @@ pub(crate) fn next_position(
 ) -> Position
     ensures { result ≡ next_position threads quantum position took on }
 {
-    let Position {
-        thread,
-        left,
-        stepped,
-        rounds,
-    } = position;
-    let stepped = stepped || took;
-    if took && on && 1 < left {
+    let stepped = position.stepped || took;
+    if took && on && 1 < position.left {
         return Position {
-            thread,
-            left: left - 1,
+            left: position.left - 1,
             stepped,
-            rounds,
+            ..position
         };
     }
-    if thread < threads {
+    if position.thread < threads {
         return Position {
-            thread: thread + 1,
+            thread: position.thread + 1,
             left: quantum,
             stepped,
-            rounds,
+            ..position
         };
     }
-    if stepped && 0 < rounds {
+    if stepped && 0 < position.rounds {
         return Position {
             thread: 1,
             left: quantum,
             stepped: false,
-            rounds: rounds - 1,
+            rounds: position.rounds - 1,
         };
     }
     OVER
