@@ -9,5 +9,5 @@ mod taking;
 pub use closing::{closed_state, put_closing};
 pub use state::{State, fresh_state, state_over};
 pub use taking::{
-    largest_after, line_answer, line_reaction, lines_after, runs_in_place, sound_after,
+    event_in_place, largest_after, line_answer, line_reaction, lines_after, sound_after,
 };

@@ -2,12 +2,15 @@
 // of a thread in a running session counts there, and that is carried out in place. So `reporting` and the tally's two numbers are passed one by one:
 // a tally handed to these functions would be copied for each line.
 ghost use Rattle.std.specs.Prelude.{◌≡◌};
+ghost use Rattle.laws.specs.Choice.{pick};
+ghost use Rattle.replay_session.specs.Trusting.{line_event};
 ghost use Rattle.program_state.specs.Take.{excess_answer};
 ghost use Rattle.program_state.specs.Trusting.{line_reaction, line_answer, one_further, lines_after, largest_after, runs_in_place, sound_after};
 
+use lock_rules::Event;
 use lock_table::Table;
 use replay_lines::{Line, is_header};
-use replay_session::{Reaction, Session, Stage, fresh_session, react_trusting, runs_thread_event};
+use replay_session::{Reaction, Session, Stage, fresh_session, react_trusting, running_event};
 use replay_text::Answer;
 use report_tally::MOST_LINES;
 
@@ -106,11 +109,14 @@ pub fn sound_after(reporting: bool, line: Line, issound: bool) -> bool
     issound
 }
 
-// Whether a line is an event of a thread that a caller may carry out in place: a running session's, and for the report while a run may hold
+// The event of a thread that a line asks for, if a caller may carry it out in place: in a running session, and for the report while a run may hold
 // more lines.
 #[tactic(auto, unfolding(crate::specs::Trusting::runs_in_place))]
-pub fn runs_in_place(reporting: bool, lines: u16, stage: Stage, line: Line) -> bool
-    ensures { result ≡ runs_in_place reporting lines stage line }
+pub fn event_in_place(reporting: bool, lines: u16, stage: Stage, line: Line) -> Option<Event>
+    ensures { result ≡ pick (runs_in_place reporting lines stage line) (Some (line_event line)) None }
 {
-    (!reporting || lines < MOST_LINES) && runs_thread_event(stage, line)
+    if reporting && MOST_LINES <= lines {
+        return None;
+    }
+    running_event(stage, line)
 }

@@ -1,5 +1,6 @@
 // What a line does to a session, and what it prints, for a caller that knows whether the session's table is sound.
 ghost use Rattle.std.specs.Prelude.{◌≡◌};
+ghost use Rattle.laws.specs.Choice.{pick};
 ghost use Rattle.lock_rules.specs.Numbers.{first_refusal};
 ghost use Rattle.replay_session.specs.Session.{staying, opened_by, open_by, phase_of, word_of, answer_from, answer_with, tick_answer, after_event, after_tick, closing_by, closing_of};
 ghost use Rattle.replay_session.specs.Trusting.{event_known, line_event, is_thread_event, runs_thread_event, turn_answer, run_by, react_by, react_trusting};
@@ -164,12 +165,14 @@ fn after_tick(outcome: Outcome) -> Reaction
 }
 
 // A line behind a good header.
-#[tactic(auto, unfolding(crate::specs::Trusting::run_by, crate::specs::Trusting::line_event))]
+#[tactic(auto, unfolding(crate::specs::Trusting::run_by, crate::specs::Trusting::line_event, crate::specs::Trusting::is_thread_event))]
 fn run_by(table: Table, line: Line, issound: bool) -> Reaction
     ensures { result ≡ run_by table line issound }
 {
+    if let Some(event) = line_event(line) {
+        return event_by(table, event, issound);
+    }
     match line {
-        Line::Begin { .. } | Line::Step { .. } => event_by(table, line_event(line), issound),
         Line::Tick => after_tick(handle_trusting(table, Event::Tick, issound)),
         _ => stay(Stage::Running, table, Answer::Alone { number: MALFORMED }),
     }
@@ -194,10 +197,10 @@ pub fn react_trusting(session: Session, line: Line, issound: bool) -> Reaction
     react_by(session.stage, session.table, line, issound)
 }
 
-// The event of a thread that a line asks for; of other lines the answer is not used.
-#[tactic(auto, unfolding(crate::specs::Trusting::line_event))]
-pub fn line_event(line: Line) -> Event
-    ensures { result ≡ line_event line }
+// The event of a thread that a line asks for, if it asks for one.
+#[tactic(auto, unfolding(crate::specs::Trusting::line_event, crate::specs::Trusting::is_thread_event))]
+fn line_event(line: Line) -> Option<Event>
+    ensures { result ≡ pick (is_thread_event line) (Some (line_event line)) None }
 {
     match line {
         Line::Begin {
@@ -205,33 +208,29 @@ pub fn line_event(line: Line) -> Event
             thread,
             object,
             limit,
-        } => Event::Begin {
+        } => Some(Event::Begin {
             operation,
             thread: narrow(u32::from(thread)),
             object: narrow(u32::from(object)),
             limit: u32::from(limit),
-        },
-        Line::Step { thread } => Event::Step {
+        }),
+        Line::Step { thread } => Some(Event::Step {
             thread: narrow(u32::from(thread)),
-        },
-        _ => Event::Step { thread: 0 },
+        }),
+        _ => None,
     }
 }
 
-#[tactic(auto, unfolding(crate::specs::Trusting::is_thread_event))]
-fn is_thread_event(line: Line) -> bool
-    ensures { result ≡ is_thread_event line }
-{
-    matches!(line, Line::Begin { .. } | Line::Step { .. })
-}
-
-// Whether a line is an event of a thread in a running session, which a caller may carry out in place. A tick, which touches every object, is left to
+// The event of a thread that a line asks for in a running session, which a caller may carry out in place. A tick, which touches every object, is left to
 // react_trusting.
 #[tactic(auto, unfolding(crate::specs::Trusting::runs_thread_event))]
-pub fn runs_thread_event(stage: Stage, line: Line) -> bool
-    ensures { result ≡ runs_thread_event stage line }
+pub fn running_event(stage: Stage, line: Line) -> Option<Event>
+    ensures { result ≡ pick (runs_thread_event stage line) (Some (line_event line)) None }
 {
-    matches!(stage, Stage::Running) && is_thread_event(line)
+    match stage {
+        Stage::Running => line_event(line),
+        Stage::Opening | Stage::Over => None,
+    }
 }
 
 // What an event prints, by its reply, its thread's phase, its object's word and whom it unparked.

@@ -1,11 +1,12 @@
 -- What has no newline is no event of a thread, whatever session it comes to.
 use Prim.Native.Nat.{ℕ}
-use mathlib.Core.Path.{◌≡◌, refl, ap, ◌∙◌}
+use mathlib.Core.Path.{◌≡◌, refl, ap, sym, ◌∙◌}
 use mathlib.Core.Bool.{Bool, true, false}
 use mathlib.Core.List.{List, [], ◌∷◌}
+use Rattle.std.specs.Prelude.{Option, Some, None, is_some, unwrap_or}
 use lib.Dec.{eqb, ltb}
 use Rattle.laws.specs.Choice.{pick}
-use Rattle.laws.proofs.Choice.{both_no}
+use Rattle.laws.proofs.Choice.{both_no, false≢true}
 use Rattle.replay_lines.specs.Bytes.{letter_L}
 use Rattle.replay_lines.specs.Cutting.{line_end}
 use Rattle.replay_lines.specs.Grammar.{read_line}
@@ -39,3 +40,13 @@ pub open_not_in_place : (reporting : Bool) (lines : ℕ) (stage : Stage) (line :
 unfolding runs_in_place
 open_not_in_place true lines stage line none = rw (nowhere stage (read_line line) (open_no_event line none)) (both_no (ltb lines most_lines))
 open_not_in_place false lines stage line none = nowhere stage (read_line line) (open_no_event line none)
+
+-- what an event that is there only where a test passes says of the test, and none
+module _ {A : Type 0} where
+  pub picked_some : (test : Bool) {x : A} (y : A) → Some x ≡ pick test (Some y) None → (test ≡ true) × (x ≡ y)
+  picked_some true {x} y same = (refl, ap (λ (o : Option A). unwrap_or o x) same)
+  picked_some false y same = false≢true (ap is_some (sym same))
+
+  pub picked_none : (test : Bool) (y : A) → None ≡ pick test (Some y) None → test ≡ false
+  picked_none true y same = false≢true (ap is_some same)
+  picked_none false y same = refl

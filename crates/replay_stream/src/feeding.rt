@@ -13,11 +13,11 @@ use lock_engine::{Done, handle_in_place, returned};
 use lock_gate::{event_object, event_thread};
 use lock_table::{Table, object_at, object_place, thread_at};
 use program_state::{
-    State, fresh_state, largest_after, line_answer, line_reaction, lines_after, runs_in_place,
+    State, event_in_place, fresh_state, largest_after, line_answer, line_reaction, lines_after,
     sound_after,
 };
 use replay_lines::LINE_LIMIT;
-use replay_session::{Session, Stage, line_event, turn_answer};
+use replay_session::{Session, Stage, turn_answer};
 use replay_text::{Answer, LINE_ROOM, put_answer};
 use report_tally::{Tally, way_finished, with_enter};
 
@@ -100,7 +100,7 @@ fn take_lines(start: State, input: &[u8], out: &mut [u8]) -> Progress
         }
         let line = replay_lines::read_line(&rest[..end]);
         rest = &rest[end..];
-        if !runs_in_place(reporting, tally.lines, stage, line) {
+        let Some(event) = event_in_place(reporting, tally.lines, stage, line) else {
             let reaction = line_reaction(reporting, tally.lines, stage, table, line, issound);
             let session = reaction.session;
             let answer = reaction.answer;
@@ -112,8 +112,7 @@ fn take_lines(start: State, input: &[u8], out: &mut [u8]) -> Progress
             tally.lines = lines_after(reporting, tally.lines, line);
             wrote = put_answer(out, wrote, said);
             continue;
-        }
-        let event = line_event(line);
+        };
         let thread = event_thread(event);
         let own = thread_at(&table, thread);
         let number = event_object(event, own.object);

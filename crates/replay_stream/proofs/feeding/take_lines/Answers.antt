@@ -7,6 +7,7 @@ use Rattle.replay_parts.proofs.Turn.{going_first, going_stops}
 use Rattle.program_state.proofs.OwnedState.{state_well_typed}
 use Rattle.replay_stream.specs.Stream.{joined}
 use Rattle.replay_stream.proofs.SoundSession.{well_typed_by}
+use Rattle.replay_stream.proofs.NoEvent.{picked_some, picked_none}
 use Rattle.replay_stream.proofs.StateInPlace.{EventDone, replayed, reported, lines_left, sound_stays}
 use Rattle.replay_stream.proofs.Turned.{taken_by_parts, next_line, next_silent}
 use Rattle.replay_stream.proofs.feeding.take_lines.Goals as goal
@@ -41,8 +42,8 @@ pub slice_bounds-rest-start : goal.slice_bounds-rest-start
 slice_bounds-rest-start c = line_fits c.line_end-end.result c.loop-out.rest.now c.line_end-end.ensures
 
 -- the rest is shorter behind a line that was read
-pub loop-out-smaller-then-not-runs_in_place : goal.loop-out-smaller-then-not-runs_in_place
-loop-out-smaller-then-not-runs_in_place c = rest_shorter c.line_end-end.result c.loop-out.rest.now c.line_end-end.ensures c.if-end-eq0.false
+pub loop-out-smaller-in_default : goal.loop-out-smaller-in_default
+loop-out-smaller-in_default c = rest_shorter c.line_end-end.result c.loop-out.rest.now c.line_end-end.ensures c.if-end-eq0.false
 
 pub loop-out-smaller-then-reporting : goal.loop-out-smaller-then-reporting
 loop-out-smaller-then-reporting c = rest_shorter c.line_end-end.result c.loop-out.rest.now c.line_end-end.ensures c.if-end-eq0.false
@@ -51,11 +52,11 @@ pub loop-out-smaller : goal.loop-out-smaller
 loop-out-smaller c = rest_shorter c.line_end-end.result c.loop-out.rest.now c.line_end-end.ensures c.if-end-eq0.false
 
 -- a line that is no event of a thread to be carried out in place
-pub loop-out-preserved-then-not-runs_in_place : goal.loop-out-preserved-then-not-runs_in_place
-loop-out-preserved-then-not-runs_in_place c =
+pub loop-out-preserved-in_default : goal.loop-out-preserved-in_default
+loop-out-preserved-in_default c =
     let gave =
     taken_by_parts (joined c.args.start.reporting c.loop-out.stage c.loop-out.table c.loop-out.tally) c.loop-out.issound
-    (sym c.runs_in_place.ensures ∙ c.if-not-runs_in_place.true) c.read_line-line.ensures
+    (picked_none _ _ (sym c.in_default.is ∙ c.event_in_place.ensures)) c.read_line-line.ensures
     c.line_reaction-reaction.ensures c.line_answer-said.ensures c.lines_after.ensures c.largest_after.ensures in
     next_line c.loop-out.invariant c.line_end-end.ensures c.if-end-eq0.false gave c.loop-out-test.true c.put_answer-wrote.ensures
     c.put_answer-wrote.auto.out (rw c.read_line-line.ensures at c.sound_after-issound.ensures)
@@ -64,10 +65,11 @@ loop-out-preserved-then-not-runs_in_place c =
 pub overflow_add-tally : goal.overflow_add-tally
 overflow_add-tally c =
     let made = c.handle_in_place-done in
+    let asked = picked_some _ _ (sym c.in-Some.is ∙ c.event_in_place.ensures) in
     let outcome : Outcome =
     record { table = made.new.table; reply = made.result.reply; commits = made.result.commits; unparked = made.result.unparked } in
     let done : EventDone c.loop-out.stage c.loop-out.table c.read_line-line.result (read_line (take c.line_end-end.result c.loop-out.rest.now))
-    c.line_event-event.result c.loop-out.issound c.event_thread-thread.result c.event_object-number.result outcome =
+    c.in-Some.event c.loop-out.issound c.event_thread-thread.result c.event_object-number.result outcome =
     record {
       carried = record {
         thread_is = c.event_thread-thread.ensures;
@@ -80,9 +82,9 @@ overflow_add-tally c =
         };
       };
       read = c.read_line-line.ensures;
-      asks = c.line_event-event.ensures;
+      asks = asked.1;
     } in
-    let runs = sym c.runs_in_place.ensures ∙ c.if-not-runs_in_place.false in
+    let runs = asked.0 in
     let left = lines_left done c.loop-out.tally c.if-reporting.true runs in
     omega (arith, left)
 
@@ -91,10 +93,11 @@ pub loop-out-preserved-then-reporting : goal.loop-out-preserved-then-reporting
 unfolding answer_text
 loop-out-preserved-then-reporting c =
     let made = c.handle_in_place-done in
+    let asked = picked_some _ _ (sym c.in-Some.is ∙ c.event_in_place.ensures) in
     let outcome : Outcome =
     record { table = made.new.table; reply = made.result.reply; commits = made.result.commits; unparked = made.result.unparked } in
     let done : EventDone c.loop-out.stage c.loop-out.table c.read_line-line.result (read_line (take c.line_end-end.result c.loop-out.rest.now))
-    c.line_event-event.result c.loop-out.issound c.event_thread-thread.result c.event_object-number.result outcome =
+    c.in-Some.event c.loop-out.issound c.event_thread-thread.result c.event_object-number.result outcome =
     record {
       carried = record {
         thread_is = c.event_thread-thread.ensures;
@@ -107,9 +110,9 @@ loop-out-preserved-then-reporting c =
         };
       };
       read = c.read_line-line.ensures;
-      asks = c.line_event-event.ensures;
+      asks = asked.1;
     } in
-    let runs = sym c.runs_in_place.ensures ∙ c.if-not-runs_in_place.false in
+    let runs = asked.0 in
     rw (
       c.with_enter-tally.ensures,
       c.with_enter.ensures,
@@ -127,10 +130,11 @@ loop-out-preserved-then-reporting c =
 pub loop-out-preserved : goal.loop-out-preserved
 loop-out-preserved c =
     let made = c.handle_in_place-done in
+    let asked = picked_some _ _ (sym c.in-Some.is ∙ c.event_in_place.ensures) in
     let outcome : Outcome =
     record { table = made.new.table; reply = made.result.reply; commits = made.result.commits; unparked = made.result.unparked } in
     let done : EventDone c.loop-out.stage c.loop-out.table c.read_line-line.result (read_line (take c.line_end-end.result c.loop-out.rest.now))
-    c.line_event-event.result c.loop-out.issound c.event_thread-thread.result c.event_object-number.result outcome =
+    c.in-Some.event c.loop-out.issound c.event_thread-thread.result c.event_object-number.result outcome =
     record {
       carried = record {
         thread_is = c.event_thread-thread.ensures;
@@ -143,9 +147,9 @@ loop-out-preserved c =
         };
       };
       read = c.read_line-line.ensures;
-      asks = c.line_event-event.ensures;
+      asks = asked.1;
     } in
-    let runs = sym c.runs_in_place.ensures ∙ c.if-not-runs_in_place.false in
+    let runs = asked.0 in
     next_line c.loop-out.invariant c.line_end-end.ensures c.if-end-eq0.false
     (replayed done c.loop-out.tally c.if-reporting.false runs c.event_answer.ensures) c.loop-out-test.true
     c.put_answer-wrote-else-reporting.ensures c.put_answer-wrote-else-reporting.auto.out (sound_stays done c.loop-out.tally _ runs)
