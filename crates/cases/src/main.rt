@@ -4,20 +4,18 @@
 
 use lock_table::{FreshRefusal, Table};
 
-fn write_number<P: Print>(rt: &P, number: u64) {
+fn write_number<P: Print>(rt: &P, number: u8) {
     let _ = print!(rt; " {number}");
 }
 
 fn write_phase<P: Print>(rt: &P, table: Table, thread: u8) {
-    let record = lock_table::thread_at(&table, thread);
-    let phase = record.phase;
-    write_number(rt, lock_table::phase_number(phase) as u64);
+    let phase = lock_table::thread_at(&table, thread).phase;
+    write_number(rt, lock_table::phase_number(phase));
 }
 
 // Six hexadecimal digits, or as many as the word has.
 fn write_word<P: Print>(rt: &P, table: Table, object: u8) {
-    let record = lock_table::object_at(&table, object);
-    let word = record.word;
+    let word = lock_table::object_at(&table, object).word;
     let _ = print!(rt; " {word:06x}");
 }
 
@@ -25,13 +23,13 @@ fn write_word<P: Print>(rt: &P, table: Table, object: u8) {
 fn write_run<P: Print>(rt: &P, made: Result<Table, FreshRefusal>) {
     match made {
         Ok(table) => {
-            write_number(rt, lock_table::fresh_returned(Ok(())) as u64);
+            write_number(rt, lock_table::fresh_returned(Ok(())));
             write_phase(rt, table, 1);
             write_phase(rt, table, 2);
             write_word(rt, table, 1);
             write_word(rt, table, 2);
         }
-        Err(refusal) => write_number(rt, lock_table::fresh_returned(Err(refusal)) as u64),
+        Err(refusal) => write_number(rt, lock_table::fresh_returned(Err(refusal))),
     }
     let _ = println!(rt; "");
 }

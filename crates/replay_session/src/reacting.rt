@@ -43,7 +43,7 @@ fn opened(made: Result<Table, FreshRefusal>) -> Reaction
             Stage::Over,
             no_table(),
             Answer::Alone {
-                number: fresh_returned(Err(refusal)) as u16,
+                number: u16::from(fresh_returned(Err(refusal))),
             },
         ),
     }

@@ -7,6 +7,8 @@ use lock_rules::{Answer, Event};
 use lock_table::{Operation, Phase, ThreadRecord};
 use lock_word::{LockWord, read_word};
 
+// `NoEnter` is a way like the five, and not the `None` of an `Option`: what the report promises (`FiguresRight`, by `Chosen`) is stated of every way,
+// and of this one it says that it has no figure and is counted in none.
 #[derive(Clone, Copy)]
 pub enum Way {
     // no enter finished
@@ -28,7 +30,7 @@ pub enum Way {
 fn finished() -> u16
     ensures { result ≡ finished_number }
 {
-    returned(Reply::Answered(Answer::Finished(0))) as u16
+    u16::from(returned(Reply::Answered(Answer::Finished(0))))
 }
 
 #[tactic(auto, unfolding(crate::specs::Way::is_enter))]
