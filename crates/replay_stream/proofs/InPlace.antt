@@ -1,12 +1,12 @@
 -- An event of a line carried out in place is what the line does: the table that the engine leaves, and what is printed by the records in it.
 use Prim.Native.Nat.{ℕ}
 use mathlib.Core.Path.{◌≡◌, refl, ap, ◌∙◌}
-use mathlib.Core.Bool.{Bool, true, false}
+use mathlib.Core.Bool.{Bool, true}
 use Rattle.laws.proofs.Choice.{false≢true}
 use Rattle.lock_rules.specs.Gate.{event_thread, event_object}
 use Rattle.lock_rules.specs.declared.event.Event.{Event}
 use Rattle.lock_table.specs.Access.{thread_at, object_at}
-use Rattle.lock_table.specs.declared.record.{ThreadRecord.ThreadRecord, Table.Table}
+use Rattle.lock_table.specs.declared.record.{Table.Table}
 use Rattle.lock_engine.specs.Handle.{handle_trusting}
 use Rattle.lock_engine.specs.declared.outcome.Outcome.{Outcome}
 use Rattle.replay_lines.specs.declared.reading.Line.{Line}

@@ -1,15 +1,14 @@
 -- The enter that an event of a line in place finished is the one that the line adds.
 use Prim.Native.Nat.{ℕ}
-use mathlib.Core.Path.{◌≡◌, refl, ◌∙◌}
-use mathlib.Core.Bool.{Bool, true, false}
+use mathlib.Core.Path.{◌≡◌, refl}
+use mathlib.Core.Bool.{Bool, true}
 use lib.Seq.{set-get_or}
 use Rattle.laws.proofs.Choice.{false≢true}
 use Rattle.lock_rules.specs.declared.event.{Event.Event}
-use Rattle.lock_rules.specs.declared.event.Event.TheVariants.{Step as StepEvent}
 use Rattle.lock_table.specs.{Narrow.narrow_of}
 use Rattle.lock_table.specs.Access.{thread_at, object_at}
 use Rattle.lock_table.specs.Place.{object_place}
-use Rattle.lock_table.specs.declared.record.{ThreadRecord.ThreadRecord, Table.Table}
+use Rattle.lock_table.specs.declared.record.{Table.Table}
 use Rattle.lock_table.proofs.Narrowed.{narrow_thread}
 use Rattle.lock_engine.specs.declared.outcome.Outcome.{Outcome}
 use Rattle.replay_lines.specs.declared.reading.Line.{Line}
