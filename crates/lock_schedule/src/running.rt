@@ -4,7 +4,7 @@ ghost use Rattle.event_bytes.specs.Encoding.{events_of};
 ghost use Rattle.lock_schedule.specs.Schedule.{final_of};
 ghost use Rattle.lock_schedule.specs.Runs.{run_fresh, run_of, ClaimOfRun, StepsOfRun};
 
-use event_bytes::{EVENT_SIZE, event_from, limit_from};
+use event_bytes::event_of;
 use lock_engine::handle;
 use lock_table::{FreshRefusal, FreshRequest, Table};
 
@@ -13,21 +13,9 @@ fn run_events(table: Table, events: &[u8]) -> Table
     ensures { result ≡ final_of table (events_of events.now) }
 {
     let mut current = table;
-    for turn in 0..events.len() / EVENT_SIZE {
-        let at = turn * EVENT_SIZE;
-        let limit = limit_from(
-            events[at + 4],
-            events[at + 5],
-            events[at + 6],
-            events[at + 7],
-        );
-        let event = event_from(
-            events[at],
-            events[at + 1],
-            events[at + 2],
-            events[at + 3],
-            limit,
-        );
+    let (whole, _) = events.as_chunks();
+    for turn in 0..whole.len() {
+        let event = event_of(&whole[turn]);
         let outcome = handle(current, event);
         current = outcome.table;
     }

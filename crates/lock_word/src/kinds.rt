@@ -13,17 +13,17 @@ pub enum Kind {
     Fat,
 }
 
-// The constant table: the kinds of the low bytes 0 to 7, None where there is no lock word.
-const KINDS: [Option<Kind>; 8] = [
-    Some(Kind::Flat),
-    Some(Kind::Fat),
-    Some(Kind::Reserved),
-    None,
-    Some(Kind::Flat),
-    None,
-    Some(Kind::Reserved),
-    None,
-];
+// The entries of the table.
+const FLAT: Option<Kind> = Some(Kind::Flat);
+
+const RESERVED: Option<Kind> = Some(Kind::Reserved);
+
+const FAT: Option<Kind> = Some(Kind::Fat);
+// no lock word
+const NONE: Option<Kind> = None;
+
+// The constant table: the kinds of the low bytes 0 to 7.
+const KINDS: [Option<Kind>; 8] = [FLAT, FAT, RESERVED, NONE, FLAT, NONE, RESERVED, NONE];
 
 // Which of those eight stands for a low byte.
 #[tactic(auto, unfolding(crate::specs::KindTable::kind_place))]

@@ -1,6 +1,7 @@
 -- What is still to run from this table gives what the whole gives.
-use Rattle.std.proofs.Common.{◌≡◌, ◌+◌, ◌-◌, ◌*◌, ◌<◌, sym, ap, ◌∙◌, arith}
-use Rattle.event_bytes.specs.Encoding.{event_size, event_count, event_from}
+use Rattle.std.proofs.Common.{ℕ, List, [], ◌≡◌, ◌+◌, ◌-◌, ◌*◌, ◌<◌, get_or, sym, ap, ◌∙◌, arith}
+use Rattle.event_bytes.specs.Encoding.{event_size, event_count, event_at}
+use Rattle.event_bytes.proofs.Chunks.{chunk_event}
 use Rattle.lock_schedule.proofs.Runs.{run_ends, run_goes_on}
 use Rattle.lock_schedule.proofs.running.run_events.Goals as goal
 
@@ -8,8 +9,11 @@ pub loop-turn-preserved : goal.loop-turn-preserved
 loop-turn-preserved c =
     let loop = c.loop-turn in
     let bytes = c.args.events.now in
-    let left : 0 < event_count bytes - loop.turn = omega arith in
-    let event = c.event_from-event.ensures ∙ ap (event_from _ _ _ _) c.limit_from-limit.ensures in
+    let chunks = c.as_chunks.ensures in
+    let low : loop.turn < event_count bytes = omega (arith, chunks.front_len, c.loop-turn-test.true) in
+    let left : 0 < event_count bytes - loop.turn = omega (arith, low) in
+    let event = c.event_of-event.ensures ∙ ap (λ (parts : List (List ℕ)). event_at (get_or parts loop.turn []) 0) chunks.front
+    ∙ chunk_event (event_count bytes) bytes loop.turn [] low in
     let fewer : event_count bytes - loop.turn - 1 ≡ event_count bytes - (loop.turn + 1) = omega arith in
     let behind : loop.turn * event_size + event_size ≡ (loop.turn + 1) * event_size = omega arith in
     loop.invariant ∙ rw (← fewer, ← behind) (run_goes_on bytes (loop.turn * event_size) loop.current left event c.handle-outcome.ensures)
@@ -18,4 +22,4 @@ pub returns : goal.returns
 returns c =
     let loop = c.loop-turn in
     let bytes = c.args.events.now in
-    sym (loop.invariant ∙ run_ends bytes (loop.turn * event_size) loop.current (omega arith))
+    sym (loop.invariant ∙ run_ends bytes (loop.turn * event_size) loop.current (omega (arith, c.as_chunks.ensures.front_len, c.loop-turn-test.false)))
