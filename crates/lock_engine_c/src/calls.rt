@@ -40,8 +40,8 @@ pub(crate) fn store(bytes: &mut [u8], table: Table, changed: bool)
 }
 
 // On bytes that are a table, the event on the table that they say. Nothing is stored where nothing changed, so that a refused event, which leaves no
-// work, can be tried on memory that may only be read; and no more than the two records where there is no more work. These are read from the bytes: to
-// read them from the table would copy it.
+// work, can be tried on memory that may only be read; and no more than the two records where there is no more work, each by its place in the bytes, as it
+// is read.
 #[tactic(auto, using(laws::proofs::Choice::either_way, crate::proofs::EventTurns::turn_answers, crate::proofs::EventTurns::turn_stores), unfolding(crate::specs::Calls::store_turn))]
 fn handle_event(bytes: &mut [u8], event: Event) -> u64
     ensures value { result ≡ event_answer (is_table bytes.old) (handle (table_of bytes.old) event) }

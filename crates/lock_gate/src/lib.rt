@@ -83,7 +83,7 @@ fn step_gate(isthread: bool, status: ThreadStatus) -> Result<(), Refusal>
     step_status(status)
 }
 
-// A limit is looked at for a timed wait alone.
+// A limit is looked at for a timed wait alone. The operation is the number that the caller gave, which may be none of theirs.
 fn limit_fits(operation: u8, limit: u32) -> bool
     ensures { result ≡ limit_fits operation limit }
 {

@@ -4,6 +4,7 @@
 #[derive(Clone, Copy)]
 pub enum Event {
     Begin {
+        // what the caller gives, which may be no operation's number: `gate` answers 17 then
         operation: u8,
         thread: u8,
         object: u8,

@@ -32,7 +32,7 @@ pub struct FreshRequest {
     // every word anonymously reserved, else free
     pub reserved: bool,
     // what the threads are given, in order; what stands past T is not looked at
-    pub tothreads: [ThreadGiven; 32],
+    pub tothreads: [ThreadGiven; THREADS as usize],
 }
 
 #[derive(Clone, Copy)]
@@ -56,7 +56,7 @@ pub fn sized_request(threads: u16, objects: u16, reserved: bool) -> FreshRequest
         threads,
         objects,
         reserved,
-        tothreads: [no_thread_given(); 32],
+        tothreads: [no_thread_given(); THREADS as usize],
     }
 }
 
@@ -75,19 +75,19 @@ fn first_word(reserved: bool) -> u32
 fn thread_given(request: FreshRequest, place: usize) -> ThreadGiven
     ensures { result ≡ thread_given request place }
 {
-    if place < usize::from(request.threads) && place < 32 {
+    if place < usize::from(request.threads) && place < THREADS.into() {
         return request.tothreads[place];
     }
     no_thread_given()
 }
 
-// The same of the object at a place. All are given the same word.
+// The same of the object at a place. All are given the same word, so it is read from no list as a thread's rank is, and shares nothing with it but a test.
 #[tactic(auto, unfolding(crate::specs::Fresh::object_given))]
 fn object_given(request: FreshRequest, place: usize) -> ObjectGiven
     ensures { result ≡ object_given request place }
 {
     ObjectGiven {
-        reserved: place < usize::from(request.objects) && place < 64 && request.reserved,
+        reserved: place < usize::from(request.objects) && place < OBJECTS.into() && request.reserved,
     }
 }
 
@@ -171,7 +171,7 @@ fn in_range(request: FreshRequest) -> bool
 fn ranks_fit(request: FreshRequest) -> bool
     ensures { result ≡ ranks_fit request }
 {
-    for place in (0..32).rev() {
+    for place in (0..THREADS as usize).rev() {
         let given = thread_given(request, place);
         if RANKS < given.rank {
             return false;

@@ -4,7 +4,7 @@ ghost use Rattle.lock_table.specs.Operation.{operation_number, operation_from};
 
 #[derive(Clone, Copy, PartialEq, Eq)]
 pub enum Operation {
-    // none, the thread is idle
+    // none, the thread is idle: a record has number 0 for it (document 01, and the bytes that C sees)
     Idle = 0,
     Enter = 1,
     Exit = 2,

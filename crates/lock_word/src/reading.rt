@@ -6,8 +6,8 @@ ghost use Rattle.lock_word.specs.KindTable.{by_kind};
 use crate::kinds::{Kind, count_field, kind_of};
 use crate::layout::{FIRST_BEYOND, NUMBER_UNIT};
 
-// A thread's number and a monitor's number: the same fifteen bits, and neither can be passed for the other.
-// The fields are private to this file.
+// A thread's number and a monitor's number: the same fifteen bits, and neither can be passed for the other. Document 01 asks for two tuple structs, each
+// made by the reader of its kind of word alone; so the fields are private to this file.
 #[derive(Clone, Copy)]
 pub struct ThreadNumber(u16);
 
@@ -42,18 +42,16 @@ impl MonitorNumber {
     }
 }
 
-// A flat word of this count and number.
+// A flat word of this count and number. A reserved one below differs in both words that it can say, which are all that a function of the two would hold.
 #[tactic(auto, unfolding(crate::specs::Read::read_flat))]
 fn read_flat(count: u8, number: u16) -> Option<LockWord>
     ensures { result ≡ read_flat count number }
 {
-    if number == 0 {
-        if count == 0 {
-            return Some(LockWord::Free);
-        }
-        return None;
+    match (number, count) {
+        (0, 0) => Some(LockWord::Free),
+        (0, _) => None,
+        _ => Some(LockWord::Flat(ThreadNumber(number), count)),
     }
-    Some(LockWord::Flat(ThreadNumber(number), count))
 }
 
 // A reserved word of this count and number.
@@ -61,13 +59,11 @@ fn read_flat(count: u8, number: u16) -> Option<LockWord>
 fn read_reserved(count: u8, number: u16) -> Option<LockWord>
     ensures { result ≡ read_reserved count number }
 {
-    if number == 0 {
-        if count == 0 {
-            return Some(LockWord::Anonymous);
-        }
-        return None;
+    match (number, count) {
+        (0, 0) => Some(LockWord::Anonymous),
+        (0, _) => None,
+        _ => Some(LockWord::Reserved(ThreadNumber(number), count)),
     }
-    Some(LockWord::Reserved(ThreadNumber(number), count))
 }
 
 // A fat word of this number. No object has number 0.

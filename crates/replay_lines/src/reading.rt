@@ -5,7 +5,8 @@ ghost use Rattle.replay_lines.specs.Grammar.{end_line, read_step, read_event, re
 use crate::number::read_field;
 use replay_text::NEWLINE;
 
-// The number of the one operation that has a limit.
+// The number of the one operation that has a limit. The crates of the text stand on none of the locks, so that lines are read as document 01 writes
+// them and without an engine.
 const TIMED_WAIT: u8 = 6;
 
 // What both programs are told of a line. One of no form is a line too, of two kinds: the report counts the one and takes the other for a

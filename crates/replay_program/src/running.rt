@@ -34,7 +34,8 @@ pub struct Ran {
 }
 
 // Feeds the input and writes what it prints, until nothing more is taken, or an `Err`, a write fails. `last` says that the input ends behind these
-// bytes.
+// bytes. Which program it is, its output and where it says why a write failed go together from here to the one write. A struct of them would hold two
+// borrows, to be lent anew for each call, and be no shorter than the three.
 fn drain<W: Write, E: Write>(
     reporting: bool,
     output: &mut W,

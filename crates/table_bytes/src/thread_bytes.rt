@@ -20,6 +20,8 @@ const LAST_PHASE: u8 = 15;
 // The number of the phase that carries another.
 const QUEUED: u8 = 5;
 
+// The numbers that the bytes hold are read one by one, and any number reads as some phase: `read_table` cannot fail, and whether the numbers are
+// known is `is_table`'s to say. So these are no TryFrom.
 #[tactic(auto, unfolding(crate::specs::ThreadBytes::onward_from))]
 fn onward_from(carried: u8) -> Onward
     ensures { result ≡ onward_from carried }
