@@ -1,4 +1,4 @@
-// The run. The table and the cursors stand in this one function; all else gets records.
+// The run. The table and the cursors stand in this one function. A step is the engine's, which is lent the table; nothing else in the loop sees it.
 ghost use Rattle.std.specs.Prelude.{◌≡◌, ◌≤◌, ◌<◌};
 ghost use Rattle.dispatch_rules.specs.Dispatch.{most_steps, steps_room, scripted, dispatched, run_scripts, traced};
 

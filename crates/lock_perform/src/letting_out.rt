@@ -1,5 +1,5 @@
-// Exits let out of the entry chain by an inflating rule (document 02, L2). No table is looked at: who has it in a local goes along the chain and asks
-// here what becomes of each record.
+// Exits let out of the entry chain by an inflating rule (document 02, L2). No table is looked at: lock_work, which is lent it, goes along the chain and
+// asks here what becomes of each record.
 ghost use Rattle.std.specs.Prelude.{◌≡◌};
 ghost use Rattle.lock_perform.specs.Moving.{queued_exit, let_out, lets_out};
 

@@ -1,5 +1,5 @@
-// What the work of a rule on chains does to thread records and to the monitor of the step's object. No table is looked at: the engine, which has it
-// in one local, goes along the chains and asks here what becomes of each record.
+// What the work of a rule on chains does to thread records and to the monitor of the step's object. No table is looked at: lock_work, which is
+// lent it, goes along the chains and asks here what becomes of each record.
 ghost use Rattle.std.specs.Prelude.{◌≡◌};
 ghost use Rattle.laws.specs.Choice.{pick, within};
 ghost use Rattle.lock_perform.specs.Moving.{look_again, back_from, sent_back_of, touched_by_move, touched, unlinked, joining, moving};

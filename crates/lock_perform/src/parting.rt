@@ -1,5 +1,5 @@
 // A chain parted in one pass: each of its threads stays in it or goes, and those that go are chained together or are in no chain. No table is looked at:
-// who has it in a local goes along the chain and asks here who stands behind whom.
+// lock_work, which is lent it, goes along the chain and asks here who stands behind whom.
 ghost use Rattle.std.specs.Prelude.{◌≡◌};
 ghost use Rattle.lock_perform.specs.Parting.{no_parting, last_behind, taken_with, passed};
 ghost use Rattle.lock_perform.specs.InPlace.{linked_to};

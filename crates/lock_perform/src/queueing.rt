@@ -1,4 +1,4 @@
-// Threads that join a chain, each at its place: the place is found by a walk along the records, and who has the table in a local writes there.
+// Threads that join a chain, each at its place: the place is found by a walk along the records, and lock_work, which is lent the table, writes there.
 ghost use Rattle.std.specs.Prelude.{◌≡◌, leb};
 ghost use Rattle.laws.specs.Choice.{both, within};
 ghost use Rattle.lock_table.specs.Limits.{thread_limit};

@@ -1,4 +1,4 @@
--- The rules of all steps: document 01, "Steps", phase by phase in its order. (c) there is `commits = true` here; "else 20" is `Unruled`.
+-- The rules of all steps: document 01, "Steps", phase by phase in its order. (c) there is `commits = true` here; "else 20" is `None`.
 use Rattle.std.specs.Prelude.{ℕ, ◌+◌, ◌-◌, true, false, eqb, ltb, Option, None}
 use Rattle.laws.specs.Choice.{pick, both}
 use Rattle.lock_rules.specs.Actions.{keep_object, go_on, not_owner, finish_committed, finish, finish_word, finish_depth, let_go, inflate, cancel_word}
