@@ -2,6 +2,7 @@
 #![tactic(auto)]
 
 ghost use Rattle.std.specs.Prelude.{◌≡◌};
+ghost use Rattle.laws.specs.Choice.{within};
 ghost use Rattle.lock_rules.specs.Gate.{first_refusing, idle_rows, ready_rows, begin_rows, step_rows, limit_fits, event_rows, gate, event_thread, event_object};
 ghost use Rattle.lock_gate.specs.Status.{thread_status};
 
@@ -88,9 +89,16 @@ fn limit_fits(operation: u8, limit: u32) -> bool
     ensures { result ≡ limit_fits operation limit }
 {
     if operation == TIMED_WAIT {
-        return (1 <= limit) & (limit <= (TICK_LIMIT as u32));
+        return (1..=u32::from(TICK_LIMIT)).contains(&limit);
     }
     true
+}
+
+// Whether there is one of this number, where there are so many.
+fn is_numbered(number: u8, count: u8) -> bool
+    ensures { result ≡ within 1 count number }
+{
+    (1..=count).contains(&number)
 }
 
 // Of an event on a sound table with so many threads and objects.
@@ -104,13 +112,13 @@ fn event_gate(threads: u8, objects: u8, event: Event, status: ThreadStatus) -> R
             object,
             limit,
         } => begin_gate(
-            (1 <= thread) & (thread <= threads),
-            (1 <= operation) & (operation <= OPERATION_LIMIT),
-            (1 <= object) & (object <= objects),
+            is_numbered(thread, threads),
+            is_numbered(operation, OPERATION_LIMIT),
+            is_numbered(object, objects),
             limit_fits(operation, limit),
             status,
         ),
-        Event::Step { thread } => step_gate((1 <= thread) & (thread <= threads), status),
+        Event::Step { thread } => step_gate(is_numbered(thread, threads), status),
         Event::Tick => Ok(()),
     }
 }

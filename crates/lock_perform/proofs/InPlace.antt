@@ -1,5 +1,5 @@
 -- A record read and written at its place is that of its number; a number that has none reads as the empty record and writes nothing.
-use Prim.Native.Nat.{ℕ, zero, suc, ◌+◌, ◌-◌, ◌≤◌, ◌<◌}
+use Prim.Native.Nat.{ℕ, zero, suc, ◌-◌, ◌≤◌}
 use mathlib.Core.Path.{◌≡◌, refl, sym, ap, ◌∙◌}
 use mathlib.Core.Bool.{Bool, true, false}
 use mathlib.Core.List.{List}
@@ -7,8 +7,9 @@ use native.Mathlib.Omega.{arith}
 use lib.Dec.{eqb, ltb}
 use lib.ListN.{get_or, set}
 use lib.Seq.{set-get_or}
-use Rattle.laws.specs.Choice.{pick, within}
-use Rattle.laws.proofs.Choice.{equal?, either_way}
+use borrow.Author.Tests.{lt-ltb}
+use Rattle.laws.specs.Choice.{pick, both, within}
+use Rattle.laws.proofs.Choice.{equal?, either_way, both_no}
 use Rattle.chains.specs.declared.named.Chain.{Chain}
 use Rattle.lock_rules.specs.declared.ChainWork.{ChainWork}
 use Rattle.lock_table.specs.Limits.{thread_limit, object_limit}
@@ -144,20 +145,27 @@ relinked_alone t m work thread object none =
     ∙ (ap (λ (queued : JoinedChain). carried_out queued planned) (queue_none planned.into thread_limit changed first)
     ∙ λ j. record { table = changed; monitor = same_first planned.monitor planned.into j; unparked = planned.unparked }))
 
--- the walk along a chain that moves whole: one turn, and its ends: the chain ended, it went on with a number that has no record, or all were passed
-pub move_passes : (gone at : ℕ) → gone < thread_limit → within 1 thread_limit at ≡ true → (t : Table)
-    → move_all (thread_limit - gone) t at
-    ≡ move_all (thread_limit - (gone + 1)) (with_threads t (set t.threads (at - 1) (moved (get_or t.threads (at - 1) no_thread))))
-    (get_or t.threads (at - 1) no_thread).next
-move_passes gone at small inside t =
-    let one : thread_limit - gone - 1 ≡ thread_limit - (gone + 1) = omega arith in
-    rw (← one) (move_all_turn (omega arith) t at (number_some thread_limit _ inside) (number_high thread_limit _ inside))
+-- what ends a walk: the chain ended or went on with a number that has no record, or all were passed
+pub outside_ends : (left at : ℕ) → within 1 thread_limit at ≡ false → both (ltb 0 left) (within 1 thread_limit at) ≡ false
+outside_ends left at outside = rw outside (both_no (ltb 0 left))
 
-pub move_stops : (left at : ℕ) → within 1 thread_limit at ≡ false → (t : Table) → move_all left t at ≡ t
-move_stops zero at outside t = move_all_end (omega arith) t at
-move_stops (suc left) at outside t =
+pub passed_ends : (gone at : ℕ) → thread_limit ≤ gone → both (ltb 0 (thread_limit - gone)) (within 1 thread_limit at) ≡ false
+passed_ends gone at all = let none : thread_limit - gone ≡ 0 = omega arith in rw none refl
+
+-- where not all were passed it is the first
+pub ended : (at left : ℕ) → both (ltb 0 (suc left)) (within 1 thread_limit at) ≡ false → within 1 thread_limit at ≡ false
+ended at left test = rw (lt-ltb 0 (suc left) (omega arith)) at test
+
+-- the walk along a chain that moves whole: one turn, and its end
+pub move_passes : {left rest : ℕ} → left ≡ suc rest → (at : ℕ) → within 1 thread_limit at ≡ true → (t : Table)
+    → move_all left t at
+    ≡ move_all rest (with_threads t (set t.threads (at - 1) (moved (get_or t.threads (at - 1) no_thread)))) (get_or t.threads (at - 1) no_thread).next
+move_passes {left} {rest} more at inside t =
+    let one : left - 1 ≡ rest = omega (arith, more) in
+    rw (← one) (move_all_turn (omega (arith, more)) t at (number_some thread_limit _ inside) (number_high thread_limit _ inside))
+
+pub move_stops : (at left : ℕ) → both (ltb 0 left) (within 1 thread_limit at) ≡ false → (t : Table) → move_all left t at ≡ t
+move_stops at zero test t = move_all_end (omega arith) t at
+move_stops at (suc left) test t =
     either_way (equal? at 0) (λ none. ap (move_all (suc left) t) none ∙ move_none (suc left) t)
-    (λ some. move_all_past (omega arith) t at (number_past thread_limit at some outside))
-
-pub move_ends : (gone at : ℕ) → thread_limit ≤ gone → (t : Table) → move_all (thread_limit - gone) t at ≡ t
-move_ends gone at all t = move_all_end (omega arith) t at
+    (λ some. move_all_past (omega arith) t at (number_past thread_limit at some (ended at left test)))

@@ -1,10 +1,10 @@
 -- The walk that parts a chain as the code does it, with records read and written where they are in their array: one turn, and its end.
-use Prim.Native.Nat.{ℕ, zero, suc, ◌+◌, ◌-◌, ◌≤◌, ◌<◌}
+use Prim.Native.Nat.{ℕ, zero, suc, ◌-◌}
 use mathlib.Core.Path.{◌≡◌, refl, sym, ap, ◌∙◌}
 use mathlib.Core.Bool.{Bool, true, false}
-use native.Mathlib.Omega.{arith}
+use lib.Dec.{ltb}
 use lib.ListN.{get_or, set}
-use Rattle.laws.specs.Choice.{within}
+use Rattle.laws.specs.Choice.{both, within}
 use Rattle.lock_table.specs.Limits.{thread_limit}
 use Rattle.lock_table.specs.Record.{no_thread, with_next}
 use Rattle.lock_table.specs.Access.{thread_at, set_thread}
@@ -15,7 +15,7 @@ use Rattle.lock_table.proofs.Records.{thread_in, set_thread_in}
 use Rattle.lock_perform.specs.Parting.{last_behind, passed, part_chain}
 use Rattle.lock_perform.specs.InPlace.{linked_to}
 use Rattle.lock_perform.specs.declared.parting.Parting.{Parting}
-use Rattle.lock_perform.proofs.InPlace.{with_threads, set_by_in_place}
+use Rattle.lock_perform.proofs.InPlace.{with_threads, set_by_in_place, ended}
 
 module _ (goes : ThreadRecord → Bool) (after : ThreadRecord → Bool → ThreadRecord) (together : Bool) where
   part_step : {left rest : ℕ} → left ≡ suc rest → (t : Table) (parting : Parting) (at : ℕ) → within 1 thread_limit at ≡ true
@@ -28,23 +28,22 @@ module _ (goes : ThreadRecord → Bool) (after : ThreadRecord → Bool → Threa
   part_step one t parting at inside = rw (one, inside) refl
 
   -- what the code's locals are after one turn
-  pub part_passes : (gone at : ℕ) → gone < thread_limit → within 1 thread_limit at ≡ true → (t : Table) (parting : Parting)
+  pub part_passes : {left rest : ℕ} → left ≡ suc rest → (at : ℕ) → within 1 thread_limit at ≡ true → (t : Table) (parting : Parting)
       → let thread = get_or t.threads (at - 1) no_thread in
       let last = last_behind parting (goes thread) in
       let alone = with_threads t (set t.threads (at - 1) (after thread (goes thread))) in
-      part_chain goes after together (thread_limit - gone) t parting at
-      ≡ part_chain goes after together (thread_limit - (gone + 1))
+      part_chain goes after together left t parting at
+      ≡ part_chain goes after together rest
       (with_threads alone (set alone.threads (thread_place last) (linked_to last (get_or alone.threads (thread_place last) no_thread) at)))
       (passed together parting (goes thread) at) thread.next
-  part_passes gone at small inside t parting =
+  part_passes {left} {rest} more at inside t parting =
       let some = number_some thread_limit _ inside in
       let high = number_high thread_limit _ inside in
       let read = thread_in t at some high in
-      let rest = thread_limit - (gone + 1) in
       let thread = get_or t.threads (at - 1) no_thread in
       let last = last_behind parting (goes thread) in
       let alone = with_threads t (set t.threads (at - 1) (after thread (goes thread))) in
-      part_step (omega arith) t parting at inside
+      part_step more t parting at inside
       ∙ (ap
       (λ (own : ThreadRecord).
       let last = last_behind parting (goes own) in
@@ -57,13 +56,8 @@ module _ (goes : ThreadRecord → Bool) (after : ThreadRecord → Bool → Threa
       ∙ ap (λ (linked : Table). part_chain goes after together rest linked (passed together parting (goes thread) at) thread.next)
       (sym (set_by_in_place alone last (λ there. with_next there at)))))
 
-  pub part_stops : (left at : ℕ) → within 1 thread_limit at ≡ false → (t : Table) (parting : Parting)
+  pub part_stops : (at left : ℕ) → both (ltb 0 left) (within 1 thread_limit at) ≡ false → (t : Table) (parting : Parting)
       → part_chain goes after together left t parting at ≡ record { table = t; parting = parting }
   unfolding part_chain
-  part_stops zero at outside t parting = refl
-  part_stops (suc left) at outside t parting = rw outside refl
-
-  pub part_ends : (gone at : ℕ) → thread_limit ≤ gone → (t : Table) (parting : Parting)
-      → part_chain goes after together (thread_limit - gone) t parting at ≡ record { table = t; parting = parting }
-  unfolding part_chain
-  part_ends gone at all t parting = let none : thread_limit - gone ≡ 0 = omega arith in rw none refl
+  part_stops at zero test t parting = refl
+  part_stops at (suc left) test t parting = rw (ended at left test) refl

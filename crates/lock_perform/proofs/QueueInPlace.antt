@@ -1,11 +1,11 @@
 -- The walks by which threads join a chain as the code does them, with records read and written where they are in their array: one turn of each, and
 -- its end.
-use Prim.Native.Nat.{ℕ, zero, suc, ◌+◌, ◌-◌, ◌≤◌, ◌<◌}
+use Prim.Native.Nat.{ℕ, zero, suc, ◌-◌, ◌≤◌}
 use mathlib.Core.Path.{◌≡◌, refl, sym, ap, ◌∙◌}
 use mathlib.Core.Bool.{Bool, true, false}
 use mathlib.Core.List.{List}
 use native.Mathlib.Omega.{arith}
-use lib.Dec.{leb}
+use lib.Dec.{ltb, leb}
 use lib.ListN.{get_or, set}
 use borrow.Author.Tests.{ne_eqb, le-ltb}
 use Rattle.laws.specs.Choice.{both, within}
@@ -21,7 +21,7 @@ use Rattle.lock_table.proofs.Places.{number_some, number_high}
 use Rattle.lock_table.proofs.Records.{thread_in, set_thread_in}
 use Rattle.lock_perform.specs.Queueing.{joining_rank, place_for, put_at, first_at, queue}
 use Rattle.lock_perform.specs.InPlace.{record_in, linked_to, if_record}
-use Rattle.lock_perform.proofs.InPlace.{with_threads, read_in_place, set_by_in_place}
+use Rattle.lock_perform.proofs.InPlace.{with_threads, read_in_place, set_by_in_place, ended}
 
 -- the record at the place of a number that has one
 read_there : (t : Table) (n : ℕ) → within 1 thread_limit n ≡ true → thread_at t n ≡ record_in t.threads n
@@ -42,13 +42,10 @@ module _ (threads : List ThreadRecord) (rank last here : ℕ) where
   abbrev pub staying : Bool
   staying = both (within 1 thread_limit here) (leb rank (record_in threads here).rank)
 
-  pub place_passes : (gone : ℕ) → gone < thread_limit → staying ≡ true
-      → place_for (thread_limit - gone) (record_in threads) rank last here
-      ≡ place_for (thread_limit - (gone + 1)) (record_in threads) rank here (record_in threads here).next
+  pub place_passes : {left rest : ℕ} → left ≡ suc rest → staying ≡ true
+      → place_for left (record_in threads) rank last here ≡ place_for rest (record_in threads) rank here (record_in threads here).next
   unfolding place_for
-  place_passes gone small test =
-      let one : thread_limit - gone ≡ suc (thread_limit - (gone + 1)) = omega arith in
-      rw (one, test) refl
+  place_passes more test = rw (more, test) refl
 
   pub place_stops : (left : ℕ) → staying ≡ false → place_for left (record_in threads) rank last here ≡ record { last = last; here = here }
   unfolding place_for
@@ -71,23 +68,22 @@ module _ (into : Chain) where
   queue_step one t first at inside = rw (one, inside, place_read t (joining_rank into (thread_at t at)) thread_limit 0 first)
 
   -- what the code's locals are after one turn
-  pub queue_passes : (gone at : ℕ) → gone < thread_limit → within 1 thread_limit at ≡ true → (t : Table) (first : ℕ)
+  pub queue_passes : {left rest : ℕ} → left ≡ suc rest → (at : ℕ) → within 1 thread_limit at ≡ true → (t : Table) (first : ℕ)
       → let thread = get_or t.threads (at - 1) no_thread in
       let place = found t thread first in
       let alone = with_threads t (set t.threads (at - 1) (with_next thread place.here)) in
-      queue into (thread_limit - gone) t first at
-      ≡ queue into (thread_limit - (gone + 1))
+      queue into left t first at
+      ≡ queue into rest
       (with_threads alone (set alone.threads (thread_place place.last) (linked_to place.last (get_or alone.threads (thread_place place.last) no_thread) at)))
       (first_at place.last first at) thread.next
-  queue_passes gone at small inside t first =
+  queue_passes {left} {rest} more at inside t first =
       let some = number_some thread_limit _ inside in
       let high = number_high thread_limit _ inside in
       let read = thread_in t at some high in
-      let rest = thread_limit - (gone + 1) in
       let thread = get_or t.threads (at - 1) no_thread in
       let place = found t thread first in
       let alone = with_threads t (set t.threads (at - 1) (with_next thread place.here)) in
-      queue_step (omega arith) t first at inside
+      queue_step more t first at inside
       ∙ (ap
       (λ (own : ThreadRecord).
       let place = found t own first in
@@ -100,13 +96,8 @@ module _ (into : Chain) where
       ∙ ap (λ (linked : Table). queue into rest linked (first_at place.last first at) thread.next)
       (sym (set_by_in_place alone place.last (λ there. with_next there at)))))
 
-  pub queue_stops : (left at : ℕ) → within 1 thread_limit at ≡ false → (t : Table) (first : ℕ)
+  pub queue_stops : (at left : ℕ) → both (ltb 0 left) (within 1 thread_limit at) ≡ false → (t : Table) (first : ℕ)
       → queue into left t first at ≡ record { table = t; first = first }
   unfolding queue
-  queue_stops zero at outside t first = refl
-  queue_stops (suc left) at outside t first = rw outside
-
-  pub queue_ends : (gone at : ℕ) → thread_limit ≤ gone → (t : Table) (first : ℕ)
-      → queue into (thread_limit - gone) t first at ≡ record { table = t; first = first }
-  unfolding queue
-  queue_ends gone at all t first = let none : thread_limit - gone ≡ 0 = omega arith in rw none refl
+  queue_stops at zero test t first = refl
+  queue_stops at (suc left) test t first = rw (ended at left test) refl

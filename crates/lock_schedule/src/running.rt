@@ -14,9 +14,8 @@ fn run_events(table: Table, events: &[u8]) -> Table
 {
     let mut current = table;
     let (whole, _) = events.as_chunks();
-    for turn in 0..whole.len() {
-        let event = event_of(&whole[turn]);
-        let outcome = handle(current, event);
+    for bytes in whole {
+        let outcome = handle(current, event_of(bytes));
         current = outcome.table;
     }
     current

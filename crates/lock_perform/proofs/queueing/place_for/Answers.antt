@@ -18,7 +18,7 @@ loop-preserved c =
     let stays : staying c.args.threads.now c.args.rank place.last place.here ≡ true =
     rw (← c.thread_place.ensures) (sym c.stays_before.ensures ∙ c.if-not-stays_before.false) in
     rw c.thread_place.ensures
-    (c.loop.invariant ∙ place_passes c.args.threads.now c.args.rank place.last place.here c.loop.counter c.loop-test.true stays)
+    (c.loop.invariant ∙ place_passes c.args.threads.now c.args.rank place.last place.here (omega (arith, c.loop-test.true)) stays)
 
 pub returns-then-not-stays_before : goal.returns-then-not-stays_before
 returns-then-not-stays_before c =

@@ -4,6 +4,6 @@ use Rattle.event_bytes.specs.Encoding.{event_size, event_count, events_from, eve
 use Rattle.lock_schedule.specs.Schedule.{final_of}
 use Rattle.lock_schedule.proofs.running.run_events.Given as goal
 
-abbrev pub invariant-loop-turn : goal.invariant-loop-turn
-invariant-loop-turn l =
-    final_of l.fn.table (events_of l.events) ≡ final_of l.current (events_from (event_count l.events - l.turn) l.events (l.turn * event_size))
+abbrev pub invariant-loop-bytes : goal.invariant-loop-bytes
+invariant-loop-bytes l =
+    final_of l.fn.table (events_of l.events) ≡ final_of l.current (events_from (event_count l.events - l.bytes-index) l.events (l.bytes-index * event_size))
