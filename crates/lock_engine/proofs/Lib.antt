@@ -3,4 +3,5 @@ pub mod InPlace
 pub mod Refused
 pub mod Narrow
 pub mod Full
+pub mod After
 pub mod Cases

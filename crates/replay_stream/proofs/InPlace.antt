@@ -33,7 +33,7 @@ event_so : {table : Table} {event : Event} {issound : Bool} {thread number : ℕ
 event_so carried = rw (carried.outcome_is, carried.number_is, carried.thread_is) refl
 
 -- a line that is an event of a thread
-event_line : (table : Table) (line : Line) (issound : Bool) → is_thread_event line ≡ true → event_known table (line_event line) issound ≡ run_by table line issound
+pub event_line : (table : Table) (line : Line) (issound : Bool) → is_thread_event line ≡ true → event_known table (line_event line) issound ≡ run_by table line issound
 unfolding is_thread_event line_event run_by
 event_line table (Header threads objects reserved) issound is = false≢true is
 event_line table (Begin operation thread object limit) issound is = refl

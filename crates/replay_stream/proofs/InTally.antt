@@ -22,7 +22,7 @@ use Rattle.program_state.specs.Take.{step_tally, line_tally}
 use Rattle.replay_stream.proofs.InPlace.{Carried}
 
 -- no enter leaves both rows
-counted_none : (tally : Tally) (place : ℕ) → counted_at tally place NoEnter ≡ tally
+pub counted_none : (tally : Tally) (place : ℕ) → counted_at tally place NoEnter ≡ tally
 unfolding with_enter
 counted_none tally place =
     λ j. record {
@@ -34,7 +34,7 @@ counted_none tally place =
     }
 
 -- with its number in eight bits a step counts the same
-narrow_tally : (tally : Tally) (t : Table) (thread number : ℕ) → step_tally tally t (narrow_of thread) number ≡ step_tally tally t thread number
+pub narrow_tally : (tally : Tally) (t : Table) (thread number : ℕ) → step_tally tally t (narrow_of thread) number ≡ step_tally tally t thread number
 unfolding way_finished finishes_enter
 narrow_tally tally t thread number = rw (narrow_thread t thread) refl
 

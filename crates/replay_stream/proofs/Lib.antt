@@ -6,4 +6,5 @@ pub mod NoEvent
 pub mod InPlace
 pub mod InTally
 pub mod StateInPlace
+pub mod TurnInPlace
 pub mod Turned

@@ -33,7 +33,7 @@ use Rattle.replay_stream.proofs.InPlace.{Carried, printed_of, line_in_place}
 use Rattle.replay_stream.proofs.InTally.{line_counted}
 
 -- an event of a thread is no header
-event_no_header : (line : Line) → is_thread_event line ≡ true → is_header line ≡ false
+pub event_no_header : (line : Line) → is_thread_event line ≡ true → is_header line ≡ false
 unfolding is_thread_event is_header
 event_no_header (Header threads objects reserved) is = false≢true is
 event_no_header (Begin operation thread object limit) is = refl
@@ -43,7 +43,7 @@ event_no_header BadHeader is = false≢true is
 event_no_header Malformed is = false≢true is
 
 -- such a line runs where a session runs
-runs_event : (stage : Stage) (line : Line) → runs_thread_event stage line ≡ true → is_thread_event line ≡ true
+pub runs_event : (stage : Stage) (line : Line) → runs_thread_event stage line ≡ true → is_thread_event line ≡ true
 unfolding runs_thread_event
 runs_event Opening line runs = false≢true runs
 runs_event Running line runs = runs

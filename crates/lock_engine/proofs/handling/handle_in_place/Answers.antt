@@ -1,10 +1,8 @@
 -- What is left in the table's place, and given back beside it, is the outcome as defined.
-use Rattle.std.proofs.Common.{◌≡◌, ◌∙◌, sym, ap, true, false}
-use Rattle.lock_table.specs.declared.record.Table.{Table}
-use Rattle.lock_work.specs.Work.{work_stays}
+use Rattle.std.proofs.Common.{◌∙◌, sym, ap}
 use Rattle.lock_work.specs.WorkDone.{WorkDone}
-use Rattle.lock_engine.specs.Handle.{done_of, handle_trusting}
-use Rattle.lock_engine.specs.declared.outcome.{Outcome.Outcome, Done.Done}
+use Rattle.lock_engine.specs.Handle.{done_of}
+use Rattle.lock_engine.specs.declared.outcome.{Outcome.Outcome}
 use Rattle.lock_engine.proofs.InPlace.{Taken, stored_so, worked_so}
 use Rattle.lock_engine.proofs.handling.handle_in_place.Goals as goal
 
