@@ -22,6 +22,7 @@ fn operation_known(scripts: &[u8], objects: u8, start: u32, place: u32) -> bool
     1 <= operation && operation <= SCRIPT_OPERATIONS && 1 <= object && object <= objects
 }
 
+// A loop here and in `each_known`: of `(0..length).all(..)` it stayed open that what the iterator goes through is `all_below`.
 fn operations_known(scripts: &[u8], objects: u8, start: u32, length: u32) -> bool
     ensures { result ≡ all_below length (λ i. operation_known scripts.now objects (start + i)) }
 {
@@ -86,7 +87,7 @@ pub(crate) fn dispatch_answer(
     Err(DispatchRefusal::ScriptUnknown)
 }
 
-// Document 02's number for the answer.
+// Document 02's number for the answer. It is of the whole answer, 0 among them, and so no From of the refusal.
 #[tactic(auto, unfolding(dispatch_rules::specs::Dispatch::dispatch_returned))]
 pub fn dispatch_returned(answer: Result<(), DispatchRefusal>) -> u8
     ensures { result ≡ dispatch_returned answer }

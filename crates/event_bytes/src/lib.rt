@@ -75,6 +75,7 @@ pub fn event_of(bytes: &[u8; EVENT_SIZE]) -> Event
 }
 
 // An answer: the returned number, the woken number, whether the event committed, and the set of threads that it unparked. Bits 17 to 31 are not used.
+// Callers give a reply's numbers: events in bytes stand below the engine, and know no reply.
 #[tactic(auto, unfolding(crate::specs::Answer::packed_of))]
 pub fn packed(returned: u8, woken: u8, commits: bool, unparked: u32) -> u64
     ensures value { result ≡ packed_of returned woken commits unparked }

@@ -29,6 +29,7 @@ pub fn dispatch(
     ensures few { (result.steps ≤ most_steps table.threadcount (loaded cursors.old)) × (result.steps < steps_room) }
 {
     let count = cursors.len().min(usize::from(THREADS));
+    // by value, and so with room for every thread: nothing is allocated
     let mut array = [NO_CURSOR; THREADS as usize];
     array[..count].copy_from_slice(&cursors[..count]);
     let done = run_scripts(table, quantum, scripts, array, cursors.len(), trace);

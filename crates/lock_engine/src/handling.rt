@@ -104,7 +104,7 @@ pub fn begin(table: Table, thread: u8, operation: u8, object: u8, limit: u32) ->
 pub fn step(table: Table, thread: u8) -> Outcome
     ensures { result ≡ step table thread }
 {
-    handle(table, Event::Step { thread: thread })
+    handle(table, Event::Step { thread })
 }
 
 // The clock ticks.

@@ -23,7 +23,8 @@ pub struct Turn {
     pub commits: bool,
 }
 
-// The two records that an event touches: its thread's and that of the object it is about.
+// The two records that an event touches: its thread's and that of the object it is about. The public functions, `turn_with` and `work_done`, take them
+// one by one, as their clauses name them.
 #[derive(Clone, Copy)]
 pub(crate) struct Records {
     pub own: ThreadRecord,

@@ -1,4 +1,5 @@
-// A run: many events in one call. The bytes are read once, soundness is tested once, and the bytes are written once.
+// A run: many events in one call. The bytes are read once, soundness is tested once, and the bytes are written once. An event and its answer have one
+// index, up to the count that is given back.
 ghost use Rattle.std.specs.Prelude.{◌≡◌, length};
 ghost use Rattle.table_bytes.specs.Rows.{overwritten};
 ghost use Rattle.lock_engine_c.specs.Run.{run_count, run_events, run_answers, run_bytes};

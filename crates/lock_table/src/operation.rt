@@ -21,7 +21,7 @@ pub fn operation_number(operation: Operation) -> u8
     operation as u8
 }
 
-// The operation of a number; a number that is none of theirs gives the idle case.
+// The operation of a number; one that is none of theirs gives the idle case, so that it cannot fail, as a TryFrom could.
 #[tactic(auto, unfolding(crate::specs::Operation::operation_from))]
 pub fn operation_from(number: u8) -> Operation
     ensures { result ≡ operation_from number }

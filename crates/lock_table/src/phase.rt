@@ -54,6 +54,7 @@ pub fn onward_number(onward: Onward) -> u8
     onward as u8
 }
 
+// A match, and no cast as `onward_number` is: a variant carries a phase.
 #[tactic(auto, unfolding(crate::specs::Phase::phase_number))]
 pub fn phase_number(phase: Phase) -> u8
     ensures { result ≡ phase_number phase }

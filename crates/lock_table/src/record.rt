@@ -64,7 +64,7 @@ pub struct ObjectRecord {
 
 #[derive(Clone, Copy)]
 pub struct Table {
-    // how many of the records are in use: document 01's T and N
+    // how many of the records are in use: document 01's T and N, beside arrays of a fixed size, since nothing is allocated
     pub threadcount: u8,
     pub objectcount: u8,
     pub threads: [ThreadRecord; THREADS as usize],

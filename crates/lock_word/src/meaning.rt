@@ -16,7 +16,7 @@ pub enum WordSeen {
     Reserved(u16, u8), // reserved for the thread, and owned by it at depth count if that is above 0
 }
 
-// The thread that owns an object, and its depth; 0 and 0 where nobody does.
+// The thread that owns an object, and its depth; 0 and 0 where nobody does, as document 01 has it of every table and C is told.
 #[derive(Clone, Copy)]
 pub struct Ownership {
     pub thread: u16,

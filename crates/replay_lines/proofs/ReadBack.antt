@@ -18,7 +18,7 @@ use Rattle.replay_text.specs.Bytes.{newline, space}
 use Rattle.replay_lines.specs.Bytes.{letter_C, letter_L, letter_S, letter_V}
 use Rattle.replay_lines.specs.Number.{number_limit, is_digit, read_number, one_byte_more, read_field}
 use Rattle.replay_lines.specs.Grammar.{number_then, field_then, end_line, read_step, timed_wait, read_begin_limit, read_begin_object, read_begin}
-use Rattle.replay_lines.specs.Grammar.{read_header_reserved, read_header_objects, read_header, header_or_bad, operation_of, read_event, read_line}
+use Rattle.replay_lines.specs.Grammar.{read_header_reserved, read_header_objects, read_header, operation_of, read_event, read_line}
 use Rattle.replay_lines.specs.LineText.{spaced, line_break, Letter, Writes}
 use Rattle.replay_lines.specs.declared.number.Number.{Number}
 use Rattle.replay_lines.specs.declared.reading.Line.{Line}
@@ -89,8 +89,8 @@ or_malformed same = ap (λ read. unwrap_or read Malformed) same
 
 -- EACH LINE OF DOCUMENT 01 AND REQUEST L1 IS READ
 pub written_read : {line : Line} {text : List ℕ} → Writes line text → read_line text ≡ line
-unfolding read_line operation_of header_or_bad
-written_read (Writes.header {threads} {objects} {reserved} fits fits') = ap header_or_bad (header_read threads objects reserved fits fits')
+unfolding read_line operation_of
+written_read (Writes.header {threads} {objects} {reserved} fits fits') = ap (λ (header : Option Line). unwrap_or header BadHeader) (header_read threads objects reserved fits fits')
 written_read (Writes.begin {thread = thread} {object} Letter.enter fits fits') = or_malformed (plain_read 1 thread object refl fits fits')
 written_read (Writes.begin {thread = thread} {object} Letter.exit fits fits') = or_malformed (plain_read 2 thread object refl fits fits')
 written_read (Writes.begin {thread = thread} {object} Letter.wait fits fits') = or_malformed (plain_read 3 thread object refl fits fits')
@@ -189,10 +189,10 @@ module _ (letter : ℕ) (text : List ℕ) where
 
   -- a header that is not of its form is a bad one
   abbrev Headed : Option Line → Type 0
-  Headed line = Says BadHeader (letter ∷ text) (header_or_bad line)
+  Headed line = Says BadHeader (letter ∷ text) (unwrap_or line BadHeader)
 
   header_form : letter ≡ letter_L → Headed (read_header text)
-  unfolding read_header read_header_objects read_header_reserved header_or_bad
+  unfolding read_header read_header_objects read_header_reserved
   header_form same =
       field_form text _ Headed (inl refl) (λ threads rest fits first.
       field_form rest _ Headed (inl refl) (λ objects more fits' second.

@@ -55,10 +55,6 @@ read_header_objects threads text = field_then text (read_header_reserved threads
 unfoldable pub read_header : List ℕ → Option Line
 read_header text = field_then text read_header_objects
 
--- a line that begins with L is a header, of its form or not
-unfoldable pub header_or_bad : Option Line → Line
-header_or_bad header = unwrap_or header BadHeader
-
 -- whether a line begins with L (the law `header_begins`)
 unfoldable pub is_header : Line → Bool
 is_header (Header threads objects reserved) = true
@@ -84,4 +80,4 @@ read_event letter text =
 
 unfoldable pub read_line : List ℕ → Line
 read_line [] = Malformed
-read_line (letter ∷ text) = pick (eqb letter letter_L) (header_or_bad (read_header text)) (unwrap_or (read_event letter text) Malformed)
+read_line (letter ∷ text) = pick (eqb letter letter_L) (unwrap_or (read_header text) BadHeader) (unwrap_or (read_event letter text) Malformed)

@@ -180,7 +180,7 @@ fn read_event(letter: u8, text: &[u8]) -> Option<Line>
 }
 
 // What a whole line says, its newline with it.
-#[tactic(auto, unfolding(crate::specs::Grammar::read_line, crate::specs::Grammar::header_or_bad))]
+#[tactic(auto, unfolding(crate::specs::Grammar::read_line))]
 pub fn read_line(line: &[u8]) -> Line
     ensures { result ≡ read_line line.now }
 {

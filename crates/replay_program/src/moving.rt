@@ -1,6 +1,6 @@
 // Reads from an input and writes to an output, tried again where they were interrupted.
 ghost use Rattle.std.specs.Prelude.{◌≤◌, ◌≡◌, ◌<◌, ◌-◌, length, take, drop};
-ghost use Rattle.std.specs.Io.KnownBytes.{Appends, Consumes, IsAtEnd, Keeps};
+ghost use Rattle.std.specs.Io.KnownBytes.{Appends, Consumes, IsAtEnd};
 ghost use Rattle.std.specs.Io.{ReadsAtMost};
 ghost use Rattle.replay_program.specs.Run.{OnlyFailed, counted, taken, Moves, Arrived, WritesAll, ReadBehind};
 ghost use Rattle.replay_program.specs.Messages.{output_name, input_name};
@@ -29,7 +29,7 @@ pub(crate) fn interrupted(got: &io::Result<usize>) -> bool
     }
 }
 
-// What a failure is named by on standard error, in the program's name.
+// What a failure is named by on standard error, in the program's name. Output and input have a function each: the texts differ in length.
 #[tactic(auto, unfolding(crate::specs::Messages::output_name))]
 fn output_name(reporting: bool) -> [u8; 23]
     ensures { result ≡ output_name reporting }

@@ -18,7 +18,8 @@ pub struct Drained {
     pub from: usize,
 }
 
-// A stream, and how many bytes that it has not taken stand at the front of the buffer.
+// A stream, and how many bytes that it has not taken stand at the front of the buffer. The buffer is the program's only one, of a fixed size, so the count
+// goes beside it.
 #[derive(Clone, Copy)]
 pub struct Held {
     pub stream: Stream,

@@ -199,7 +199,7 @@ pub fn react_trusting(session: Session, line: Line, issound: bool) -> Reaction
 
 // The event of a thread that a line asks for, if it asks for one.
 #[tactic(auto, unfolding(crate::specs::Trusting::line_event, crate::specs::Trusting::is_thread_event))]
-fn line_event(line: Line) -> Option<Event>
+fn thread_event(line: Line) -> Option<Event>
     ensures { result ≡ pick (is_thread_event line) (Some (line_event line)) None }
 {
     match line {
@@ -221,6 +221,14 @@ fn line_event(line: Line) -> Option<Event>
     }
 }
 
+// The same of any line; of one that asks for none the answer is not used.
+#[tactic(auto, unfolding(crate::specs::Trusting::line_event, crate::specs::Trusting::is_thread_event))]
+pub fn line_event(line: Line) -> Event
+    ensures { result ≡ line_event line }
+{
+    thread_event(line).unwrap_or(Event::Step { thread: 0 })
+}
+
 // The event of a thread that a line asks for in a running session, which a caller may carry out in place. A tick, which touches every object, is left to
 // react_trusting.
 #[tactic(auto, unfolding(crate::specs::Trusting::runs_thread_event))]
@@ -228,7 +236,7 @@ pub fn running_event(stage: Stage, line: Line) -> Option<Event>
     ensures { result ≡ pick (runs_thread_event stage line) (Some (line_event line)) None }
 {
     match stage {
-        Stage::Running => line_event(line),
+        Stage::Running => thread_event(line),
         Stage::Opening | Stage::Over => None,
     }
 }

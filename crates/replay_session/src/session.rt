@@ -17,7 +17,7 @@ pub enum Stage {
 #[derive(Clone, Copy)]
 pub struct Session {
     pub stage: Stage,
-    // all zero unless the stage is Running
+    // all zero unless the stage is Running, and a field at every stage: the definitions of both programs name it
     pub table: Table,
 }
 

@@ -4,7 +4,6 @@
 #![tactic(auto)]
 
 use lock_table::{Monitor, OBJECTS, Onward, Operation, Phase, Table, ThreadRecord};
-use lock_word::LockWord;
 use std::io::Read;
 
 const COUNT_LIMIT: u64 = 100_000_000;

@@ -1,4 +1,5 @@
-// A table read from its bytes, whole or one record of it, and whether bytes are a table.
+// A table read from its bytes, whole or one record of it, and whether bytes are a table. A thread's record and an object's are read by functions of their
+// own, whose clauses name `thread_at` and `object_at`; what they share is `place_of` and `record_at`.
 ghost use Rattle.std.specs.Prelude.{◌≡◌};
 ghost use Rattle.lock_table.specs.Access.{thread_at, object_at};
 ghost use Rattle.table_bytes.specs.Reading.{table_of, is_table};

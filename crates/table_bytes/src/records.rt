@@ -75,7 +75,7 @@ pub(crate) fn read_records<T: Stored<SIZE>, const SIZE: usize>(
     }
 }
 
-// Whether each of so many records is one that there is.
+// Whether each of so many records is one that there is. Of `(0..count).all(..)` it stayed open that what the iterator goes through is `all_below`.
 pub(crate) fn all_known<T: Stored<SIZE>, const SIZE: usize>(
     bytes: &[u8],
     start: usize,

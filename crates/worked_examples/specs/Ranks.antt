@@ -1,9 +1,9 @@
 -- Ranks (document 02, L8): who joins where, what a fresh table is given, and what soundness asks of neighbours in an entry chain.
-use Rattle.std.specs.Prelude.{ℕ, ◌≡◌, true, false, [], ◌∷◌, Result, Ok, Err}
+use Rattle.std.specs.Prelude.{ℕ, ◌≡◌, true, false, [], ◌∷◌, Result, Err}
 use Rattle.chains.specs.declared.named.Chain.{Chain}
 use Rattle.lock_table.specs.Access.{thread_at}
 use Rattle.lock_table.specs.Record.{no_thread, with_rank, with_next, with_phase, idle}
-use Rattle.lock_table.specs.Fresh.{request_of, fresh_answer}
+use Rattle.lock_table.specs.Fresh.{request_of, fresh_of, fresh_returned}
 use Rattle.lock_table.specs.declared.fresh_table.FreshRefusal.TheVariants.{SizeOutOfRange, RankOutOfRange}
 use Rattle.lock_table.specs.declared.fresh_table.FreshRefusal.{FreshRefusal}
 use Rattle.lock_table.specs.declared.phase.Onward.TheVariants.{ToCheck, ToTell}
@@ -30,8 +30,8 @@ abbrev both : JoinedChain
 both = queue Chain.Entry 2 (queued_up 1) 1 3
 
 -- what a fresh table is answered, of so many threads and objects, the first two threads being given these ranks
-abbrev asked : ℕ → ℕ → ℕ → ℕ → Result (Unit {0}) FreshRefusal
-asked threads objects first second = fresh_answer (request_of threads objects false (record { rank = first } ∷ record { rank = second } ∷ []))
+abbrev asked : ℕ → ℕ → ℕ → ℕ → Result Table FreshRefusal
+asked threads objects first second = fresh_of (request_of threads objects false (record { rank = first } ∷ record { rank = second } ∷ []))
 
 -- a queued exit of rank 2
 abbrev leaving : ThreadRecord
@@ -55,7 +55,7 @@ pub record RankExamples : Type 0 where
   pub let_out_keeps : (let_out leaving true).rank ≡ 2
   -- 27 for a rank above 3, but not past T, and after 22
   pub too_high : asked 2 1 0 4 ≡ Err RankOutOfRange
-  pub unread : asked 1 1 3 4 ≡ Ok tt
+  pub unread : fresh_returned (asked 1 1 3 4) ≡ 0
   pub size_first : asked 2 0 0 4 ≡ Err SizeOutOfRange
   -- behind a queued thread of rank 1 one of rank 1 may stand, and none of rank 2
   pub falls : falls_behind (with_phase (with_rank no_thread 1) (Queued ToCheck)) 1 ≡ true

@@ -35,7 +35,7 @@ use Rattle.lock_engine.specs.Turn.{given_ticks, action_turn, word_turn, state_tu
 use Rattle.lock_engine.specs.Handle.{handle_trusting, handle}
 use Rattle.replay_lines.specs.Cutting.{lines_of}
 use Rattle.replay_lines.specs.Number.{is_digit, read_digits, read_number, read_field}
-use Rattle.replay_lines.specs.Grammar.{end_line, read_step, read_begin_limit, read_begin_object, read_begin, read_header_reserved, read_header_objects, read_header, header_or_bad, operation_of, read_line}
+use Rattle.replay_lines.specs.Grammar.{end_line, read_step, read_begin_limit, read_begin_object, read_begin, read_header_reserved, read_header_objects, read_header, operation_of, read_line}
 use Rattle.replay_parts.specs.Replay.{output_of, replay_of}
 use Rattle.replay_session.specs.Session.{opened_by, open_by, answer_from, run_of, react_at_stage, closing_by}
 use Rattle.replay_text.specs.Digits.{digit_byte, digits, places_from, places_of, decimal}
@@ -50,7 +50,7 @@ unfolding rewritten_of ownership_in wait_activity limit_of in_chain carried_of o
     carries_phase operation_fits kept_fits saves_depth saved_fits unheld_fits ticks_fit found_in names_chain unused_fits empty_thread empty_monitor empty_object sound_of
     thread_status runs_out waiter_after handing hand_if_free tick_object tick_to work_stays work_done reply_returned reply_woken given_ticks action_turn word_turn state_turn
     step_turn open_turn gate_turn handle_trusting handle lines_of is_digit read_digits read_number read_field end_line read_step read_begin_limit read_begin_object read_begin
-    read_header_reserved read_header_objects read_header header_or_bad operation_of read_line output_of replay_of opened_by open_by answer_from run_of react_at_stage closing_by
+    read_header_reserved read_header_objects read_header operation_of read_line output_of replay_of opened_by open_by answer_from run_of react_at_stage closing_by
     digit_byte digits places_from places_of decimal field_text hexadecimal_text answer_line answer_text
 program_examples =
     record {
