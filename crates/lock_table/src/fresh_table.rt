@@ -87,7 +87,9 @@ fn object_given(request: FreshRequest, place: usize) -> ObjectGiven
     ensures { result ≡ object_given request place }
 {
     ObjectGiven {
-        reserved: place < usize::from(request.objects) && place < OBJECTS.into() && request.reserved,
+        reserved: place < usize::from(request.objects)
+            && place < OBJECTS.into()
+            && request.reserved,
     }
 }
 

@@ -4,7 +4,5 @@
 mod reacting;
 mod session;
 
-pub use reacting::{
-    Reaction, closing, line_event, react_trusting, running_event, turn_answer,
-};
+pub use reacting::{Reaction, closing, line_event, react_trusting, running_event, turn_answer};
 pub use session::{Session, Stage, fresh_session, session_over, session_sound};
