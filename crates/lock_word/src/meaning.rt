@@ -82,7 +82,7 @@ fn owned_by(owner: u16, depth: Depth) -> Ownership
     }
     Ownership {
         thread: owner,
-        depth: depth,
+        depth,
     }
 }
 
