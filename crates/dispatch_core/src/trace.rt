@@ -27,7 +27,7 @@ pub(crate) fn trace_entry(
     answer + u64::from(begun) * BEGUN_UNIT + u64::from(thread) * THREAD_UNIT
 }
 
-// A place past the end is not set, nor one of a turn without a step, which the definition `traced` picks by the same test.
+// A place past the end is not set; and a turn without a step has no entry, as the caller says by `took`: a branch there would be a case of every clause.
 pub(crate) fn put_entry(trace: &mut [u64], place: usize, took: bool, entry: u64)
     ensures { trace.new ≡ pick took (set trace.old place entry) trace.old }
 {
