@@ -1,5 +1,4 @@
 -- Laws of the core.
-pub mod Tests
 pub mod OperationsLeft
 pub mod Positions
 pub mod Measure

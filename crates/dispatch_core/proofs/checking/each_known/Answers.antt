@@ -3,7 +3,7 @@ use Prim.Native.Nat.{ℕ}
 use mathlib.Core.Path.{sym, ◌∙◌}
 use mathlib.Core.Bool.{Bool}
 use Rattle.dispatch_rules.specs.Script.{script_known, cursor_at}
-use Rattle.dispatch_core.proofs.Tests.{up_to_none, up_to_next, up_to_fails}
+use Rattle.laws.proofs.Every.{up_to_none, up_to_next, up_to_fails}
 use Rattle.dispatch_core.proofs.checking.each_known.Goals as goal
 
 pub loop-place-init : goal.loop-place-init

@@ -1,30 +1,17 @@
 -- The places passed are known, and one that is not decides.
-use Prim.Native.Nat.{ℕ, ◌+◌, ◌-◌, ◌*◌, ◌<◌}
-use mathlib.Core.Path.{◌≡◌, refl, ap, sym, ◌∙◌, subst}
-use mathlib.Core.Bool.{Bool, true, false}
+use Prim.Native.Nat.{ℕ, ◌+◌, ◌*◌}
+use mathlib.Core.Path.{◌≡◌, ap, sym, ◌∙◌, subst}
+use mathlib.Core.Bool.{Bool, true}
 use native.Mathlib.Omega.{arith}
-use Rattle.laws.specs.Every.{all_below, all_up_to}
-use Rattle.laws.proofs.Choice.{split}
-use Rattle.laws.proofs.Every.{all_step, all_below_at}
+use Rattle.laws.specs.Every.{all_below}
+use Rattle.laws.proofs.Every.{up_to_none, below_next, below_fails}
 use Rattle.table_bytes.specs.Rows.{size, numbers_in}
 use Rattle.table_bytes.specs.Reading.{byte_at}
 use Rattle.table_bytes.proofs.Rows.{numbers_at}
 use Rattle.table_bytes.proofs.records.all_known.Goals as goal
 
-below_none : (test : ℕ → Bool) → all_below 0 test ≡ true
-unfolding all_up_to
-below_none test = refl
-
-below_next : (n : ℕ) (test : ℕ → Bool) → all_below n test ≡ true → test n ≡ true → all_below (n + 1) test ≡ true
-below_next n test before here =
-    let back : (n + 1) - 1 ≡ n = omega arith in all_step {n = n + 1} (omega arith) (λ i. test (i - 1)) ∙ rw (back, here) before
-
-below_fails : (n i : ℕ) (test : ℕ → Bool) → i < n → test i ≡ false → false ≡ all_below n test
-below_fails n i test low fails = split (all_below n test) (λ all. let passes = all_below_at n test all i low in cc) (λ some. sym some)
-
 pub loop-place-init : goal.loop-place-init
-loop-place-init g c =
-    below_none (λ place. g.T.Stored.known (numbers_in g.T.Stored.layout (λ i. byte_at c.args.bytes.now (c.args.start + place * size g.T.Stored.layout + i))))
+loop-place-init g c = up_to_none _
 
 pub returns-then-not-is_known : goal.returns-then-not-is_known
 returns-then-not-is_known g c =
