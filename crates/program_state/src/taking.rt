@@ -1,6 +1,6 @@
 // What a line does to the state, for a caller that knows whether the session's table is sound. The tally's rows are left to the caller: only an event
-// of a thread in a running session counts there, and that is carried out in place. So `reporting` and the tally's two numbers are passed one by one:
-// a tally handed to these functions would be copied for each line.
+// of a thread in a running session counts there, and that is carried out in place. So `reporting` and the tally's two numbers are passed one by one,
+// as the definitions name them: these functions have no use for the rows.
 ghost use Rattle.std.specs.Prelude.{◌≡◌};
 ghost use Rattle.laws.specs.Choice.{pick};
 ghost use Rattle.replay_session.specs.Trusting.{line_event};
