@@ -169,7 +169,7 @@ fn after_tick(outcome: Outcome) -> Reaction
 fn run_by(table: Table, line: Line, issound: bool) -> Reaction
     ensures { result ≡ run_by table line issound }
 {
-    if let Some(event) = line_event(line) {
+    if let Some(event) = thread_event(line) {
         return event_by(table, event, issound);
     }
     match line {
