@@ -12,7 +12,8 @@ const BEGUN_UNIT: u64 = 131072;
 // From bit 24 on, nor these.
 const THREAD_UNIT: u64 = 16777216;
 
-// The step's answer, with its thread and whether the thread began its operation just before.
+// The step's answer, with its thread and whether the thread began its operation just before. Reply, mark and set come one by one, as the definition
+// names them.
 #[tactic(auto, unfolding(dispatch_rules::specs::Dispatch::trace_entry))]
 pub(crate) fn trace_entry(
     thread: u8,

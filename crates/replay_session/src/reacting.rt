@@ -97,6 +97,7 @@ fn answer_from(first: u8, number: u8, accepted: Answer) -> Answer
     accepted
 }
 
+// What is printed of an accepted event is numbers, that of the phase among them.
 fn answer_with(number: u8, phase: u8, woken: u8, word: u32, unparked: u32) -> Answer
     ensures { result ≡ answer_with number phase woken word unparked }
 {
