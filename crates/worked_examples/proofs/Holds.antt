@@ -14,7 +14,7 @@ use Rattle.lock_work.specs.Tick.{handing, hand_if_free, tick_object, tick_to}
 use Rattle.lock_work.specs.Work.{work_done}
 use Rattle.event_bytes.specs.Encoding.{event_from, limit_from}
 use Rattle.lock_rules.specs.Limits.{one_less, no_ticks, run_out}
-use Rattle.lock_table.specs.{Fresh.thread_given, Fresh.object_given, Fresh.in_range, Fresh.ranks_fit, Fresh.fresh_answer, Fresh.made_by, Fresh.first_word, Fresh.fresh_of, Operation.operation_number, Parked.chain_named}
+use Rattle.lock_table.specs.{Fresh.thread_given, Fresh.object_given, Fresh.in_range, Fresh.ranks_fit, Fresh.fresh_answer, Fresh.made_by, Fresh.fresh_returned, Fresh.first_word, Fresh.fresh_of, Operation.operation_number, Parked.chain_named}
 use Rattle.lock_table.specs.Phase.{phase_number, carried_number, onward_number}
 use Rattle.lock_gate.specs.Status.{thread_status}
 use Rattle.lock_perform.specs.ThreadSet.{thread_set}
@@ -99,7 +99,7 @@ tick_examples =
     }
 
 pub rank_examples : RankExamples
-unfolding thread_at set_thread place_for first_at queue let_out thread_given object_given in_range ranks_fit fresh_answer made_by all_up_to fresh_of falls_behind phase_number chain_named
+unfolding thread_at set_thread place_for first_at queue let_out thread_given object_given in_range ranks_fit fresh_answer made_by fresh_returned all_up_to fresh_of falls_behind phase_number chain_named
 rank_examples =
     record {
       in_between = refl;
