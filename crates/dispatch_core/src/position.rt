@@ -1,19 +1,19 @@
 // Where a run is: whose turn it is, how many steps the turn may still take, whether the round has had a step, and how many rounds may follow it. A run
 // whose turn may take no step is over.
 ghost use Rattle.std.specs.Prelude.{◌≡◌, ◌-◌, ◌*◌, ◌≤◌};
+ghost use Rattle.lock_engine.specs.Outcome.{reply_returned};
 ghost use Rattle.step_bounds.specs.SixSteps.{is_step};
 ghost use Rattle.dispatch_rules.specs.Attempt.{goes_on};
 ghost use Rattle.dispatch_rules.specs.Dispatch.{operations_left, most_steps};
 ghost use Rattle.dispatch_core.specs.Position.{cursor_room, round_room, first_position, next_position};
 
 use dispatch_rules::{DispatchRefusal, ScriptCursor};
+use lock_engine::Reply;
+use lock_rules::Answer;
 use lock_table::{THREADS, thread_place};
 
 // The steps of a run are at most so many for each operation that is still to begin, and for each thread.
 const STEP_WEIGHT: u64 = 205;
-
-// What a step that parks its thread returns.
-const PARKED: u8 = 2;
 
 #[derive(Clone, Copy)]
 pub(crate) struct Position {
@@ -110,16 +110,18 @@ pub(crate) fn next_position(
     OVER
 }
 
-// Whether this number is returned by a step: 0, 1, 2, 18 or 19.
-pub(crate) fn is_step(returned: u8) -> bool
-    ensures { result ≡ is_step returned }
+// Whether this is the reply to a step that was taken: 0, 1, 2, 18 or 19.
+#[tactic(auto, using(lock_rules::proofs::RefusalNumbers::of_gate), unfolding(lock_engine::specs::Outcome::reply_returned))]
+pub(crate) fn is_step(reply: Reply) -> bool
+    ensures { result ≡ is_step (reply_returned reply) }
 {
-    matches!(returned, 0 | 1 | PARKED | 18 | 19)
+    !matches!(reply, Reply::Refused(_) | Reply::Answered(Answer::NoRule))
 }
 
 // A park ends the turn.
-pub(crate) fn goes_on(returned: u8) -> bool
-    ensures { result ≡ goes_on returned }
+#[tactic(auto, using(lock_rules::proofs::RefusalNumbers::of_gate), unfolding(lock_engine::specs::Outcome::reply_returned))]
+pub(crate) fn goes_on(reply: Reply) -> bool
+    ensures { result ≡ goes_on (reply_returned reply) }
 {
-    returned != PARKED
+    !matches!(reply, Reply::Answered(Answer::Parked))
 }

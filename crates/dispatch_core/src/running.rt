@@ -7,7 +7,7 @@ use crate::position::{first_position, goes_on, is_step, most_steps, next_positio
 use crate::script::{begins, cursor_after, record_ready};
 use crate::trace::{put_entry, trace_entry};
 use dispatch_rules::{Dispatched, ScriptCursor, ScriptRun};
-use lock_engine::{handle_in_place, returned};
+use lock_engine::handle_in_place;
 use lock_gate::thread_status;
 use lock_rules::Event;
 use lock_table::{THREADS, Table, thread_place};
@@ -43,12 +43,11 @@ pub fn run_scripts(
         changed.threads[place] = record_ready(begun, scripts, before, cursor);
         moved[place] = cursor_after(begun, cursor);
         let done = handle_in_place(&mut changed, Event::Step { thread }, true);
-        let number = returned(done.reply);
-        let took = is_step(number);
-        let entry = trace_entry(thread, begun, done.reply, done.commits, done.unparked);
+        let took = is_step(done.reply);
+        let entry = trace_entry(thread, begun, done);
         put_entry(trace, steps, took, entry);
         steps += usize::from(took);
-        position = next_position(threads, quantum, position, took, goes_on(number));
+        position = next_position(threads, quantum, position, took, goes_on(done.reply));
     }
     let dispatched = Dispatched {
         table: changed,

@@ -4,7 +4,7 @@ ghost use Rattle.laws.specs.Choice.{pick};
 ghost use Rattle.dispatch_rules.specs.Dispatch.{trace_entry};
 
 use event_bytes::packed;
-use lock_engine::{Reply, returned, woken};
+use lock_engine::{Done, returned, woken};
 
 // Bit 17, which an answer does not use.
 const BEGUN_UNIT: u64 = 131072;
@@ -12,19 +12,17 @@ const BEGUN_UNIT: u64 = 131072;
 // From bit 24 on, nor these.
 const THREAD_UNIT: u64 = 16777216;
 
-// The step's answer, with its thread and whether the thread began its operation just before. Reply, mark and set come one by one, as the definition
-// names them.
+// The step's answer, with its thread and whether the thread began its operation just before.
 #[tactic(auto, unfolding(dispatch_rules::specs::Dispatch::trace_entry))]
-pub(crate) fn trace_entry(
-    thread: u8,
-    begun: bool,
-    reply: Reply,
-    commits: bool,
-    unparked: u32,
-) -> u64
-    ensures { result ≡ trace_entry thread begun reply commits unparked }
+pub(crate) fn trace_entry(thread: u8, begun: bool, done: Done) -> u64
+    ensures { result ≡ trace_entry thread begun done.reply done.commits done.unparked }
 {
-    let answer = packed(returned(reply), woken(reply), commits, unparked);
+    let answer = packed(
+        returned(done.reply),
+        woken(done.reply),
+        done.commits,
+        done.unparked,
+    );
     answer + u64::from(begun) * BEGUN_UNIT + u64::from(thread) * THREAD_UNIT
 }
 

@@ -55,7 +55,6 @@ loop-position-preserved c =
       own_is = c.record_ready.ensures;
       moved_is = c.cursor_after.ensures;
     } in
-    let answer = c.returned-number.ensures in
     goes_round going more {outcome = outcome} (started_so _ _ _ _ _ _ _ _ ready)
     (stepped_so _ _ _ _ _ _ _ _ ready {outcome = outcome}
     (λ j. record {
@@ -65,10 +64,10 @@ loop-position-preserved c =
       unparked = (done.ensures.done j).unparked;
     }))
     (ap (λ (x : Scripted). scripted outcome.table x.cursors) (ready_so _ _ _ _ _ _ _ _ ready))
-    (c.is_step-took.ensures ∙ ap is_step answer)
+    c.is_step-took.ensures
     (c.put_entry.ensures ∙ ap (λ (n : ℕ). pick took (set loop.trace loop.steps n) loop.trace) c.trace_entry-entry.ensures)
     (ap (λ (n : ℕ). loop.steps + n) (c.from-steps.ensures ∙ counted took))
-    (c.next_position-position.ensures ∙ ap (next_position _ _ loop.position took) (c.goes_on.ensures ∙ ap goes_on answer))
+    (c.next_position-position.ensures ∙ ap (next_position _ _ loop.position took) c.goes_on.ensures)
 
 pub returns-clause-value : goal.returns-clause-value
 returns-clause-value c =
