@@ -87,7 +87,7 @@ pub(crate) fn dispatch_answer(
     Err(DispatchRefusal::ScriptUnknown)
 }
 
-// Document 02's number for the answer. It is of the whole answer, 0 among them, and so no From of the refusal.
+// Document 02's number for the answer. It is no From: the refusals stand in `dispatch_rules`, which has types and definitions and no function.
 #[tactic(auto, unfolding(dispatch_rules::specs::Dispatch::dispatch_returned))]
 pub fn dispatch_returned(answer: Result<(), DispatchRefusal>) -> u8
     ensures { result ≡ dispatch_returned answer }

@@ -32,6 +32,7 @@ pub fn run_scripts(
     let threads = table.threadcount;
     let mut changed = table;
     let mut moved = cursors;
+    // turns that had a step, which are not the turns of the loop
     let mut steps: usize = 0;
     let mut position = first_position(answer, quantum, most_steps(threads, cursors));
     while 0 < position.left {

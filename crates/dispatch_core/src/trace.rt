@@ -26,7 +26,8 @@ pub(crate) fn trace_entry(thread: u8, begun: bool, done: Done) -> u64
     answer + u64::from(begun) * BEGUN_UNIT + u64::from(thread) * THREAD_UNIT
 }
 
-// A place past the end is not set; and a turn without a step has no entry, as the caller says by `took`: a branch there would be a case of every clause.
+// A place past the end is not set; and a turn without a step has no entry, as the caller says by `took`. A branch in the loop would give
+// each of the loop's facts two cases.
 pub(crate) fn put_entry(trace: &mut [u64], place: usize, took: bool, entry: u64)
     ensures { trace.new ≡ pick took (set trace.old place entry) trace.old }
 {

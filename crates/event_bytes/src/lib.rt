@@ -33,7 +33,7 @@ pub fn limit_from(first: u8, second: u8, third: u8, fourth: u8) -> u32
     u32::from_le_bytes([first, second, third, fourth])
 }
 
-// The event of these bytes. A kind that is none is taken as the begin of no operation, which the engine refuses with 17.
+// The event of these bytes. A kind that is none is taken as the begin of no operation, which the engine refuses with 17, as it does a number that is none.
 #[tactic(auto, unfolding(crate::specs::Encoding::event_from))]
 pub fn event_from(kind: u8, thread: u8, operation: u8, object: u8, limit: u32) -> Event
     ensures { result ≡ event_from kind thread operation object limit }
@@ -75,7 +75,7 @@ pub fn event_of(bytes: &[u8; EVENT_SIZE]) -> Event
 }
 
 // An answer: the returned number, the woken number, whether the event committed, and the set of threads that it unparked. Bits 17 to 31 are not used.
-// Callers give a reply's numbers: events in bytes stand below the engine, and know no reply.
+// Callers give a reply's numbers, each by the same two calls: events in bytes stand below the engine, and know no reply.
 #[tactic(auto, unfolding(crate::specs::Answer::packed_of))]
 pub fn packed(returned: u8, woken: u8, commits: bool, unparked: u32) -> u64
     ensures value { result ≡ packed_of returned woken commits unparked }

@@ -85,7 +85,7 @@ pub fn handle(table: Table, event: Event) -> Outcome
     handle_trusting(table, event, lock_soundness::sound(table))
 }
 
-// The thread begins the operation with this number on the object; the limit is a timed wait's.
+// The thread begins the operation with this number on the object; the limit is a timed wait's. Any number may be given: 17 refuses what is none.
 pub fn begin(table: Table, thread: u8, operation: u8, object: u8, limit: u32) -> Outcome
     ensures { result ≡ begin table thread operation object limit }
 {

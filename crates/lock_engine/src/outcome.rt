@@ -15,7 +15,8 @@ pub enum Reply {
     Answered(Answer),
 }
 
-// What an event gives back beside the table, where it is carried out in the table's place.
+// What an event gives back beside the table, where it is carried out in the table's place. `Outcome` has the same with the table, in fields of its own,
+// by which every claim about events is stated.
 #[derive(Clone, Copy)]
 pub struct Done {
     pub reply: Reply,

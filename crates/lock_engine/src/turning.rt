@@ -23,8 +23,8 @@ pub struct Turn {
     pub commits: bool,
 }
 
-// The two records that an event touches: its thread's and that of the object it is about. The public functions, `turn_with` and `work_done`, take them
-// one by one, as their clauses name them.
+// The two records that an event touches: its thread's and that of the object it is about. `turn_with` and `work_done` take them one by one: `work_done`
+// belongs to a crate below, and callers of `turn_with` in other crates have them apart.
 #[derive(Clone, Copy)]
 pub(crate) struct Records {
     pub own: ThreadRecord,

@@ -7,10 +7,10 @@ ghost use Rattle.lock_rules.specs.Gate.{first_refusing, idle_rows, ready_rows, b
 ghost use Rattle.lock_gate.specs.Status.{thread_status};
 
 use lock_rules::{Event, Refusal, ThreadStatus};
-use lock_table::Phase;
+use lock_table::{Operation, Phase};
 use lock_word::TICK_LIMIT;
 
-pub const TIMED_WAIT: u8 = 6;
+pub const TIMED_WAIT: u8 = Operation::TimedWait as u8;
 
 // The operations are numbered from 1 to this.
 const OPERATION_LIMIT: u8 = TIMED_WAIT;

@@ -12,7 +12,7 @@ use lock_rules::{ChainWork, Taken};
 use lock_table::{Monitor, Phase, THREADS, ThreadRecord, handed, moved, narrow, no_thread};
 
 // What a work does: the record that it changes as it is then, the monitor before anybody joins a chain of it, whom it unparks, and who joins which
-// chain: a thread, or a chain from its first thread on, 0 for nobody.
+// chain: a thread, or a chain from its first thread on, 0 for nobody, as an empty chain has it.
 #[derive(Clone, Copy)]
 pub struct ChainPlan {
     pub changed: ThreadRecord,
@@ -63,7 +63,7 @@ fn touched_by_move(monitor: Monitor, from: Chain, taken: Taken) -> u8
     }
 }
 
-// Whose record the work changes, 0 for nobody's. A number beyond the records is nobody's.
+// Whose record the work changes, 0 for nobody's, as the monitor's fields have it that are given back. A number beyond the records is nobody's.
 pub fn touched(work: ChainWork, monitor: Monitor) -> u8
     ensures { result ≡ touched work monitor }
 {
@@ -216,7 +216,7 @@ fn whole_move(monitor: Monitor, from: Chain, taken: Taken) -> u8
     }
 }
 
-// The first of a chain that moves whole, 0 for none.
+// The first of a chain that moves whole, 0 for none, as the monitor has it.
 pub fn moved_whole(work: ChainWork, monitor: Monitor) -> u8
     ensures { result ≡ moved_whole work monitor }
 {

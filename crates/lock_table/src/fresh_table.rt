@@ -173,6 +173,7 @@ fn in_range(request: FreshRequest) -> bool
 fn ranks_fit(request: FreshRequest) -> bool
     ensures { result ≡ ranks_fit request }
 {
+    // `as` and no `into`, with which it stayed open that the loop begins at 32
     for place in (0..THREADS as usize).rev() {
         let given = thread_given(request, place);
         if RANKS < given.rank {

@@ -7,7 +7,7 @@ use crate::record::Monitor;
 use chains::Chain;
 use lock_word::Depth;
 
-// A monitor, and the thread that was handed it; 0 for nobody.
+// A monitor, and the thread that was handed it; 0 for nobody, as in the monitor itself.
 #[derive(Clone, Copy)]
 pub struct Handed {
     pub monitor: Monitor,

@@ -33,7 +33,8 @@ pub struct ThreadRecord {
     pub phase: Phase,
 }
 
-// What an operation writes of a thread: what the thread is doing, and what its phase keeps. All else in the record stays from event to event.
+// What an operation writes of a thread: what the thread is doing, and what its phase keeps. All else in the record stays from event to event. Its fields
+// are a record's own, and no struct within it: clauses and definitions name `phase` and the others of a record.
 #[derive(Clone, Copy)]
 pub struct Activity {
     pub kept: u32,

@@ -40,7 +40,7 @@ fn kind_place(low: u8) -> u8
 pub fn kind_of(low: u8) -> Option<Kind>
     ensures { result ≡ kind_of low }
 {
-    let place = kind_place(low) as usize;
+    let place = usize::from(kind_place(low));
     KINDS[place]
 }
 

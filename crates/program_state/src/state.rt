@@ -14,7 +14,7 @@ pub struct State {
     pub reporting: bool,
     // of the schedule that is replayed
     pub session: Session,
-    // of all schedules; the replay leaves it alone
+    // of all schedules; the replay leaves it alone, and has one all the same: the definitions of both programs are stated of one state
     pub tally: Tally,
 }
 

@@ -29,7 +29,8 @@ pub(crate) fn interrupted(got: &io::Result<usize>) -> bool
     }
 }
 
-// What a failure is named by on standard error, in the program's name. Output and input have a function each: the texts differ in length.
+// What a failure is named by on standard error, in the program's name. Output and input have a function each, since
+// a definition names each and the arrays differ in length; a slice of one function would hide which texts there are.
 #[tactic(auto, unfolding(crate::specs::Messages::output_name))]
 fn output_name(reporting: bool) -> [u8; 23]
     ensures { result ≡ output_name reporting }

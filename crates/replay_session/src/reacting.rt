@@ -76,7 +76,7 @@ fn word_of(table: Table, object: u8) -> u32
     object_at(&table, object).word
 }
 
-// Numbers from this one on are refusals, which print alone.
+// Numbers from this one on are refusals, which print alone. Document 01 says so by the number, and `answer_from` and `tick_answer` with it.
 #[tactic(auto, unfolding(lock_rules::specs::Numbers::refusal_number))]
 fn first_refusal() -> u8
     ensures { result ≡ first_refusal }

@@ -16,7 +16,8 @@ pub struct Figures {
     pub monitor: u16,
 }
 
-// What is printed of each of the five: its figure, its share or its remainder.
+// What is printed of each of the five: its figure, its share or its remainder. `Figures` is a public type that definitions of the report name, so the two
+// are no instances of one generic type.
 #[derive(Clone, Copy)]
 struct FiveFields {
     anonymous: u32,

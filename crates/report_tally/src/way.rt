@@ -25,7 +25,8 @@ pub enum Way {
     Monitor,
 }
 
-// The number that a step returns which finishes its operation.
+// The number that a step returns which finishes its operation. Document 02 defines the report by the numbers that are returned, so a step is known by its
+// number here, as in the definition `way_finished`.
 #[tactic(auto, unfolding(lock_engine::specs::Outcome::reply_returned))]
 fn finished() -> u16
     ensures { result ≡ finished_number }

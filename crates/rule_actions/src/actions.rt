@@ -1,4 +1,4 @@
-// The actions that several rules share.
+// The actions that several rules share, a function for each definition of `lock_rules/specs/Actions.antt`; what they have in common is `keep_object`.
 ghost use Rattle.std.specs.Prelude.{◌≡◌};
 ghost use Rattle.lock_rules.specs.Actions.{keep_object, go_on, not_owner, finish_committed, finish, finish_word, finish_depth, let_go, inflate, cancel_word, become_holder, raise_flag};
 

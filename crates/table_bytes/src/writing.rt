@@ -1,4 +1,5 @@
-// A table written as bytes, whole or one record of it, by a function for each of the two kinds of record, as they are read.
+// A table written as bytes, whole or one record of it, by a function for each of the two kinds of record. One of both
+// would ask of its caller that there is room for as many records, which the constants show here.
 ghost use Rattle.std.specs.Prelude.{◌≡◌, length};
 ghost use Rattle.table_bytes.specs.Layout.{table_size};
 ghost use Rattle.table_bytes.specs.Writing.{bytes_of, kept_over, write_thread, write_object};

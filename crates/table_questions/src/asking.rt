@@ -281,7 +281,7 @@ fn value_in<Q: Question>(question: Q, bytes: &[u8], number: u8) -> Result<u32, R
     Err(Q::missing())
 }
 
-// An answer: the returned number in bits 0 to 7, 0 where there is a value, and the value above.
+// An answer: the returned number in bits 0 to 7, 0 where there is a value, and the value above. An event's answer is packed otherwise (event_bytes).
 fn packed(answer: Result<u32, Refusal>) -> u64
     ensures { result ≡ packed_of answer }
 {

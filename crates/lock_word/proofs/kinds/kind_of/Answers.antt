@@ -11,5 +11,5 @@ use Rattle.lock_word.proofs.kinds.kind_of.Goals as goal
 pub returns : goal.returns
 unfolding tabulate kind_of
 returns c =
-    simp c.kind_place-place.ensures
+    simp (c.from-place.ensures, c.kind_place.ensures)
     (tabulate_at 8 kind_of None _ (place_inside c.args.low) ∙ place_kind c.args.low (search rules))
