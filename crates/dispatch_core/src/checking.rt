@@ -22,11 +22,12 @@ fn operation_known(scripts: &[u8], objects: u8, start: u32, place: u32) -> bool
     1 <= operation && operation <= SCRIPT_OPERATIONS && 1 <= object && object <= objects
 }
 
-// A loop here and in `each_known`: of `(0..length).all(..)` it stayed open that what the iterator goes through is `all_below`.
+// A loop here and in `each_known`: of `(0..length).all(..)` it stayed open that what the iterator goes through is `all_below`. From the last to the first, so
+// that a script that was cut off too late is refused at once.
 fn operations_known(scripts: &[u8], objects: u8, start: u32, length: u32) -> bool
     ensures { result ≡ all_below length (λ i. operation_known scripts.now objects (start + i)) }
 {
-    for place in 0..length {
+    for place in (0..length).rev() {
         if !operation_known(scripts, objects, start, place) {
             return false;
         }
@@ -46,7 +47,7 @@ fn script_known(scripts: &[u8], objects: u8, cursor: ScriptCursor) -> bool
         && operations_known(scripts, objects, cursor.start, cursor.length)
 }
 
-// So is each of the threads'.
+// So is each of the threads', from the last to the first.
 #[tactic(auto, using(lock_table::proofs::Places::place_inside))]
 fn each_known(
     scripts: &[u8],
@@ -56,8 +57,8 @@ fn each_known(
 ) -> bool
     ensures { result ≡ all_up_to threads (λ n. script_known scripts.now objects (cursor_at cursors n)) }
 {
-    for place in 0..threads {
-        if !script_known(scripts, objects, cursors[thread_place(place + 1)]) {
+    for number in (1..=threads).rev() {
+        if !script_known(scripts, objects, cursors[thread_place(number)]) {
             return false;
         }
     }

@@ -241,3 +241,15 @@ module _ {t : Table} {event : Event} {issound : Bool} {thread place number home 
   pub worked_so : work_stays turn.work ≡ false → {done : WorkDone} → done ≡ work_done_of t thread number turn
       → record { table = done.table; reply = turn.reply; commits = turn.commits; unparked = done.unparked } ≡ handle_trusting t event issound
   worked_so work is = rw is (rw work at settled_so)
+
+-- what a loop makes of its table in place, both records stored or the work done
+pub came_so : {t : Table} {event : Event} {issound : Bool} {thread place number home : ℕ} {turn : Turn}
+    → Taken t event issound thread place number home turn → {stay : Bool} → stay ≡ work_stays turn.work → {after : Table}
+    → {unparked : ℕ}
+    → ((stay ≡ true) × (after ≡ stored t place home turn.own turn.object) × (unparked ≡ 0))
+    ⊎ ((stay ≡ false) × (done : WorkDone) × (done ≡ work_done_of t thread number turn) × (after ≡ done.table) × (unparked ≡ done.unparked))
+    → record { table = after; reply = turn.reply; commits = turn.commits; unparked = unparked } ≡ handle_trusting t event issound
+came_so {turn = turn} taken told (inl (stay, is, none)) =
+    (λ j. record { table = is j; reply = turn.reply; commits = turn.commits; unparked = none j }) ∙ stored_so taken (sym told ∙ stay)
+came_so {turn = turn} taken told (inr (work, done, worked, is, whom)) =
+    (λ j. record { table = is j; reply = turn.reply; commits = turn.commits; unparked = whom j }) ∙ worked_so taken (sym told ∙ work) worked

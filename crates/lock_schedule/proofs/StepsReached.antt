@@ -6,7 +6,7 @@ use mathlib.Core.Bool.{Bool, true, false}
 use native.Mathlib.Omega.{arith}
 use Rattle.lock_rules.specs.declared.event.Event.{Event}
 use Rattle.lock_table.specs.Fresh.{InRange}
-use Rattle.lock_table.proofs.FreshTables.{sized_ranks}
+use Rattle.lock_table.proofs.FreshTables.{sized_ranks, fresh_made}
 use Rattle.lock_table.specs.declared.fresh_table.FreshRequest.{FreshRequest}
 use Rattle.step_bounds.specs.SixSteps.{own_steps}
 use Rattle.step_bounds.specs.Starts.{Start, NotBegun, Begun, Unparked, own_start}
@@ -17,8 +17,11 @@ use Rattle.lock_schedule.proofs.Steps.{from_fresh_lists}
 
 reached : (request : FreshRequest) → InRange request → (n : ℕ) (events : List Event) (start : Start) → ReachedOnLists request n events start
     → Reached request n events start
-reached request in_range n events start (from, taken) =
-    (from_fresh_lists request in_range events n Unparked own_start NotBegun ∙ from, from_fresh_lists request in_range events n (λ after. 0) own_steps 0 ∙ taken)
+reached request in_range n events start (from, taken) = (
+  fresh_made request in_range,
+  from_fresh_lists request in_range events n Unparked own_start NotBegun ∙ from,
+  from_fresh_lists request in_range events n (λ after. 0) own_steps 0 ∙ taken,
+)
 
 sized : (threads : ℕ) (reserved : Bool) → 1 ≤ threads → threads ≤ 3 → InRange (one_object threads reserved)
 sized threads reserved some few = (some, omega (arith, few), omega arith, omega arith, sized_ranks threads 1 reserved)
@@ -44,4 +47,4 @@ each_reached =
     }
 
 pub six_is_least : SixIsLeast
-six_is_least most claim = omega (arith, claim (one_object 2 true) (two true) enter 2, each_reached.enters.1)
+six_is_least most claim = omega (arith, claim (one_object 2 true) (two true) enter 2, each_reached.enters.2)

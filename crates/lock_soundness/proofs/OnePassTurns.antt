@@ -23,7 +23,7 @@ use Rattle.lock_soundness.specs.OnePass.{object_turn, objects_marks}
 use Rattle.lock_soundness.proofs.Marks.{marked_none}
 
 -- a record in place is that of its number
-thread_here : (threads : List ThreadRecord) (n : ℕ) → within 1 thread_limit n ≡ true → thread_in threads n ≡ get_or threads (n - 1) no_thread
+pub thread_here : (threads : List ThreadRecord) (n : ℕ) → within 1 thread_limit n ≡ true → thread_in threads n ≡ get_or threads (n - 1) no_thread
 unfolding thread_in
 thread_here threads n inside = simp (ne_eqb n 0 (number_some thread_limit _ inside), le-ltb thread_limit n (number_high thread_limit _ inside))
 

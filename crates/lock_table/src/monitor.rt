@@ -74,17 +74,19 @@ impl Monitor {
     }
 
     // Threads have joined a chain: it begins with `first` then.
-    pub fn join(self, chain: Chain, first: u8) -> Monitor
+    pub fn join(mut self, chain: Chain, first: u8) -> Monitor
         ensures { result ≡ join self chain first }
     {
-        self.with_first(chain, first)
+        self = self.with_first(chain, first);
+        self
     }
 
     // Threads of a chain have moved to the entry chain: that chain begins with `left` then, and the entry chain with `first`.
-    pub fn move_to_entry(self, from: Chain, left: u8, first: u8) -> Monitor
+    pub fn move_to_entry(mut self, from: Chain, left: u8, first: u8) -> Monitor
         ensures { result ≡ move_to_entry self from left first }
     {
-        self.with_first(from, left).join(Chain::Entry, first)
+        self = self.with_first(from, left);
+        self.join(Chain::Entry, first)
     }
 
     // Threads are let out of the entry chain, which begins with `left` then; `out` is the set of them.

@@ -13,11 +13,11 @@ use Rattle.replay_text.specs.Bytes.{newline}
 use Rattle.replay_lines.specs.Cutting.{line_end, one_further}
 
 -- an end that is found from `at` on, counted from the start
-abbrev counted_from : ℕ → ℕ → ℕ
+abbrev pub counted_from : ℕ → ℕ → ℕ
 counted_from at zero = 0
 counted_from at (suc n) = at + suc n
 
-counted_first : (n : ℕ) → counted_from 0 n ≡ n
+pub counted_first : (n : ℕ) → counted_from 0 n ≡ n
 counted_first zero = refl
 counted_first (suc n) = omega arith
 

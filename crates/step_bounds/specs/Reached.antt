@@ -1,8 +1,8 @@
 -- The bounds are exact: for each start a schedule in which a thread takes all the steps that there are from it, so none of them can be lower.
-use Rattle.std.specs.Prelude.{ℕ, zero, suc, ◌≤◌, ◌≡◌, Bool, true, false, List, [], ◌∷◌, ◌++◌}
+use Rattle.std.specs.Prelude.{ℕ, zero, suc, ◌≤◌, ◌≡◌, Bool, true, false, List, [], ◌∷◌, ◌++◌, Ok}
 use Rattle.lock_rules.specs.declared.event.Event.{Event}
 use Rattle.lock_rules.specs.declared.event.Event.TheVariants.{Begin, Step}
-use Rattle.lock_table.specs.Fresh.{sized_request, table_of}
+use Rattle.lock_table.specs.Fresh.{sized_request, table_of, fresh_of}
 use Rattle.lock_table.specs.declared.fresh_table.FreshRequest.{FreshRequest}
 use Rattle.step_bounds.specs.SixSteps.{steps_taken, AtMost, step_limit}
 use Rattle.step_bounds.specs.Starts.{Start, Begun, Unparked, most_from, start_of_steps}
@@ -82,10 +82,11 @@ pub record EachStart (Claimed : FreshRequest → ℕ → List Event → Start �
   pub handed_to_resume : Claimed (one_object 2 true) 1 resumed (Unparked 15)
   pub lets_out : Claimed (one_object 2 false) 1 let_out (Unparked 0)
 
--- the thread's steps are counted from this start, and are all that there are from it
+-- the request is answered by its table; from there on the thread's steps are counted from this start, and are all that there are from it
 abbrev pub Reached : FreshRequest → ℕ → List Event → Start → Type 0
 Reached request n events start =
-    let table = table_of request in (start_of_steps n table events ≡ start) × (steps_taken n table events ≡ most_from start)
+    let table = table_of request in
+    (fresh_of request ≡ Ok table) × (start_of_steps n table events ≡ start) × (steps_taken n table events ≡ most_from start)
 
 abbrev pub EachReached : Type 0
 EachReached = EachStart Reached

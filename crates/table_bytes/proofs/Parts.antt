@@ -94,6 +94,9 @@ module _ {A : Type 0} (rows : List (Field A)) (none : A) (list : List A) where
     pub stored_next : at ≤ length bytes → (place : ℕ) → overwritten (at + place * size rows) (records place) (stored place) ≡ stored (place + 1)
     stored_next room place = rw (← records_length place, overwritten_next at (joined place records) (records place) bytes room, joined_next records place) refl
 
+    pub stored_length : (n : ℕ) → at + n * size rows ≤ length bytes → length (stored n) ≡ length bytes
+    stored_length n room = overwritten_length at (joined n records) bytes (omega (arith, room, records_length n))
+
 -- records that are known are written back as the bytes that they were read from
 module _ {A : Type 0} (rows : List (Field A)) (none : A) (of : Numbers rows → A) (known : Numbers rows → Bool)
     (same : (read : Numbers rows) → known read ≡ true → numbers rows (of read) ≡ read) (n at : ℕ) (bytes : List ℕ) (small : AreBytes bytes) where

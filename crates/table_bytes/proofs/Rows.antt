@@ -1,14 +1,14 @@
 -- Laws of records laid out by rows, for any rows: bytes that were written read back as the record's numbers, and numbers that were read are written
 -- back as the same bytes.
-use Prim.Native.Nat.{ℕ, zero, suc, ◌+◌, ◌*◌, ◌/◌, ◌%◌, ◌<◌}
+use Prim.Native.Nat.{ℕ, zero, suc, ◌+◌, ◌-◌, ◌*◌, ◌/◌, ◌%◌, ◌<◌}
 use mathlib.Core.Path.{◌≡◌, refl, ap, sym, ◌∙◌}
 use mathlib.Core.Bool.{Bool, true}
 use mathlib.Core.List.{List, [], ◌∷◌, ◌++◌, append_assoc}
 use native.Mathlib.Omega.{arith}
 use native.Mathlib.Nat.{zero-add, suc-add}
 use lib.Dec.{ltb}
-use lib.ListN.{length, get_or, length-append}
-use lib.Seq.{get_or-append-add}
+use lib.ListN.{length, get_or, take, drop, length-append, length-drop}
+use lib.Seq.{take_all, get_or-drop, get_or-append-add}
 use borrow.Author.Tests.{ltb-true}
 use Rattle.laws.specs.{Choice.both, Sequence.tabulate}
 use Rattle.laws.proofs.Choice.{both_first, both_second}
@@ -87,6 +87,12 @@ module _ {A : Type 0} where
         number_back row.width (row.number whole) others (ltb-true 0 row.width (both_first (ltb 0 row.width) (wide rows) some)) k,
         (ap (numbers_in rows) (λ j i. behind i j) ∙ read_rows rows (both_second (ltb 0 row.width) (wide rows) some) whole rest) k,
       ))
+
+  -- a record is read from a part of the bytes as from the whole
+  pub read_part : (rows : List (Field A)) (bytes : List ℕ) (at : ℕ)
+      → numbers_in rows (byte_at (take (length bytes - at) (drop at bytes))) ≡ numbers_in rows (λ i. byte_at bytes (at + i))
+  read_part rows bytes at =
+      rw (take_all (length bytes - at) (drop at bytes) (omega (arith, length-drop at bytes))) (ap (numbers_in rows) (λ k i. get_or-drop at bytes i 0 k))
 
   -- a record is read from its own bytes as from the whole
   pub numbers_at : (rows : List (Field A)) (width start place : ℕ) (stored bytes : List ℕ) → size rows ≡ width

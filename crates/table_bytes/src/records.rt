@@ -75,7 +75,8 @@ pub(crate) fn read_records<T: Stored<SIZE>, const SIZE: usize>(
     }
 }
 
-// Whether each of so many records is one that there is. Of `(0..count).all(..)` it stayed open that what the iterator goes through is `all_below`.
+// Whether each of so many records is one that there is, from the last to the first. Of `(0..count).all(..)` it stayed open that what the iterator goes
+// through is `all_below`.
 pub(crate) fn all_known<T: Stored<SIZE>, const SIZE: usize>(
     bytes: &[u8],
     start: usize,
@@ -84,7 +85,7 @@ pub(crate) fn all_known<T: Stored<SIZE>, const SIZE: usize>(
     requires { start + count * SIZE ≤ length bytes.now }
     ensures { result ≡ all_below count (λ place. T.known (numbers_in T.layout (λ i. byte_at bytes.now (start + place * size T.layout + i)))) }
 {
-    for place in 0..count {
+    for place in (0..count).rev() {
         if !T::is_known(stored_at(bytes, start, place)) {
             return false;
         }

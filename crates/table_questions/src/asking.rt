@@ -260,21 +260,15 @@ impl Question for ObjectQuestion {
     }
 }
 
-// The table that the bytes are.
-fn table_in(bytes: &[u8]) -> Result<Table, Refusal>
-    ensures { result ≡ pick (is_table bytes.now) (Ok (table_of bytes.now)) (Err NotSound) }
-{
-    if is_table(bytes) {
-        return Ok(read_table(bytes));
-    }
-    Err(Refusal::NotSound)
-}
-
-// One of the table's records, and of those that there are, whatever a size that is not sound says.
+// One of the table's records, and of those that there are, whatever a size that is not sound says. A `Result` of the table, from a function
+// of its own, would be one table more on the stack.
 fn value_in<Q: Question>(question: Q, bytes: &[u8], number: u8) -> Result<u32, Refusal>
     ensures { result ≡ pick (is_table bytes.now) (pick (both (within 1 (Q.count (table_of bytes.now)) number) (leb number Q.limit)) (Ok (Q.value question (table_of bytes.now) number)) (Err Q.missing)) (Err NotSound) }
 {
-    let table = table_in(bytes)?;
+    if !is_table(bytes) {
+        return Err(Refusal::NotSound);
+    }
+    let table = read_table(bytes);
     if 1 <= number && number <= Q::count(&table) && number <= Q::limit() {
         return Ok(question.value(&table, number));
     }
@@ -316,8 +310,10 @@ pub fn ask_object(question: ObjectQuestion, bytes: &[u8], object: u32) -> u64
 fn count_in<Q: Question>(bytes: &[u8]) -> Result<u32, Refusal>
     ensures { result ≡ pick (is_table bytes.now) (Ok (Q.count (table_of bytes.now))) (Err NotSound) }
 {
-    let table = table_in(bytes)?;
-    Ok(Q::count(&table).into())
+    if !is_table(bytes) {
+        return Err(Refusal::NotSound);
+    }
+    Ok(Q::count(&read_table(bytes)).into())
 }
 
 // How many threads the table has.
